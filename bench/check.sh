@@ -66,14 +66,14 @@ measure() { # kind, count
     callgrind_annotate --inclusive=yes --threshold=100 "$work/counts" | awk -v kind="$1" -v count="$2" -v theirs="$theirs" '
         { gsub(",", "", $1) }
         /:ms_top::files::answer_to_file::/ && !whole { whole = $1 }
-        /:ms_top::answers::answer_to_read::/ && !behind { behind = $1 }
+        /:ms_top::answers::answer_to_read::/ && !after { after = $1 }
         /:ms_top::answers::checked / && !checked { checked = $1 }
-        /:ms_compile::compiler::compile / && !compiled { compiled = $1 }
+        /:ms_machine_compile::compiler::compile / && !compiled { compiled = $1 }
         END {
-            if (!whole || !behind || !checked || !compiled) { print "a function is missing in the counts"; exit 1 }
+            if (!whole || !after || !checked || !compiled) { print "a function is missing in the counts"; exit 1 }
             printf "%-10s %7d items: read %9.1f each, check %9.1f, compile %9.1f",
-                kind, count, (whole - behind) / count, (checked - compiled) / count, compiled / count
-            if (theirs) printf ", %.2f of llvm-as-19", (whole - behind + checked - compiled) / theirs
+                kind, count, (whole - after) / count, (checked - compiled) / count, compiled / count
+            if (theirs) printf ", %.2f of llvm-as-19", (whole - after + checked - compiled) / theirs
             printf "\n"
         }'
 }

@@ -129,7 +129,7 @@ fn step(kind: &str) -> u32
     }
 }
 
-/// Three uses of each value, in blocks that every path reaches behind the definition: those of the next three steps.
+/// Three uses of each value, in blocks that every path reaches after the definition: those of the next three steps.
 fn uses(alloc: Global, kind: &str, len: u32) -> Result<Vec<Use>, AllocError> {
     let step = step(kind);
     let mut uses = Vec::new(alloc);

@@ -10,7 +10,7 @@
 source "$(dirname "$0")/frame.sh"
 
 repository read_bench 'ms_bits ms_io ms_lex ms_ir ms_text_grammar ms_read_body ms_read_top' \
-    'ms_bits ms_io ms_lex ms_ir ms_example_modules ms_text_grammar ms_read_cursor ms_read_values ms_read_insts ms_read_top ms_read_body' <<'PROGRAM'
+    'ms_bits ms_io ms_lex ms_ir ms_text_grammar ms_read_cursor ms_read_values ms_read_insts ms_read_top ms_read_body' <<'PROGRAM'
 //! Reads the module of a file so many times.
 #![tactic(auto)]
 

@@ -36,7 +36,7 @@ done:
 END
 }
 
-heap_loop() { # $1 rounds of eleven steps, which load and store in a heap block, behind $2 live blocks
+heap_loop() { # $1 rounds of eleven steps, which load and store in a heap block, after $2 live blocks
   cat <<END
 declare ptr @malloc(i64)
 define i32 @main() {
@@ -113,7 +113,7 @@ define i32 @main() {
 END
 }
 
-many() { # the loop with phis, behind ten thousand functions
+many() { # the loop with phis, after ten thousand functions
   for ((k = 0; k < 10000; k++)); do printf 'define i32 @f%d() {\n  ret i32 %d\n}\n' "$k" "$k"; done
   phi_loop "$1"
 }

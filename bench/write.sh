@@ -6,7 +6,7 @@
 # Wants `rt` and `valgrind`. Outside the gate.
 source "$(dirname "$0")/frame.sh"
 
-repository write_bench 'ms_bits ms_ir ms_write' 'ms_bits ms_lex ms_ir ms_example_modules ms_text_grammar ms_text_layout ms_write_values ms_write' <<'PROGRAM'
+repository write_bench 'ms_bits ms_ir ms_write' 'ms_bits ms_lex ms_ir ms_text_grammar ms_write_values ms_write' <<'PROGRAM'
 //! Makes a module in memory and writes it so many times.
 #![tactic(auto)]
 

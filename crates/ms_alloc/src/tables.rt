@@ -1,4 +1,4 @@
-//! The table.
+//! The table of allocations, by area.
 ghost use Rattle.std.specs.Prelude.{◌≡◌, ◌≤◌, ◌<◌, ◌+◌, find, is_some, IfOk, OnOk, OnErr, IsErr, IsErrOf, IsTrue, ◌↔◌, Some, None, option_map, IsNone, MatchOption, false, length};
 ghost use Rattle.ms_alloc.specs.declared.kinds.AllocKind.TheVariants.{Fixed, Heap, Stack};
 ghost use Rattle.ms_alloc.specs.Layout.{room, area_base, area_limit, IsReached};
@@ -150,7 +150,7 @@ impl Table {
         requires { 0 < n }
         ensures { MatchOption result (is_good addr n self.now ≡ false) (λ p. IsPlace p.kind (of_kind p.kind self.now) addr n p) }
     {
-        self.is_laid_out();
+        self.law_laid_out();
         let kind = kind_at(addr)?;
         match kind {
             AllocKind::Fixed => self.fixed.place_of(kind, addr, n),
@@ -179,7 +179,7 @@ impl Table {
     }
 
     /// What every table has: in each area an allocation begins where the one before it ends, and all keep its limit.
-    pub fn is_laid_out(&self)
+    pub fn law_laid_out(&self)
         ensures { IsLaidOut self.now }
     {
         let _ = &self.fixed;
@@ -203,7 +203,7 @@ impl Table {
         requires { 0 < n }
         ensures { result ≡ find (covers addr n) (listed self.now) }
     {
-        self.is_laid_out();
+        self.law_laid_out();
         let kind = kind_at(addr)?;
         match kind {
             AllocKind::Fixed => self.fixed.covering(kind, addr, n),

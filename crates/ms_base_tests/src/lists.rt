@@ -1,10 +1,10 @@
 //! Lists, boxes and texts: orders worked out by hand, and copies that equal their source.
 
 use crate::rows::{fails, is};
-use ms_bits::shared::{all_shared, boxed_is_shared, list_is_shared};
+use ms_bits::thread_safety::{law_all_shared, law_boxed_is_shared, law_list_is_shared};
 use ms_bits::{
     BinOp, Boxed, Bytes, CastOp, Duplicate, Flags, List, NoMemory, Pred, Text, Trap,
-    bytes_in_range, words_in_range,
+    law_bytes_in_range, law_words_in_range,
 };
 use std::alloc::Global;
 use std::cmp::Ordering;
@@ -66,7 +66,7 @@ fn boxes_are_compared<R: Eprint>(rt: &R, alloc: Global, a: Bytes, b: Bytes, row:
 fn agrees<R: Eprint>(rt: &R, alloc: Global, row: &Ordered) -> bool {
     match (list(alloc, row.0), list(alloc, row.1)) {
         (Ok(a), Ok(b)) => {
-            bytes_in_range(&a);
+            law_bytes_in_range(&a);
             is_ordered(rt, &a, &b, row.2)
                 && is_copied(rt, alloc, &a)
                 && a.as_slice() == row.0
@@ -111,7 +111,7 @@ fn words_are_copied<R: Eprint>(rt: &R, alloc: Global) -> bool {
     match vec![in alloc; 1u64, 2u64] {
         Ok(items) => {
             let words = List::from_vec(items);
-            words_in_range(&words);
+            law_words_in_range(&words);
             is_copied(rt, alloc, &words) && words.into_vec().as_slice() == [1u64, 2u64].as_slice()
         }
         Err(_) => false,
@@ -136,9 +136,9 @@ fn all_kept<R: Eprint>(rt: &R, alloc: Global, texts: &[&str]) -> bool {
 
 #[test]
 fn all_types_cross_threads() {
-    all_shared();
-    list_is_shared::<u64>();
-    boxed_is_shared::<Bytes>();
+    law_all_shared();
+    law_list_is_shared::<u64>();
+    law_boxed_is_shared::<Bytes>();
 }
 
 #[test]

@@ -20,10 +20,10 @@ struct Row {
 #[derive(Clone, Copy)]
 enum Asked {
     Before(u32, u32),
-    Behind(u32, u32),
+    After(u32, u32),
 }
 
-use Asked::{Before, Behind};
+use Asked::{After, Before};
 
 /// Uses are missed on a path.
 static ROWS: [Row; 13] = [
@@ -45,35 +45,35 @@ static ROWS: [Row; 13] = [
     Row {
         next: &[&[1], &[2], &[1, 3], &[]],
         defs: &[&[], &[], &[5], &[]],
-        uses: &[Before(3, 5), Before(1, 5), Behind(2, 5)],
+        uses: &[Before(3, 5), Before(1, 5), After(2, 5)],
         answer: Some((1, &[0, 1])),
     },
     // A block that nothing leads to.
     Row {
         next: &[&[], &[0]],
         defs: &[&[], &[]],
-        uses: &[Before(1, 9), Behind(1, 9)],
+        uses: &[Before(1, 9), After(1, 9)],
         answer: None,
     },
     // A self-loop, before its definition.
     Row {
         next: &[&[1], &[1, 2], &[]],
         defs: &[&[], &[4], &[]],
-        uses: &[Before(2, 4), Behind(1, 4), Before(1, 4)],
+        uses: &[Before(2, 4), After(1, 4), Before(1, 4)],
         answer: Some((2, &[0, 1])),
     },
     // A self-loop without definition.
     Row {
         next: &[&[1], &[1, 2], &[]],
         defs: &[&[], &[], &[4]],
-        uses: &[Behind(2, 4), Before(2, 4)],
+        uses: &[After(2, 4), Before(2, 4)],
         answer: Some((1, &[0, 1, 2])),
     },
     // The end of the block that defines.
     Row {
         next: &[&[]],
         defs: &[&[3]],
-        uses: &[Behind(0, 3)],
+        uses: &[After(0, 3)],
         answer: None,
     },
     // The start of the block that defines.
@@ -87,7 +87,7 @@ static ROWS: [Row; 13] = [
     Row {
         next: &[&[1], &[]],
         defs: &[&[3], &[4]],
-        uses: &[Before(1, 3), Behind(1, 4), Behind(1, 5)],
+        uses: &[Before(1, 3), After(1, 4), After(1, 5)],
         answer: Some((2, &[0, 1])),
     },
     // The first of two, in the order of the uses.
@@ -115,7 +115,7 @@ static ROWS: [Row; 13] = [
     Row {
         next: &[&[1, 2], &[2], &[1, 3], &[]],
         defs: &[&[], &[6], &[], &[]],
-        uses: &[Behind(1, 6), Before(3, 6)],
+        uses: &[After(1, 6), Before(3, 6)],
         answer: Some((1, &[0, 2, 3])),
     },
 ];
@@ -209,7 +209,7 @@ fn use_of(asked: Asked) -> Use {
             value,
             after: false,
         },
-        Behind(block, value) => Use {
+        After(block, value) => Use {
             block,
             value,
             after: true,

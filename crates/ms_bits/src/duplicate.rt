@@ -12,7 +12,7 @@ pub type NoMemory = AllocError;
 
 /// What can be copied where there is memory.
 pub trait Duplicate: Drop {
-    /// An equal value. The one error is running out of memory.
+    /// An equal value.
     fn copy(&self, alloc: Global) -> Result<Self, NoMemory>
         ensures { IfOk result (λ c. c ≡ self.now) };
 }

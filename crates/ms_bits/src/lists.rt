@@ -51,7 +51,7 @@ pub type Bytes = List<u8>;
 
 /// A law: each byte of a list is below 256. A caller needs it where it has no slice of the list at hand, since
 /// a slice tells it as well.
-pub fn bytes_in_range(bytes: &Bytes)
+pub fn law_bytes_in_range(bytes: &Bytes)
     ensures { All (λ b. b < 256) bytes.now }
 {
     let items = bytes.as_slice();
@@ -59,7 +59,7 @@ pub fn bytes_in_range(bytes: &Bytes)
 }
 
 /// A law: each item of a list of words is below 2 to the 64.
-pub fn words_in_range(words: &List<u64>)
+pub fn law_words_in_range(words: &List<u64>)
     ensures { All (λ w. w < 2 ^ 64) words.now }
 {
     let items = words.as_slice();

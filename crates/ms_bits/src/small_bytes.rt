@@ -59,7 +59,7 @@ fn inline(first: &[u8], second: &[u8]) -> SmallBytes
     }
 }
 
-/// The bytes of two slices on the heap. The one error is running out of memory.
+/// The bytes of two slices on the heap.
 fn on_heap(alloc: Global, first: &[u8], second: &[u8]) -> Result<SmallBytes, NoMemory>
     ensures { IfOk result (λ b. b ≡ first.now ++ second.now) }
 {
@@ -71,7 +71,7 @@ fn on_heap(alloc: Global, first: &[u8], second: &[u8]) -> Result<SmallBytes, NoM
 }
 
 impl SmallBytes {
-    /// The bytes of two slices, one after the other. The one error is running out of memory.
+    /// The bytes of two slices, one after the other.
     pub fn joined(alloc: Global, first: &[u8], second: &[u8]) -> Result<SmallBytes, NoMemory>
         ensures { IfOk result (λ b. b ≡ first.now ++ second.now) }
     {
@@ -82,7 +82,7 @@ impl SmallBytes {
         }
     }
 
-    /// The bytes of a slice. The one error is running out of memory.
+    /// The bytes of a slice.
     pub fn from_slice(alloc: Global, bytes: &[u8]) -> Result<SmallBytes, NoMemory>
         ensures { IfOk result (λ b. b ≡ bytes.now) }
     {

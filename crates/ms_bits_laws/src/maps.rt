@@ -17,7 +17,7 @@ pub fn loads()
         → number_at (with_range map a n (byte_of v)) a n ≡ v % 256 ^ n }
     ensures before { (map new : ℕ → ℕ) (a n b m : ℕ) → b + m ≤ a
         → number_at (with_range map a n new) b m ≡ number_at map b m }
-    ensures behind { (map new : ℕ → ℕ) (a n b m : ℕ) → a + n ≤ b
+    ensures after { (map new : ℕ → ℕ) (a n b m : ℕ) → a + n ≤ b
         → number_at (with_range map a n new) b m ≡ number_at map b m }
     ensures range_alone { (map other : ℕ → ℕ) (a b n : ℕ)
         → ((k : ℕ) → k < n → map (a + k) ≡ other (b + k))

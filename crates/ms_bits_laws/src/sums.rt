@@ -38,8 +38,8 @@ pub fn sums_agree()
         → Agrees w (carry_mask w (union_mask m k)) r s }
 {}
 
-/// The same for any number of operands and any operation that keeps remainders at powers of 2, as an address does: where
-/// the carry mask's bit is 0, all operands are known up to that bit.
+/// Results of any number of operands, by an operation that keeps remainders at powers of 2 as an address does, agree outside
+/// the carry mask of the union: where its bit is 0, all operands are known up to that bit.
 pub fn remainders()
     ensures known { (w s a c i : ℕ)
         → s < 2 ^ w → Agrees w s a c → i < w → bit_at (carry_mask w s) i ≡ 0

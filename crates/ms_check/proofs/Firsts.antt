@@ -2,9 +2,9 @@
 use Rattle.std.proofs.Common.{◌≡◌, List, [], ◌∷◌, refl, arith}
 use Rattle.std.specs.Prelude.{None, slice_get}
 use Rattle.ms_ir.specs.declared.syntax.Module.{Module}
-use Rattle.ms_valid.specs.Refusals.{UpToMarks}
-use Rattle.ms_valid.specs.SizesFit.{unsized}
-use Rattle.ms_valid.specs.Valid.{Valid}
+use Rattle.ms_check_valid.specs.Refusals.{UpToMarks}
+use Rattle.ms_check_valid.specs.SizesFit.{unsized}
+use Rattle.ms_check_valid.specs.Valid.{Valid}
 
 -- a list without a first item is empty
 pub none_first : {A : Type 0} (xs : List A) → slice_get xs 0 ≡ None → xs ≡ []

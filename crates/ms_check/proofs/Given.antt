@@ -4,9 +4,9 @@ use Rattle.std.specs.Prelude.{slice_get, option_to_list}
 use Rattle.std.specs.Option.{option_or}
 use Rattle.ms_ir.specs.declared.syntax.Name.{Name}
 use Rattle.ms_ir.proofs.Sizes.{drop_next}
-use Rattle.ms_valid.specs.NamesOnce.{repeats}
-use Rattle.ms_tables.proofs.Once.{first_repeat-append}
-use Rattle.ms_tables.proofs.Given.{given}
+use Rattle.ms_check_valid.specs.NamesOnce.{repeats}
+use Rattle.ms_check_tables.proofs.Once.{first_repeat-append}
+use Rattle.ms_check_tables.proofs.Given.{given}
 
 module _ {A : Type 0} (f : A → Option Name) where
   -- the first repeated name of those to come

@@ -2,17 +2,17 @@
 use Rattle.std.proofs.Common.{◌≡◌, ℕ, zero, suc, ◌<◌, List, [], ◌∷◌, ◌++◌, refl, sym, ap, subst, ◌∙◌, arith, below_none, below_more}
 use Rattle.std.specs.Prelude.{All, IsTrue, Some, None, slice_get}
 use Rattle.ms_ir.specs.declared.syntax.Module.{Module}
-use Rattle.ms_valid.specs.NamesOnce.{duplicates}
-use Rattle.ms_valid.specs.NamesKnown.{unknowns}
-use Rattle.ms_valid.specs.TypesAgree.{mismatches}
-use Rattle.ms_valid.specs.PhisFit.{bad_edges}
-use Rattle.ms_valid.specs.HasMain.{defines_main}
-use Rattle.ms_valid.specs.ExternalsFit.{bad_externals}
-use Rattle.ms_valid.specs.MarksFit.{bad_marks}
-use Rattle.ms_valid.specs.SizesFit.{unsized}
-use Rattle.ms_valid.specs.UsesDefined.{IsUseDefined, UsesDefined}
-use Rattle.ms_valid.specs.Refusals.{Fault, Duplicate, Unknown, TypeMismatch, BadPhi, NoMain, BadExternal, Undefined, BadMark, BadSize, IsFirstUndefined, IsRefused, UpToNames, UpToTypes, UpToPhis, UpToMain, UpToExternals, UpToUses, UpToMarks}
-use Rattle.ms_valid.proofs.Refused.{missed, undefined}
+use Rattle.ms_check_valid.specs.NamesOnce.{duplicates}
+use Rattle.ms_check_valid.specs.NamesKnown.{unknowns}
+use Rattle.ms_check_valid.specs.TypesAgree.{mismatches}
+use Rattle.ms_check_valid.specs.PhisFit.{bad_edges}
+use Rattle.ms_check_valid.specs.HasMain.{defines_main}
+use Rattle.ms_check_valid.specs.ExternalsFit.{bad_externals}
+use Rattle.ms_check_valid.specs.MarksFit.{bad_marks}
+use Rattle.ms_check_valid.specs.SizesFit.{unsized}
+use Rattle.ms_check_valid.specs.UsesDefined.{IsUseDefined, UsesDefined}
+use Rattle.ms_check_valid.specs.Refusals.{Fault, Duplicate, Unknown, TypeMismatch, BadPhi, NoMain, BadExternal, Undefined, BadMark, BadSize, IsFirstUndefined, IsRefused, UpToNames, UpToTypes, UpToPhis, UpToMain, UpToExternals, UpToUses, UpToMarks}
+use Rattle.ms_check_valid.proofs.Refused.{missed, undefined}
 use Rattle.ms_check.specs.Faults.{without_path}
 
 -- ---- lists

@@ -10,9 +10,9 @@ use Rattle.ms_ir.specs.Equal.{has_name}
 use Rattle.ms_ir.specs.declared.syntax.Module.{Module}
 use Rattle.ms_ir.specs.Locals.{locals, type_names, global_names, declared_names, Spelled}
 use Rattle.ms_ir.proofs.Sizes.{drop_next}
-use Rattle.ms_valid.specs.NamesOnce.{at_sign, percent_sign, repeats, function_duplicates, duplicates}
-use Rattle.ms_tables.proofs.Once.{first_repeat-append, repeats_same, has_name-append}
-use Rattle.ms_tables.proofs.Items.{first-append}
+use Rattle.ms_check_valid.specs.NamesOnce.{at_sign, percent_sign, repeats, function_duplicates, duplicates}
+use Rattle.ms_check_tables.proofs.Once.{first_repeat-append, repeats_same, has_name-append}
+use Rattle.ms_check_tables.proofs.Items.{first-append}
 
 -- where the names of one item are passed
 pub names_passed : {A : Type 0} (g : A → List Name) (seen after : List Name) (items : List A) (i : ℕ) (item : A) (first : Option Name) → i < length items → item ≡ get_or items i item → after ≡ seen ++ g item
@@ -72,7 +72,7 @@ function_stopped seen funcs i f x below here found =
     ap (λ r. slice_get (function_duplicates seen r) 0) (drop_next funcs i f below here) ∙ functions_next seen f (drop (i + 1) funcs)
     ∙ ap (λ r. option_or r (slice_get (function_duplicates (seen ++ f.name ∷ []) (drop (i + 1) funcs)) 0)) found
 
--- two lists of names, one behind the other
+-- two lists of names, one after the other
 pub first_answers : (seen names more : List Name) (x : Name) → slice_get (repeats seen names) 0 ≡ Some x → slice_get (repeats seen (names ++ more)) 0 ≡ Some x
 first_answers seen names more x found = first_repeat-append seen names more ∙ ap (λ r. option_or r (slice_get (repeats (seen ++ names) more) 0)) found
 
@@ -83,7 +83,7 @@ second_answers seen after names more next none =
 spelled_none : (names : List Name) (v : Name → Spelled) → slice_get names 0 ≡ None → slice_get (map v names) 0 ≡ None
 spelled_none names v none = slice_get-map v names 0 ∙ ap (option_map v) none
 
--- behind types without a fault
+-- after types without a fault
 after_types : (m : Module) → slice_get (repeats [] (type_names m)) 0 ≡ None → slice_get (duplicates m) 0
     ≡ option_or (slice_get (at_sign (repeats [] (global_names m ++ declared_names m))) 0) (slice_get (function_duplicates (global_names m ++ declared_names m) m.funcs) 0)
 after_types m none =
@@ -99,7 +99,7 @@ symbol_fault m x none found =
     ∙ ap (λ r. option_or r (slice_get (function_duplicates (global_names m ++ declared_names m) m.funcs) 0))
     (slice_get-map (λ y. record { global = true; name = y }) (repeats [] (global_names m ++ declared_names m)) 0 ∙ ap (option_map (λ y. record { global = true; name = y })) found)
 
--- behind symbols without one
+-- after symbols without one
 pub function_fault : (m : Module) (symbols : List Name) → slice_get (repeats [] (type_names m)) 0 ≡ None → slice_get (repeats [] (global_names m ++ declared_names m)) 0 ≡ None → symbols ≡ global_names m ++ declared_names m
     → slice_get (function_duplicates symbols m.funcs) 0 ≡ slice_get (duplicates m) 0
 function_fault m symbols none without same =

@@ -8,10 +8,10 @@ use Rattle.ms_ir.specs.declared.syntax.Module.{Module}
 use Rattle.ms_ir.specs.Written.{Mention, OfType, OfLocal, OfGlobal, type_mentions, mentions}
 use Rattle.ms_ir.specs.Spots.{Spot, found_at_insts}
 use Rattle.ms_ir.specs.Locals.{locals, type_names, symbols, Spelled}
-use Rattle.ms_valid.specs.NamesKnown.{knows, spelled, unknown_of, global_mentions, unknowns}
-use Rattle.ms_tables.specs.Sought.{first_sought}
-use Rattle.ms_tables.proofs.Items.{first-append}
-use Rattle.ms_tables.proofs.Mentioned.{sought-append}
+use Rattle.ms_check_valid.specs.NamesKnown.{knows, spelled, unknown_of, global_mentions, unknowns}
+use Rattle.ms_check_tables.specs.Sought.{first_sought}
+use Rattle.ms_check_tables.proofs.Items.{first-append}
+use Rattle.ms_check_tables.proofs.Mentioned.{sought-append}
 use Rattle.ms_check.specs.Known.{is_missing, missing_at}
 
 -- a name with its site

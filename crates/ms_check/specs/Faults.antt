@@ -2,7 +2,7 @@
 use Rattle.std.specs.Prelude.{[], Option, Some, None}
 use Rattle.ms_check.specs.declared.errors.CheckError.{CheckError}
 use Rattle.ms_check.specs.declared.errors.CheckError.TheVariants as error
-use Rattle.ms_valid.specs.Refusals.{Fault, Duplicate, Unknown, TypeMismatch, BadPhi, NoMain, BadExternal, Undefined, BadMark, BadSize}
+use Rattle.ms_check_valid.specs.Refusals.{Fault, Duplicate, Unknown, TypeMismatch, BadPhi, NoMain, BadExternal, Undefined, BadMark, BadSize}
 
 -- the fault that it tells; running out of memory tells none
 abbrev pub fault_of : CheckError → Option Fault

@@ -4,7 +4,7 @@ use Rattle.ms_ir.specs.declared.syntax.Name.{Name}
 use Rattle.ms_ir.specs.Equal.{has_name}
 use Rattle.ms_ir.specs.Locals.{Spelled}
 use Rattle.ms_ir.specs.Written.{Mention, OfType, OfLocal, OfGlobal}
-use Rattle.ms_valid.specs.NamesKnown.{spelled}
+use Rattle.ms_check_valid.specs.NamesKnown.{spelled}
 
 -- a name isn't among those of its kind
 abbrev pub is_missing : (types symbols locals : List Name) → Mention → Bool

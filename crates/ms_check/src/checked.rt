@@ -1,15 +1,15 @@
 //! Modules that are known to be valid, with the code that they run as, and the check by which it is known.
 ghost use Rattle.std.specs.Prelude.{◌≡◌, None, IfErr, IfOk, IfSome, OnOk};
-ghost use Rattle.ms_valid.specs.{Formed.{Formed}, Refusals.{IsRefused}, Valid.{Valid}};
-ghost use Rattle.ms_code.specs.Compiled.{Compiled};
+ghost use Rattle.ms_check_valid.specs.{Formed.{Formed}, Refusals.{IsRefused}, Valid.{Valid}};
+ghost use Rattle.ms_machine_code.specs.Compiled.{Compiled};
 ghost use Rattle.ms_check.specs.Faults.{fault_of};
 
 use crate::clauses::all_hold;
 use crate::errors::CheckError;
 use ms_bits::{Duplicate, NoMemory};
-use ms_code::Program;
-use ms_compile::compile;
 use ms_ir::Module;
+use ms_machine_code::Program;
+use ms_machine_compile::compile;
 use std::alloc::Global;
 use std::marker::Model;
 
@@ -24,8 +24,8 @@ impl Model for CheckedModule {
     ghost use Rattle.std.specs.Prelude.{◌≡◌};
     ghost use Rattle.ms_ir.specs.declared.syntax.Module.{Module};
     ghost use Rattle.ms_ir.specs.contracts.syntax.Module as modules;
-    ghost use Rattle.ms_valid.specs.{Formed.{Formed}, Valid.{Valid}};
-    ghost use Rattle.ms_code.specs.Compiled.{Compiled};
+    ghost use Rattle.ms_check_valid.specs.{Formed.{Formed}, Valid.{Valid}};
+    ghost use Rattle.ms_machine_code.specs.Compiled.{Compiled};
 
     ghost Value = { Module };
 
@@ -38,7 +38,7 @@ impl Model for CheckedModule {
 
 impl CheckedModule {
     /// A module that is known to be valid, which is not checked again. Its code is made, in the time that `check` takes for
-    /// that. The one error is running out of memory.
+    /// that.
     pub fn of_valid(alloc: Global, m: Module) -> Result<CheckedModule, NoMemory>
         requires formed { Formed m }
         requires valid { Valid m }
@@ -70,7 +70,7 @@ impl CheckedModule {
     }
 
     /// A law: what is checked is formed and valid, for a caller that has to know it.
-    pub fn is_valid(&self)
+    pub fn law_valid(&self)
         ensures formed { Formed self.now }
         ensures valid { Valid self.now }
     {
@@ -98,7 +98,7 @@ fn code_of(alloc: Global, m: &Module) -> Result<Program, CheckError>
 
 /// Checks a module, as a reader or the pass gives it. Ok only where it is valid. Else the error is the first clause that it
 /// breaks, with the first place in its text, and the module comes back as it was. A valid module is never refused: the error is running out of
-/// memory then, which alone says nothing. `laws::one_answer` says that a module has one such error at most, but for the path
+/// memory then, which alone says nothing. `laws::law_one_answer` says that a module has one such error at most, but for the path
 /// of an undefined use.
 ///
 /// The code of a valid module is made too. The time grows with the size of the module, names being found as `NameTable`

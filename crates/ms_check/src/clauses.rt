@@ -1,18 +1,18 @@
 //! The clauses of a valid module in their order, each tested where those before it hold.
 ghost use Rattle.std.specs.Prelude.{◌≡◌, [], IfErr, IfSome, OnOk};
-ghost use Rattle.ms_valid.specs.{Formed.{Formed}, NamesOnce.{duplicates}};
-ghost use Rattle.ms_valid.specs.Refusals.{IsRefused, UpToNames, UpToTypes, UpToPhis, UpToMain, UpToExternals, UpToUses, UpToMarks};
-ghost use Rattle.ms_valid.specs.Valid.{Valid};
+ghost use Rattle.ms_check_valid.specs.{Formed.{Formed}, NamesOnce.{duplicates}};
+ghost use Rattle.ms_check_valid.specs.Refusals.{IsRefused, UpToNames, UpToTypes, UpToPhis, UpToMain, UpToExternals, UpToUses, UpToMarks};
+ghost use Rattle.ms_check_valid.specs.Valid.{Valid};
 ghost use Rattle.ms_check.specs.Faults.{fault_of};
 
 use crate::errors::CheckError;
 use crate::{first_duplicate, first_unknown};
 use ms_bits::Duplicate;
+use ms_check_externals::{first_bad_external, first_bad_mark};
 use ms_check_flow::{defines_main, first_bad_edge, first_undefined};
-use ms_check_outside::{first_bad_external, first_bad_mark};
 use ms_check_types::{first_mismatch, first_unsized};
+use ms_check_valid::laws::law_small_numbers;
 use ms_ir::Module;
-use ms_valid::laws::small_numbers;
 use std::alloc::Global;
 
 /// Whether each name is defined once.
@@ -36,7 +36,7 @@ fn names_known(alloc: Global, m: &Module) -> Result<(), CheckError>
     ensures holds { OnOk result (UpToNames m.now) }
     ensures refused { IfErr result (λ e. IfSome (fault_of e) (IsRefused m.now)) }
 {
-    small_numbers();
+    law_small_numbers();
     match first_unknown(alloc, m)? {
         None => Ok(()),
         Some(unknown) => {
@@ -73,7 +73,7 @@ fn phis_fit(alloc: Global, m: &Module) -> Result<(), CheckError>
     ensures holds { OnOk result (UpToPhis m.now) }
     ensures refused { IfErr result (λ e. IfSome (fault_of e) (IsRefused m.now)) }
 {
-    small_numbers();
+    law_small_numbers();
     match first_bad_edge(alloc, m)? {
         None => Ok(()),
         Some(site) => Err(CheckError::BadPhi { site }),
@@ -130,7 +130,7 @@ fn marks_fit(alloc: Global, m: &Module) -> Result<(), CheckError>
     ensures holds { OnOk result (UpToMarks m.now) }
     ensures refused { IfErr result (λ e. IfSome (fault_of e) (IsRefused m.now)) }
 {
-    small_numbers();
+    law_small_numbers();
     match first_bad_mark(alloc, m)? {
         None => Ok(()),
         Some(site) => Err(CheckError::BadMark { site }),

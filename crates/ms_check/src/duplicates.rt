@@ -2,12 +2,12 @@
 ghost use Rattle.std.specs.Prelude.{◌≡◌, ◌++◌, [], ◌∷◌, true, false, option_map, flat_map, None, IfOk, IfNone, slice_get};
 ghost use Rattle.std.specs.Option.{option_copied};
 ghost use Rattle.ms_ir.specs.Locals.{block_locals, locals, type_names, global_names, declared_names};
-ghost use Rattle.ms_valid.specs.NamesOnce.{at_sign, percent_sign, repeats, function_duplicates, duplicates};
+ghost use Rattle.ms_check_valid.specs.NamesOnce.{at_sign, percent_sign, repeats, function_duplicates, duplicates};
 
 use crate::twice::{append, first_twice};
 use ms_bits::NoMemory;
+use ms_check_tables::{NameTable, Spelled};
 use ms_ir::{Block, Func, Module, Name};
-use ms_tables::{NameTable, Spelled};
 use std::alloc::Global;
 
 /// A name as it is spelled with `@`, or with `%`.
@@ -145,9 +145,8 @@ fn first_symbol_twice(alloc: Global, m: &Module) -> Result<Option<Spelled<'_>>, 
     any_symbol_twice(alloc, &mut symbols, m)
 }
 
-/// The first name that a module defines twice, in text order: a type's, then a global's or a declaration's, then of
-/// each function its symbol and the names of its parameters, blocks and results. None exactly where each is defined
-/// once. The one error is running out of memory.
+/// The first name that a module defines twice, in text order: a type's, then a global's or a declaration's, then of each
+/// function its symbol and the names of its parameters, blocks and results. None exactly where each is defined once.
 pub fn first_duplicate(alloc: Global, m: &Module) -> Result<Option<Spelled<'_>>, NoMemory>
     ensures { IfOk result (λ r. r ≡ slice_get (duplicates m.now) 0) }
 {

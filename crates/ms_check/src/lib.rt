@@ -7,7 +7,7 @@ mod clauses;
 mod duplicates;
 mod errors;
 pub mod laws;
-pub mod shared;
+pub mod thread_safety;
 mod twice;
 mod unknowns;
 

@@ -1,11 +1,11 @@
 //! The first name that parts of a module give twice.
 ghost use Rattle.std.specs.Prelude.{◌≡◌, ◌++◌, [], ◌∷◌, filter_map, option_to_list, IfOk, IfNone, slice_get};
 ghost use Rattle.std.specs.Option.{option_copied};
-ghost use Rattle.ms_valid.specs.NamesOnce.{repeats};
+ghost use Rattle.ms_check_valid.specs.NamesOnce.{repeats};
 
 use ms_bits::NoMemory;
+use ms_check_tables::{NameTable, Named};
 use ms_ir::Name;
-use ms_tables::{NameTable, Named};
 
 /// Appends the name that a part gives, if it gives one. Returns it where it stands already among those seen.
 fn append_given<'m, T: Named>(

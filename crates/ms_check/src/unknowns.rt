@@ -2,27 +2,27 @@
 ghost use Rattle.std.specs.Prelude.{◌≡◌, ◌++◌, [], flat_map, IfOk, slice_get};
 ghost use Rattle.ms_ir.specs.{Locals.{locals, type_names, symbols}, Places.{HasSmallNumbers}, Spots.{found_at_insts}};
 ghost use Rattle.ms_ir.specs.Written.{type_mentions, mentions};
-ghost use Rattle.ms_valid.specs.NamesKnown.{global_mentions, unknowns};
-ghost use Rattle.ms_tables.specs.Sought.{first_sought};
+ghost use Rattle.ms_check_valid.specs.NamesKnown.{global_mentions, unknowns};
+ghost use Rattle.ms_check_tables.specs.Sought.{first_sought};
 ghost use Rattle.ms_check.specs.Known.{is_missing, missing_at};
 
 use ms_bits::NoMemory;
-use ms_ir::{Func, Inst, Module, Name};
-use ms_tables::{
-    Clause, Here, NameTable, Search, Spelled, Unknown, Uses, first_among, first_fault, locals_of,
-    symbols_of, types_of,
+use ms_check_tables::{
+    Clause, InstSite, NameTable, Search, Spelled, Unknown, Uses, first_among, first_fault,
+    locals_of, symbols_of, types_of,
 };
+use ms_ir::{Func, Inst, Module, Name};
 use std::alloc::Global;
 
 /// The names that aren't defined where these are.
 #[derive(Drop)]
-struct Undefined<'a, 'm> {
+struct UnknownNames<'a, 'm> {
     types: &'a NameTable<'m>,
     symbols: &'a NameTable<'m>,
     locals: &'a NameTable<'m>,
 }
 
-impl<'a, 'm> Search for Undefined<'a, 'm> {
+impl<'a, 'm> Search for UnknownNames<'a, 'm> {
     ghost sought = { λ s x. is_missing s.types.now s.symbols.now s.locals.now x };
 
     fn seeks_type(&self, name: &Name) -> bool {
@@ -70,10 +70,10 @@ impl<'a, 'm> Clause<'m> for NamesKnown<'a, 'm> {
         &self,
         _alloc: Global,
         tables: &mut NameTable<'m>,
-        here: &Here<'m>,
+        here: &InstSite<'m>,
         inst: &'m Inst,
     ) -> Result<Option<Unknown<'m>>, NoMemory> {
-        let search = Undefined {
+        let search = UnknownNames {
             types: self.types,
             symbols: self.symbols,
             locals: tables,
@@ -111,7 +111,7 @@ fn missing_outside<'a, 'm>(
     ensures { result ≡ first_sought (is_missing types.now symbols.now []) (flat_map (λ t. type_mentions t.1) m.now.types ++ flat_map global_mentions m.now.globals) }
 {
     let locals = NameTable::new(alloc);
-    let search = Undefined {
+    let search = UnknownNames {
         types,
         symbols,
         locals: &locals,
@@ -139,9 +139,9 @@ fn first_missing<'m>(
 }
 
 /// The first name that a module uses and doesn't define, with its site, in text order: in the named types, then in the
-/// globals, then in the instructions. A type's name may stand anywhere in the module, that of a global, a declaration
-/// or a function too, and that of a parameter, a block or a result anywhere in its function. None exactly where each
-/// name is defined. The one error is running out of memory. Sites have 32 bits in every module that is read.
+/// globals, then in the instructions. A type's name may stand anywhere in the module, that of a global, a declaration or a
+/// function too, and that of a parameter, a block or a result anywhere in its function. None exactly where each name is
+/// defined. Sites have 32 bits in every module that is read.
 pub fn first_unknown(alloc: Global, m: &Module) -> Result<Option<Unknown<'_>>, NoMemory>
     requires { HasSmallNumbers m.now }
     ensures { IfOk result (λ r. r ≡ slice_get (unknowns m.now) 0) }

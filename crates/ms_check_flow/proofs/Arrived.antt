@@ -11,14 +11,14 @@ use Rattle.ms_ir.specs.declared.syntax.Name.{Name}
 use Rattle.ms_ir.specs.declared.syntax.Block.{Block}
 use Rattle.ms_ir.specs.Names.{name_eq}
 use Rattle.ms_ir.specs.Equal.{has_name}
-use Rattle.ms_valid.specs.FlowGraph.{name_place}
-use Rattle.ms_valid.specs.PhisFit.{count_name, edges_between}
+use Rattle.ms_check_valid.specs.FlowGraph.{name_place}
+use Rattle.ms_check_valid.specs.PhisFit.{count_name, edges_between}
 use Rattle.ms_ir.specs.Written.{block_targets}
-use Rattle.ms_valid.proofs.NameTests.{name_same}
+use Rattle.ms_check_valid.proofs.NameTests.{name_same}
 use Rattle.ms_check_flow.specs.Counted.{count_of}
 use Rattle.ms_check_flow.specs.Arriving.{edges_to, arrivals}
 use Rattle.ms_check_flow.proofs.Counts.{one_if, count-cons, counts_at}
-use Rattle.ms_valid.proofs.NamePlaces.{place_below, same_number, same_number_left}
+use Rattle.ms_check_valid.proofs.NamePlaces.{place_below, same_number, same_number_left}
 
 -- a number where a test passes
 abbrev pub keep : Bool → ℕ → ℕ

@@ -20,15 +20,15 @@ use Rattle.ms_ir.specs.declared.syntax.Func.{Func}
 use Rattle.ms_ir.specs.declared.syntax.Module.{Module}
 use Rattle.ms_ir.specs.Instructions.{operands, block_index, func_at, insts_at, site_at}
 use Rattle.ms_ir.specs.Equal.{has_name}
-use Rattle.ms_valid.specs.FlowGraph.{graph_of}
-use Rattle.ms_valid.specs.Paths.{block_successors}
+use Rattle.ms_check_valid.specs.FlowGraph.{graph_of}
+use Rattle.ms_check_valid.specs.Paths.{block_successors}
 use Rattle.ms_ir.specs.Locals.{block_names, value_type}
 use Rattle.ms_ir.specs.Spots.{Spot, found_at_insts}
-use Rattle.ms_valid.specs.TypesAgree.{first_misfit, fault_unless, differ, operand_fits, op_fault, at_site, init_faults, mismatches}
+use Rattle.ms_check_valid.specs.TypesAgree.{first_misfit, fault_unless, differ, operand_fits, op_fault, at_site, init_faults, mismatches}
 use Rattle.ms_ir.specs.Written.{targets, block_targets}
-use Rattle.ms_valid.proofs.Finding.{both_empty, at_insts}
-use Rattle.ms_valid.proofs.NamePlaces.{index_below}
-use Rattle.ms_valid.proofs.AtInstructions.{no_fault}
+use Rattle.ms_check_valid.proofs.Finding.{both_empty, at_insts}
+use Rattle.ms_check_valid.proofs.NamePlaces.{index_below}
+use Rattle.ms_check_valid.proofs.AtInstructions.{no_fault}
 
 -- ---- one instruction
 

@@ -18,13 +18,13 @@ use Rattle.ms_ir.specs.declared.syntax.Func.{Func}
 use Rattle.ms_ir.specs.Instructions.{operands, block_index, one_unmarked, over_insts}
 use Rattle.ms_ir.specs.Equal.{has_name}
 use Rattle.ms_ir.specs.Locals.{locals, parameter_names}
-use Rattle.ms_valid.specs.Paths.{ValueUse, insts_of, IsDefined, Misses}
+use Rattle.ms_check_valid.specs.Paths.{ValueUse, insts_of, IsDefined, Misses}
 use Rattle.ms_ir.specs.Spots.{Spot, spot, next_spot, over_spots, over_block_spots}
-use Rattle.ms_valid.specs.UsesDefined.{SiteUse, operand_use, edge_use, inst_uses, IsUseDefined}
-use Rattle.ms_valid.proofs.AtInstructions.{all_parts}
-use Rattle.ms_valid.proofs.NameTests.{name_within, within_name}
-use Rattle.ms_valid.specs.FlowGraph.{graph_of, flow_use}
-use Rattle.ms_check_flow.specs.declared.here.NotedUse.{NotedUse}
+use Rattle.ms_check_valid.specs.UsesDefined.{SiteUse, operand_use, edge_use, inst_uses, IsUseDefined}
+use Rattle.ms_check_valid.proofs.AtInstructions.{all_parts}
+use Rattle.ms_check_valid.proofs.NameTests.{name_within, within_name}
+use Rattle.ms_check_valid.specs.FlowGraph.{graph_of, flow_use}
+use Rattle.ms_check_flow.specs.declared.inst_uses.NotedUse.{NotedUse}
 use Rattle.ms_check_flow.specs.Asked.{func_uses, IsWithin, IsFirstOf}
 use Rattle.ms_check_flow.proofs.Kept.{kept_at}
 use Rattle.ms_check_flow.proofs.Ties.{is_asked, noted_of, asked}

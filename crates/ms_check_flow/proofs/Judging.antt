@@ -13,18 +13,18 @@ use Rattle.ms_ir.specs.declared.syntax.Block.{Block}
 use Rattle.ms_ir.specs.declared.syntax.Func.{Func}
 use Rattle.ms_ir.specs.Names.{name_eq}
 use Rattle.ms_ir.specs.Equal.{has_name, operand_eq}
-use Rattle.ms_valid.specs.FlowGraph.{name_place}
+use Rattle.ms_check_valid.specs.FlowGraph.{name_place}
 use Rattle.ms_ir.specs.Locals.{block_names}
 use Rattle.ms_ir.proofs.RootKinds.{name_same as name_sound}
-use Rattle.ms_valid.specs.PhisFit.{count_name, edges_between, edges_agree, phi_fits}
-use Rattle.ms_valid.proofs.NameTests.{name_same}
+use Rattle.ms_check_valid.specs.PhisFit.{count_name, edges_between, edges_agree, phi_fits}
+use Rattle.ms_check_valid.proofs.NameTests.{name_same}
 use Rattle.ms_check_flow.specs.Arriving.{arrivals}
 use Rattle.ms_check_flow.specs.Counted.{count_of}
 use Rattle.ms_check_flow.specs.Fitting.{Agree, FitsRow}
 use Rattle.ms_check_flow.proofs.Arrived.{count_names, count_arrivals, counted_name, counted_block, from_known, has_at, block_known}
 use Rattle.ms_check_flow.proofs.Counts.{one_if}
 use Rattle.ms_check_flow.proofs.SameOperands.{both}
-use Rattle.ms_valid.proofs.NamePlaces.{place_below, below_place, same_place}
+use Rattle.ms_check_valid.proofs.NamePlaces.{place_below, below_place, same_place}
 
 -- ---- lists
 

@@ -9,7 +9,7 @@ use Rattle.ms_ir.specs.Equal.{has_name}
 use Rattle.ms_ir.specs.Locals.{entry_name}
 use Rattle.ms_ir.specs.Spots.{Spot}
 use Rattle.ms_ir.specs.Written.{targets}
-use Rattle.ms_valid.specs.PhisFit.{edges_fit}
+use Rattle.ms_check_valid.specs.PhisFit.{edges_fit}
 use Rattle.ms_check_flow.specs.declared.numbers.Numbers.{Numbers}
 use Rattle.ms_check_flow.specs.Noted.{op_noted, operand_noted}
 

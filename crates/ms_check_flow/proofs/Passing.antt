@@ -8,11 +8,11 @@ use Rattle.ms_ir.specs.declared.syntax.Func.{Func}
 use Rattle.ms_ir.specs.declared.syntax.Module.{Module}
 use Rattle.ms_ir.specs.Instructions.{one_unmarked, over_blocks, over_funcs}
 use Rattle.ms_ir.specs.Spots.{over_func_spots}
-use Rattle.ms_valid.specs.Formed.{Formed, count_written}
-use Rattle.ms_valid.specs.Refusals.{UpToPhis, IsFirstUndefined}
-use Rattle.ms_valid.specs.UsesDefined.{IsUseDefined, UsesDefined, uses, SiteUse, inst_uses}
-use Rattle.ms_valid.proofs.AtInstructions.{all_parts}
-use Rattle.ms_valid.proofs.SmallNumbers.{blocks_written}
+use Rattle.ms_check_valid.specs.Formed.{Formed, count_written}
+use Rattle.ms_check_valid.specs.Refusals.{UpToPhis, IsFirstUndefined}
+use Rattle.ms_check_valid.specs.UsesDefined.{IsUseDefined, UsesDefined, uses, SiteUse, inst_uses}
+use Rattle.ms_check_valid.proofs.AtInstructions.{all_parts}
+use Rattle.ms_check_valid.proofs.SmallNumbers.{blocks_written}
 use Rattle.ms_check_flow.specs.Asked.{func_uses, IsWithin, CanBeAsked, IsFirstOf}
 use Rattle.ms_check_flow.proofs.Branches.{stays_in}
 use Rattle.ms_check_flow.proofs.PathCounts.{func_names}
@@ -61,7 +61,7 @@ can_be_asked m formed before site i f l is few passed =
       values = (all_parts IsWithin (func_uses f site) rest (subst (All IsWithin) (uses_split site m.funcs i f l is) from_here)).0;
     }
 
--- ---- behind a function
+-- ---- after a function
 
 -- a function all of whose uses are defined
 pub func_passed : (m : Module) (site next i : ℕ) (f : Func) → i < length m.funcs → f ≡ slice_index_or m.funcs i f → next ≡ site + over_blocks one_unmarked f.blocks

@@ -16,13 +16,13 @@ use Rattle.ms_ir.specs.declared.syntax.Block.{Block}
 use Rattle.ms_ir.specs.declared.syntax.Func.{Func}
 use Rattle.ms_ir.specs.Instructions.{operands, one_unmarked, over_insts, over_blocks}
 use Rattle.ms_ir.specs.Equal.{has_name}
-use Rattle.ms_valid.specs.FlowGraph.{name_place, value_names}
-use Rattle.ms_valid.specs.Formed.{count_written, block_formed, func_formed}
-use Rattle.ms_valid.specs.FormedCode.{is_value_type, result_formed, inst_formed, is_body}
-use Rattle.ms_valid.specs.FormedNames.{is_local_name, is_global_name, are_numbered}
+use Rattle.ms_check_valid.specs.FlowGraph.{name_place, value_names}
+use Rattle.ms_check_valid.specs.Formed.{count_written, block_formed, func_formed}
+use Rattle.ms_check_valid.specs.FormedCode.{is_value_type, result_formed, inst_formed, is_body}
+use Rattle.ms_check_valid.specs.FormedNames.{is_local_name, is_global_name, are_numbered}
 use Rattle.ms_ir.specs.Locals.{results, locals, block_locals}
 use Rattle.ms_check_flow.specs.declared.numbers.Numbers.{Numbers}
-use Rattle.ms_check_flow.specs.declared.here.NotedUse.{NotedUse}
+use Rattle.ms_check_flow.specs.declared.inst_uses.NotedUse.{NotedUse}
 use Rattle.ms_check_flow.specs.Noted.{value_noted, operand_noted, last_noted, edge_noted, op_noted, insts_noted, blocks_noted}
 
 -- ---- names

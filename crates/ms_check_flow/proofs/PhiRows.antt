@@ -12,16 +12,16 @@ use Rattle.ms_ir.specs.declared.syntax.Op.TheVariants as op
 use Rattle.ms_ir.specs.declared.syntax.Block.{Block}
 use Rattle.ms_ir.specs.declared.syntax.Func.{Func}
 use Rattle.ms_ir.specs.Equal.{has_name}
-use Rattle.ms_valid.specs.FlowGraph.{name_place}
+use Rattle.ms_check_valid.specs.FlowGraph.{name_place}
 use Rattle.ms_ir.specs.Locals.{block_names}
-use Rattle.ms_valid.specs.PhisFit.{edges_fit, phi_fits}
+use Rattle.ms_check_valid.specs.PhisFit.{edges_fit, phi_fits}
 use Rattle.ms_ir.specs.Spots.{spot}
 use Rattle.ms_check_flow.specs.declared.edges.Edges.{Edges}
 use Rattle.ms_check_flow.specs.Arriving.{AreEdgesOf, arrivals}
 use Rattle.ms_check_flow.specs.Fitting.{FitsRow}
 use Rattle.ms_check_flow.proofs.Arrived.{block_known, arrivals_below}
 use Rattle.ms_check_flow.proofs.Judging.{number_in, row_of, fits_there, fits_here}
-use Rattle.ms_valid.proofs.NamePlaces.{place_below, same_tests}
+use Rattle.ms_check_valid.proofs.NamePlaces.{place_below, same_tests}
 
 -- what an `Ok` holds follows from what it holds
 pub if_ok_then : {A E : Type 0} (r : Result A E) {P Q : A → Type 0} → IfOk r P → ((x : A) → P x → Q x) → IfOk r Q

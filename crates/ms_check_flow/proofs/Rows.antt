@@ -9,9 +9,9 @@ use Rattle.ms_ir.specs.declared.syntax.Func.{Func}
 use Rattle.ms_ir.specs.Instructions.{block_index}
 use Rattle.ms_ir.specs.Locals.{block_names}
 use Rattle.ms_ir.specs.Written.{block_targets}
-use Rattle.ms_valid.specs.FlowGraph.{name_place, graph_of}
-use Rattle.ms_valid.specs.Paths.{block_successors}
-use Rattle.ms_valid.proofs.NamePlaces.{index_is}
+use Rattle.ms_check_valid.specs.FlowGraph.{name_place, graph_of}
+use Rattle.ms_check_valid.specs.Paths.{block_successors}
+use Rattle.ms_check_valid.proofs.NamePlaces.{index_is}
 use Rattle.ms_check_flow.specs.declared.numbers.Numbers.{Numbers}
 use Rattle.ms_check_flow.specs.Numbered.{AreNumbersOf, next_row, defs_row}
 

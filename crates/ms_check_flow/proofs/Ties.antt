@@ -17,13 +17,13 @@ use Rattle.ms_ir.specs.declared.syntax.Func.{Func}
 use Rattle.ms_ir.specs.Instructions.{operands, block_index, one_unmarked, over_insts}
 use Rattle.ms_ir.specs.Equal.{has_name}
 use Rattle.ms_ir.specs.Locals.{results, parameter_names}
-use Rattle.ms_valid.specs.Paths.{ValueUse, insts_of}
+use Rattle.ms_check_valid.specs.Paths.{ValueUse, insts_of}
 use Rattle.ms_ir.specs.Spots.{Spot, spot, over_spots, over_block_spots}
-use Rattle.ms_valid.specs.UsesDefined.{SiteUse, operand_use, edge_use, inst_uses}
-use Rattle.ms_valid.specs.FlowGraph.{stands_after, flow_use}
-use Rattle.ms_valid.proofs.NamePlaces.{index_is}
-use Rattle.ms_valid.proofs.StandsAfter.{stands_at_end, stands_within}
-use Rattle.ms_check_flow.specs.declared.here.NotedUse.{NotedUse}
+use Rattle.ms_check_valid.specs.UsesDefined.{SiteUse, operand_use, edge_use, inst_uses}
+use Rattle.ms_check_valid.specs.FlowGraph.{stands_after, flow_use}
+use Rattle.ms_check_valid.proofs.NamePlaces.{index_is}
+use Rattle.ms_check_valid.proofs.StandsAfter.{stands_at_end, stands_within}
+use Rattle.ms_check_flow.specs.declared.inst_uses.NotedUse.{NotedUse}
 use Rattle.ms_check_flow.specs.Noted.{numbers_in, value_noted, operand_noted, last_noted, edge_noted, op_noted, insts_noted, blocks_noted}
 use Rattle.ms_check_flow.specs.Asked.{func_uses}
 use Rattle.ms_check_flow.proofs.Kept.{kept, kept-append, kept_of_each}
@@ -103,7 +103,7 @@ insts_tied f b site seen p front (inst ∷ rest) is len from =
     (ap (λ s. s ++ option_to_list inst.result) from ∙ sym (results_more front inst)))
     ∙ sym (kept-append is_asked noted_of (inst_uses (spot f b p site) inst.op) (over_spots look (spot f b (p + 1) (site + one_unmarked inst)) rest))
 
--- what stands behind the front of a list
+-- what stands after the front of a list
 at_seam : (front : List Block) (b : Block) (rest : List Block) → slice_get (front ++ b ∷ rest) (length front) ≡ Some b
 at_seam [] b rest = refl
 at_seam (k ∷ front) b rest = at_seam front b rest

@@ -21,18 +21,18 @@ use Rattle.ms_ir.specs.Names.{name_eq}
 use Rattle.ms_ir.specs.Instructions.{operands, block_index, func_at, blocks_at, insts_at, site_at, is_phi}
 use Rattle.ms_ir.specs.Equal.{has_name}
 use Rattle.ms_ir.specs.Locals.{locals, block_names, block_name_at, Spelled}
-use Rattle.ms_valid.specs.NamesKnown.{knows, spelled, unknown_of, global_mentions}
-use Rattle.ms_valid.specs.Paths.{insts_of}
-use Rattle.ms_valid.specs.PhisFit.{count_name, edges_between, edges_agree, phi_fits, edges_fit}
+use Rattle.ms_check_valid.specs.NamesKnown.{knows, spelled, unknown_of, global_mentions}
+use Rattle.ms_check_valid.specs.Paths.{insts_of}
+use Rattle.ms_check_valid.specs.PhisFit.{count_name, edges_between, edges_agree, phi_fits, edges_fit}
 use Rattle.ms_ir.specs.Spots.{Spot, spot, found_at_insts}
-use Rattle.ms_valid.specs.Refusals.{UpToPhis}
-use Rattle.ms_valid.specs.UsesDefined.{SiteUse, operand_use, edge_use, inst_uses, uses}
+use Rattle.ms_check_valid.specs.Refusals.{UpToPhis}
+use Rattle.ms_check_valid.specs.UsesDefined.{SiteUse, operand_use, edge_use, inst_uses, uses}
 use Rattle.ms_ir.specs.Written.{Mention, OfLocal, OfGlobal, type_mentions, operand_mentions, operands_mentions, labels, mentions}
-use Rattle.ms_valid.proofs.Finding.{both_empty, at_insts}
-use Rattle.ms_valid.proofs.Joining.{from_module}
-use Rattle.ms_valid.proofs.NamePlaces.{index_below}
-use Rattle.ms_valid.proofs.NameTests.{name_same}
-use Rattle.ms_valid.proofs.AtInstructions.{passes_test}
+use Rattle.ms_check_valid.proofs.Finding.{both_empty, at_insts}
+use Rattle.ms_check_valid.proofs.Joining.{from_module}
+use Rattle.ms_check_valid.proofs.NamePlaces.{index_below}
+use Rattle.ms_check_valid.proofs.NameTests.{name_same}
+use Rattle.ms_check_valid.proofs.AtInstructions.{passes_test}
 use Rattle.ms_check_flow.specs.Asked.{IsWithin}
 use Rattle.ms_check_flow.proofs.Arrived.{from_known}
 

@@ -4,7 +4,7 @@ use Rattle.ms_ir.specs.declared.syntax.Name.{Name}
 use Rattle.ms_ir.specs.declared.syntax.Block.{Block}
 use Rattle.ms_ir.specs.declared.syntax.Func.{Func}
 use Rattle.ms_ir.specs.Written.{block_targets}
-use Rattle.ms_valid.specs.FlowGraph.{name_place}
+use Rattle.ms_check_valid.specs.FlowGraph.{name_place}
 use Rattle.ms_ir.specs.Locals.{block_names}
 use Rattle.ms_check_flow.specs.declared.edges.Edges.{Edges}
 

@@ -4,12 +4,12 @@ use Rattle.ms_flow.specs.Search.{StaysIn}
 use Rattle.ms_ir.specs.declared.syntax.Func.{Func}
 use Rattle.ms_ir.specs.Instructions.{over_blocks}
 use Rattle.ms_ir.specs.Equal.{has_name}
-use Rattle.ms_valid.specs.Formed.{count_written}
+use Rattle.ms_check_valid.specs.Formed.{count_written}
 use Rattle.ms_ir.specs.Locals.{locals}
-use Rattle.ms_valid.specs.Paths.{Misses}
+use Rattle.ms_check_valid.specs.Paths.{Misses}
 use Rattle.ms_ir.specs.Spots.{over_block_spots}
-use Rattle.ms_valid.specs.UsesDefined.{SiteUse, IsUseDefined, inst_uses}
-use Rattle.ms_valid.specs.FlowGraph.{value_names, graph_of}
+use Rattle.ms_check_valid.specs.UsesDefined.{SiteUse, IsUseDefined, inst_uses}
+use Rattle.ms_check_valid.specs.FlowGraph.{value_names, graph_of}
 
 -- the uses of values in a function that begins at a site, in text order
 abbrev pub func_uses : Func → ℕ → List SiteUse

@@ -11,11 +11,11 @@ use Rattle.ms_ir.specs.declared.syntax.Func.{Func}
 use Rattle.ms_ir.specs.Instructions.{operands, one_unmarked, over_insts}
 use Rattle.ms_ir.specs.Equal.{has_name}
 use Rattle.ms_ir.specs.Locals.{block_names, parameter_names}
-use Rattle.ms_valid.specs.FlowGraph.{name_place, value_names, graph_of}
+use Rattle.ms_check_valid.specs.FlowGraph.{name_place, value_names, graph_of}
 use Rattle.ms_check_flow.specs.declared.numbers.Numbers.{Numbers}
-use Rattle.ms_check_flow.specs.declared.here.NotedUse.{NotedUse}
-use Rattle.ms_check_flow.specs.declared.here.Here.{Here}
-use Rattle.ms_check_flow.specs.declared.walks.Asked.{Asked}
+use Rattle.ms_check_flow.specs.declared.inst_uses.NotedUse.{NotedUse}
+use Rattle.ms_check_flow.specs.declared.inst_uses.UseSite.{UseSite}
+use Rattle.ms_check_flow.specs.declared.func_uses.FuncUses.{FuncUses}
 
 -- the numbers of a function
 abbrev pub numbers_in : Func → Numbers
@@ -58,19 +58,19 @@ blocks_noted n block site (b ∷ rest) =
     insts_noted n [] block site b.insts ++ blocks_noted n (block + 1) (site + over_insts one_unmarked b.insts) rest
 
 -- what is asked about a function, the first instruction of which has a site
-pub record AreAskedOf (f : Func) (site : ℕ) (a : Asked) : Type 0 where
+pub record AreAskedOf (f : Func) (site : ℕ) (a : FuncUses) : Type 0 where
   pub graph : a.graph ≡ graph_of f
   pub noted : a.noted.items ≡ blocks_noted (numbers_in f) 0 site f.blocks
 
 -- the same where the code stands
-abbrev pub value_here : Here → (block : ℕ) → (after : Bool) → Name → List NotedUse
+abbrev pub value_here : UseSite → (block : ℕ) → (after : Bool) → Name → List NotedUse
 value_here here block after x = value_noted here.numbers.now here.site block after x
 
-abbrev pub operand_here : Here → Operand → List NotedUse
+abbrev pub operand_here : UseSite → Operand → List NotedUse
 operand_here here o = operand_noted here.numbers.now here.seen.now here.block here.site o
 
-abbrev pub edge_here : Here → Operand × Name → List NotedUse
+abbrev pub edge_here : UseSite → Operand × Name → List NotedUse
 edge_here here e = edge_noted here.numbers.now here.site e
 
-abbrev pub op_here : Here → Op → List NotedUse
+abbrev pub op_here : UseSite → Op → List NotedUse
 op_here here o = op_noted here.numbers.now here.seen.now here.block here.site o

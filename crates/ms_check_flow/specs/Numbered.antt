@@ -5,7 +5,7 @@ use Rattle.ms_ir.specs.declared.syntax.Block.{Block}
 use Rattle.ms_ir.specs.declared.syntax.Func.{Func}
 use Rattle.ms_ir.specs.Locals.{block_names, parameter_names, results}
 use Rattle.ms_ir.specs.Written.{block_targets}
-use Rattle.ms_valid.specs.FlowGraph.{name_place, value_names}
+use Rattle.ms_check_valid.specs.FlowGraph.{name_place, value_names}
 use Rattle.ms_check_flow.specs.declared.numbers.Numbers.{Numbers}
 
 -- the names that number a function's blocks and values, and those of its parameters

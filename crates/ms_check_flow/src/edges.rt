@@ -1,14 +1,14 @@
 //! The edges of a function, by the numbers of its blocks.
 ghost use Rattle.std.specs.Prelude.{◌≡◌, ◌<◌, ◌^◌, ℕ, [], ◌∷◌, length, map, IfOk, OnOk, slice_index_or};
 ghost use Rattle.ms_ir.specs.{Written.{block_targets}, Locals.{block_names}};
-ghost use Rattle.ms_valid.specs.FlowGraph.{name_place};
+ghost use Rattle.ms_check_valid.specs.FlowGraph.{name_place};
 ghost use Rattle.ms_check_flow.specs.Arriving.{Joined, edges_to, arrivals, AreEdgesOf};
 
 use crate::arrivals::Arrivals;
 use crate::graphs::next_of;
 use ms_bits::NoMemory;
+use ms_check_tables::{Names, block_numbers, name_place};
 use ms_ir::{Block, Func};
-use ms_tables::{Names, block_numbers, name_place};
 use std::alloc::Global;
 
 /// The blocks of a function by their names, and the edges into each.

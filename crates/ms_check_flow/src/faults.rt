@@ -2,14 +2,14 @@
 ghost use Rattle.std.specs.Prelude.{◌≡◌, ◌<◌, ◌^◌, ℕ, [], ◌∷◌, length, map, IsTrue, IfOk, slice_get, if◌then◌else◌};
 ghost use Rattle.ms_ir.specs.{Places.{HasSmallNumbers}, Equal.{has_name}, Locals.{entry_name}, Spots.{spot}};
 ghost use Rattle.ms_ir.specs.Written.{targets};
-ghost use Rattle.ms_valid.specs.PhisFit.{edges_fit, bad_edges};
+ghost use Rattle.ms_check_valid.specs.PhisFit.{edges_fit, bad_edges};
 ghost use Rattle.ms_check_flow.specs.{Arriving.{AreEdgesOf}, Fitting.{IsClear}, Ways.{AreWaysOf}};
 
 use crate::edges::{Edges, find_edges};
 use crate::phis::{Notes, fits_row, phi_edges};
 use ms_bits::NoMemory;
+use ms_check_tables::{Clause, InstSite, first_fault, name_place};
 use ms_ir::{Func, Inst, Module, Name, Op};
-use ms_tables::{Clause, Here, first_fault, name_place};
 use std::alloc::Global;
 
 /// The edges of a function, and notes on its blocks.
@@ -113,7 +113,7 @@ impl<'m> Clause<'m> for EdgesFit {
         &self,
         _alloc: Global,
         tables: &mut Ways<'m>,
-        here: &Here<'m>,
+        here: &InstSite<'m>,
         inst: &'m Inst,
     ) -> Result<Option<u32>, NoMemory> {
         if fits(
@@ -130,9 +130,9 @@ impl<'m> Clause<'m> for EdgesFit {
     }
 }
 
-/// The site of the first phi or branch at fault, in text order: a phi that doesn't name each block as often as that has
-/// edges to its own, or that has unequal operands for one block, or a branch to the entry block of its function. None
-/// where there is none. The one error is running out of memory.
+/// The site of the first phi or branch at fault, in text order: a phi that doesn't name each block as often as that has edges
+/// to its own, or that has unequal operands for one block, or a branch to the entry block of its function. None where there
+/// is none.
 ///
 /// The time grows with the number of blocks, instructions, edges and operands of phis, blocks being found as `NameTable`
 /// finds names.

@@ -1,14 +1,14 @@
 //! A function as a graph of numbers.
 ghost use Rattle.std.specs.Prelude.{◌≡◌, ◌++◌, [], ◌∷◌, map, flat_map, IfOk, OnOk};
-ghost use Rattle.ms_valid.specs.FlowGraph.{name_place, graph_of};
+ghost use Rattle.ms_check_valid.specs.FlowGraph.{name_place, graph_of};
 ghost use Rattle.ms_ir.specs.{Locals.{results}, Written.{targets}};
 ghost use Rattle.ms_check_flow.specs.Numbered.{AreNumbersOf, next_row, defs_row};
 
 use crate::numbers::Numbers;
 use ms_bits::{List, NoMemory};
+use ms_check_tables::{Names, push_number, push_targets};
 use ms_flow::Graph;
 use ms_ir::{Func, Inst};
-use ms_tables::{Names, push_number, push_targets};
 use std::alloc::Global;
 
 /// The numbers of the blocks to which instructions may go.
@@ -67,7 +67,7 @@ fn defs_rows(alloc: Global, func: &Func, values: &Names<'_>) -> Result<List<List
     Ok(List::from_vec(rows))
 }
 
-/// The graph of a function, whose blocks and values go by these numbers. The one error is running out of memory.
+/// The graph of a function, whose blocks and values go by these numbers.
 pub fn graph(alloc: Global, func: &Func, numbers: &Numbers<'_>) -> Result<Graph, NoMemory>
     requires { AreNumbersOf func.now numbers.now }
     ensures { IfOk result (λ g. g ≡ graph_of func.now) }

@@ -7,13 +7,13 @@ mod arrivals;
 mod counting;
 mod edges;
 mod faults;
+mod func_uses;
 mod graphs;
-mod here;
+mod inst_uses;
 mod mains;
 mod numbers;
 mod phis;
 mod undefined;
-mod walks;
 
 pub use faults::first_bad_edge;
 pub use mains::defines_main;

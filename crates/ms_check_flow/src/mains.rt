@@ -1,7 +1,7 @@
 //! The function with which a run begins.
 ghost use Rattle.std.specs.Prelude.{◌≡◌, Some};
 ghost use Rattle.ms_ir.specs.{declared.syntax.Ty.{Int}, Equal.{result_type_eq}};
-ghost use Rattle.ms_valid.specs.HasMain.{is_main, defines_main};
+ghost use Rattle.ms_check_valid.specs.HasMain.{is_main, defines_main};
 
 use ms_ir::{Func, Module, Ty};
 

@@ -1,12 +1,12 @@
 //! The numbers of a function's blocks and values.
 ghost use Rattle.std.specs.Prelude.{◌≡◌, ◌+◌, ◌<◌, ◌^◌, ◌++◌, [], ◌∷◌, flat_map, length, IfOk, OnOk};
 ghost use Rattle.ms_ir.specs.Locals.{block_locals, block_names, results};
-ghost use Rattle.ms_valid.specs.FlowGraph.{value_names};
+ghost use Rattle.ms_check_valid.specs.FlowGraph.{value_names};
 ghost use Rattle.ms_check_flow.specs.Numbered.{AreNumbersOf};
 
 use ms_bits::NoMemory;
+use ms_check_tables::{NameTable, Names, block_numbers, parameters_of};
 use ms_ir::{Block, Func, Inst, Name};
-use ms_tables::{NameTable, Names, block_numbers, parameters_of};
 use std::alloc::Global;
 
 /// The names that number a function's blocks and its values, each from 0 on by its first place, and the names of its
@@ -78,7 +78,7 @@ fn names_in_code<'m>(alloc: Global, func: &'m Func) -> Result<(Names<'m>, Names<
     Ok((blocks, values))
 }
 
-/// The numbers of a function's blocks and values. The one error is running out of memory.
+/// The numbers of a function's blocks and values.
 pub fn numbers_of<'m>(alloc: Global, func: &'m Func) -> Result<Numbers<'m>, NoMemory>
     requires few { length (value_names func.now) < 2 ^ 32 }
     ensures { IfOk result (AreNumbersOf func.now) }

@@ -2,14 +2,14 @@
 ghost use Rattle.std.specs.Prelude.{◌≡◌, ◌<◌, ◌↔◌, ℕ, [], false, length, map, All, IsTrue, IfOk, OnOk, MatchOption, slice_index, slice_index_or};
 ghost use Rattle.ms_ir.specs.{declared.syntax.Ty.{Ty as TyOf}, Instructions.{is_phi}};
 ghost use Rattle.ms_ir.specs.declared.syntax.Op.TheVariants as opcode;
-ghost use Rattle.ms_valid.specs.FlowGraph.{name_place};
+ghost use Rattle.ms_check_valid.specs.FlowGraph.{name_place};
 ghost use Rattle.ms_check_flow.specs.Fitting.{Agree, FitsRow, IsClear};
 
 use crate::counting::same_counts;
 use crate::edges::Edges;
 use ms_bits::NoMemory;
+use ms_check_tables::{Names, name_place};
 use ms_ir::{Name, Op, Operand, same_operand};
-use ms_tables::{Names, name_place};
 use std::alloc::Global;
 
 /// What is noted of each block of a function while one phi is looked at.

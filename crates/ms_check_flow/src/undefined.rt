@@ -2,16 +2,16 @@
 ghost use Rattle.std.specs.Prelude.{◌≡◌, ◌≢◌, ◌+◌, ◌<◌, ◌^◌, ◌↔◌, length, map, take, slice_get, IfOk, IfNone, IfSome, IsNone, OnOk, All, AllPairs};
 ghost use Rattle.ms_flow.specs.{Paths.{IsDefined, Misses}, Search.{StaysIn}};
 ghost use Rattle.ms_ir.specs.Instructions.{one_unmarked, over_blocks};
-ghost use Rattle.ms_valid.specs.{Formed.{Formed}, Refusals.{UpToPhis, IsFirstUndefined}};
-ghost use Rattle.ms_valid.specs.UsesDefined.{IsUseDefined, UsesDefined};
+ghost use Rattle.ms_check_valid.specs.{Formed.{Formed}, Refusals.{UpToPhis, IsFirstUndefined}};
+ghost use Rattle.ms_check_valid.specs.UsesDefined.{IsUseDefined, UsesDefined};
 ghost use Rattle.ms_check_flow.specs.Asked.{func_uses, CanBeAsked, IsFirstOf};
 
-use crate::here::NotedUse;
-use crate::walks::{Asked, asked_of, places};
+use crate::func_uses::{FuncUses, asked_of, places};
+use crate::inst_uses::NotedUse;
 use ms_bits::{List, NoMemory};
+use ms_check_valid::laws::law_graph_paths;
 use ms_flow::{Missing, missing};
 use ms_ir::{Func, Module};
-use ms_valid::laws::graph_paths;
 use std::alloc::Global;
 
 /// A use of a value that some path reaches without a definition.
@@ -25,7 +25,7 @@ pub struct Undefined {
 }
 
 /// The first of the uses that are asked about that isn't defined, and a path to it.
-fn first_missing(alloc: Global, asked: &Asked) -> Result<Option<Missing>, NoMemory>
+fn first_missing(alloc: Global, asked: &FuncUses) -> Result<Option<Missing>, NoMemory>
     requires same_length { length asked.now.graph.next ≡ length asked.now.graph.defs }
     requires successors { StaysIn asked.now.graph }
     requires blocks { All (λ u. u.block < length asked.now.graph.next) (map (λ u. u.place) asked.now.noted.items) }
@@ -62,7 +62,7 @@ fn first_in_func(alloc: Global, site: &mut u32, func: &Func) -> Result<Option<Un
     ensures first { IfOk result (λ r. IfSome r (λ u. IsFirstOf (func_uses func.now site.old) u.site u.path)) }
     ensures site { OnOk result (site.new ≡ site.old + over_blocks one_unmarked func.now.blocks) }
 {
-    graph_paths();
+    law_graph_paths();
     let asked = asked_of(alloc, site, func)?;
     match first_missing(alloc, &asked)? {
         None => Ok(None),
@@ -70,9 +70,9 @@ fn first_in_func(alloc: Global, site: &mut u32, func: &Func) -> Result<Option<Un
     }
 }
 
-/// The first use of a value, in text order, that isn't defined on every path from its function's entry block to it, with
-/// such a path; None where each use is defined. A phi's operand is used at the end of the block that it names, and no path
-/// leads to a block that can't be reached. The one error is running out of memory.
+/// The first use of a value, in text order, that isn't defined on every path from its function's entry block to it, with such
+/// a path; None where each use is defined. A phi's operand is used at the end of the block that it names, and no path leads
+/// to a block that can't be reached.
 ///
 /// The time grows with the number of instructions, operands, blocks and edges, names being found as `NameTable` finds them,
 /// and for each function with the number of its edges times a sixty-fourth of the number of its values that are used outside

@@ -7,8 +7,8 @@ use Rattle.ms_ir.specs.declared.forms.Form.{Form}
 use Rattle.ms_text_grammar.specs.Texts.{Reads}
 use Rattle.ms_read_body.specs.declared.errors.ReadError.{ReadError}
 use Rattle.ms_read_top.specs.Reading.{AnswersExactly}
-use Rattle.ms_valid.specs.Formed.{Formed}
-use Rattle.ms_valid.specs.FormedNames.{are_bytes}
+use Rattle.ms_check_valid.specs.Formed.{Formed}
+use Rattle.ms_check_valid.specs.FormedNames.{are_bytes}
 use Rattle.ms_text_laws.proofs.FormedModules.{read_formed}
 
 bytes_pass : (text : List ℕ) → ((i : ℕ) → slice_index_or text i 0 < 2 ^ 8) → IsTrue (are_bytes text)

@@ -1,7 +1,7 @@
 //! Texts of modules with what the check returns on them.
 
 ghost use Rattle.std.specs.Prelude.{◌≤◌, ◌^◌, length};
-ghost use Rattle.ms_valid.specs.Formed.{Formed};
+ghost use Rattle.ms_check_valid.specs.Formed.{Formed};
 
 use ms_check::{CheckError, check};
 use ms_ir::{Form, Module, Name};

@@ -183,8 +183,8 @@ fn all_agree<R: Eprint>(rt: &R, alloc: Global, cases: &[Differing]) -> bool {
     true
 }
 
-fn comes_behind(before: &Name, behind: &Name) -> bool {
-    before.cmp(behind) == Ordering::Less && behind.cmp(before) == Ordering::Greater
+fn comes_after(before: &Name, after: &Name) -> bool {
+    before.cmp(after) == Ordering::Less && after.cmp(before) == Ordering::Greater
 }
 
 /// Whether each name comes after the one before it.
@@ -192,7 +192,7 @@ fn are_in_order(params: &[(Ty, Name)]) -> bool {
     let mut last: Option<&Name> = None;
     for param in params {
         if let Some(before) = last {
-            if !comes_behind(before, &param.1) {
+            if !comes_after(before, &param.1) {
                 return false;
             }
         }

@@ -16,8 +16,8 @@ use Rattle.ms_ir.specs.declared.syntax.Init as initial
 use Rattle.ms_ir.specs.Instructions.{operands}
 use Rattle.ms_ir.specs.Locals.{func_insts}
 use Rattle.ms_ir.specs.Written.{type_parts, own_types, operand_types, op_types, init_types}
-use Rattle.ms_valid.specs.SizesFit.{sized, func_types}
-use Rattle.ms_valid.proofs.TypeShapes.{type_parts-array, type_parts-struct, init_types-array, init_types-struct}
+use Rattle.ms_check_valid.specs.SizesFit.{sized, func_types}
+use Rattle.ms_check_valid.proofs.TypeShapes.{type_parts-array, type_parts-struct, init_types-array, init_types-struct}
 use Rattle.ms_check_types.specs.SizedParts.{has_sizes, is_op_sized, is_func_sized, is_item_sized}
 
 -- ---- tests of lists

@@ -4,7 +4,7 @@ use Rattle.std.specs.Prelude.{slice_get, if◌then◌else◌}
 use Rattle.ms_ir.specs.declared.syntax.Ty.{Ty}
 use Rattle.ms_ir.specs.declared.syntax.Operand.{Operand}
 use Rattle.ms_ir.proofs.Sizes.{drop_next}
-use Rattle.ms_valid.specs.TypesAgree.{argument_fault}
+use Rattle.ms_check_valid.specs.TypesAgree.{argument_fault}
 use Rattle.ms_check_types.specs.Arguments.{fits_parameter}
 
 -- ---- lists from a place on

@@ -8,7 +8,7 @@ use Rattle.ms_ir.specs.declared.syntax.Op.TheVariants as op
 use Rattle.ms_ir.specs.declared.syntax.Func.{Func}
 use Rattle.ms_ir.specs.declared.syntax.Module.{Module}
 use Rattle.ms_ir.specs.Signatures.{signature_of}
-use Rattle.ms_valid.specs.TypesAgree.{call_fault}
+use Rattle.ms_check_valid.specs.TypesAgree.{call_fault}
 use Rattle.ms_check_types.specs.Bodies.{fits_within, fault_within}
 
 pub call_case : (m : Module) (f : Func) (o : Op) (ret : Option Ty) (callee : Name) (args given : List (Ty × Operand)) (r : Option ℕ) → o ≡ op.Call ret callee args → given ≡ args

@@ -5,16 +5,16 @@ use Rattle.std.specs.List.{list_any}
 use Rattle.std.proofs.lemmas.Bool.{false≢true}
 use Rattle.ms_ir.specs.declared.syntax.Name.{Name}
 use Rattle.ms_ir.proofs.Sizes.{drop_next}
-use Rattle.ms_valid.specs.TypesAgree.{differ}
+use Rattle.ms_check_valid.specs.TypesAgree.{differ}
 
-behind : (a b : Bool) → (a && b) ≡ true → b ≡ true
-behind true b e = e
-behind false b e = absurd (false≢true e)
+after : (a b : Bool) → (a && b) ≡ true → b ≡ true
+after true b e = e
+after false b e = absurd (false≢true e)
 
 pub differ_drop : (cs : List (ℕ × Name)) (k : ℕ) → differ cs ≡ true → differ (drop k cs) ≡ true
 differ_drop cs zero e = e
 differ_drop [] (suc k) e = refl
-differ_drop (c ∷ cs) (suc k) e = differ_drop cs k (behind (not (list_any (λ other. nat_eq other.0 c.0) cs)) (differ cs) e)
+differ_drop (c ∷ cs) (suc k) e = differ_drop cs k (after (not (list_any (λ other. nat_eq other.0 c.0) cs)) (differ cs) e)
 
 again : (seen rest : Bool) → seen ≡ true → (not seen && rest) ≡ false
 again seen rest e = ap (λ b. not b && rest) e

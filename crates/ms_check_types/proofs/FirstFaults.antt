@@ -4,7 +4,7 @@ use Rattle.std.specs.Prelude.{flat_map, slice_get}
 use Rattle.std.proofs.lemmas.Option.{none-some}
 use Rattle.ms_ir.specs.declared.syntax.Name.{Name}
 use Rattle.ms_ir.proofs.Sizes.{drop_next}
-use Rattle.ms_valid.specs.SizesFit.{spelled_unless}
+use Rattle.ms_check_valid.specs.SizesFit.{spelled_unless}
 
 -- the first of items, from a place on
 abbrev pub first_from : {A B : Type 0} → (A → List B) → List A → ℕ → Option B

@@ -4,10 +4,10 @@ use Rattle.std.specs.Prelude.{option_map, slice_get, if◌then◌else◌}
 use Rattle.std.specs.Option.{option_or}
 use Rattle.ms_ir.specs.declared.syntax.GlobalVar.{GlobalVar}
 use Rattle.ms_ir.specs.declared.syntax.Module.{Module}
-use Rattle.ms_valid.specs.Initialisers.{init_fits}
-use Rattle.ms_valid.specs.TypesAgree.{operand_fits, at_site, init_faults, mismatches}
+use Rattle.ms_check_valid.specs.Initialisers.{init_fits}
+use Rattle.ms_check_valid.specs.TypesAgree.{operand_fits, at_site, init_faults, mismatches}
 use Rattle.ms_check_types.specs.Faults.{code_faults, globals_fault}
-use Rattle.ms_tables.proofs.Items.{first-append}
+use Rattle.ms_check_tables.proofs.Items.{first-append}
 
 pub at_first : (site : ℕ) (o : Option ℕ) → option_map (λ k. (site, k)) o ≡ slice_get (at_site site o) 0
 at_first site None = refl

@@ -12,7 +12,7 @@ use Rattle.ms_ir.specs.declared.syntax.Ty.{Ty}
 use Rattle.ms_ir.specs.Locals.{Spelled}
 use Rattle.ms_ir.specs.Written.{init_types}
 use Rattle.ms_ir.proofs.Sizes.{drop_next}
-use Rattle.ms_valid.specs.SizesFit.{sized, spelled_unless, taken_with, passes_limit, unsized_globals}
+use Rattle.ms_check_valid.specs.SizesFit.{sized, spelled_unless, taken_with, passes_limit, unsized_globals}
 use Rattle.ms_check_types.specs.SizedParts.{has_sizes, taken_after}
 use Rattle.ms_check_types.proofs.AllSized.{sized_each, size_itself}
 

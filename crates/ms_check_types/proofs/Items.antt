@@ -13,8 +13,8 @@ use Rattle.ms_ir.specs.Layout.{Types, resolved}
 use Rattle.ms_ir.specs.Equal.{type_eq}
 use Rattle.ms_ir.proofs.Differing.{and_true}
 use Rattle.ms_ir.proofs.TypeRows.{struct_types}
-use Rattle.ms_valid.specs.Initialisers.{item_types, field_types, is_text_type, init_fits}
-use Rattle.ms_valid.proofs.TypeShapes.{list_fits, init_fits-array, init_fits-struct}
+use Rattle.ms_check_valid.specs.Initialisers.{item_types, field_types, is_text_type, init_fits}
+use Rattle.ms_check_valid.proofs.TypeShapes.{list_fits, init_fits-array, init_fits-struct}
 use Rattle.ms_check_types.specs.Items.{item_fits, each_fits, all_fit}
 
 -- ---- what is asked for

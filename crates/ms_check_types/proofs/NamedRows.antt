@@ -8,11 +8,11 @@ use Rattle.ms_ir.specs.declared.syntax.Decl.{Decl}
 use Rattle.ms_ir.specs.declared.syntax.Func.{Func}
 use Rattle.ms_ir.specs.declared.syntax.Module.{Module}
 use Rattle.ms_ir.specs.Names.{name_eq, lookup}
-use Rattle.ms_tables.specs.FirstPlace.{first_place, at_place}
-use Rattle.ms_tables.proofs.Tied.{lookup_is}
+use Rattle.ms_check_tables.specs.FirstPlace.{first_place, at_place}
+use Rattle.ms_check_tables.proofs.Tied.{lookup_is}
 use Rattle.ms_ir.specs.Equal.{has_name}
 use Rattle.ms_ir.specs.Locals.{declared_names}
-use Rattle.ms_valid.specs.TypesAgree.{is_printf, is_create}
+use Rattle.ms_check_valid.specs.TypesAgree.{is_printf, is_create}
 use Rattle.ms_ir.specs.Signatures.{func_signature, decl_signature, defined_signature, declared_signature}
 
 -- a table of two functions of the same things

@@ -5,7 +5,7 @@ use Rattle.std.specs.List.{list_all}
 use Rattle.std.proofs.lemmas.Option.{same_Some, none-some}
 use Rattle.ms_ir.specs.declared.syntax.Ty.{Ty}
 use Rattle.ms_ir.specs.declared.syntax.Operand.{Operand}
-use Rattle.ms_valid.specs.TypesAgree.{first_misfit}
+use Rattle.ms_check_valid.specs.TypesAgree.{first_misfit}
 use Rattle.ms_check_types.specs.Typed.{holds_at}
 
 -- ---- an operand with its type

@@ -20,8 +20,8 @@ use Rattle.ms_ir.specs.Locals.{block_names}
 use Rattle.ms_ir.specs.Signatures.{Signature, signature_of}
 use Rattle.ms_ir.specs.Spots.{Spot, spot, next_spot, over_spots, over_block_spots, over_func_spots}
 use Rattle.ms_ir.specs.Written.{targets}
-use Rattle.ms_valid.specs.Formed.{count_written}
-use Rattle.ms_valid.specs.TypesAgree.{first_misfit, fault_unless, leads_into, number_or_zero, first_misstep, cast_allows, differ, returns_fit, argument_fault, fits_call, is_printable, printf_fault, is_printf, call_fault, op_fault, at_site}
+use Rattle.ms_check_valid.specs.Formed.{count_written}
+use Rattle.ms_check_valid.specs.TypesAgree.{first_misfit, fault_unless, leads_into, number_or_zero, first_misstep, cast_allows, differ, returns_fit, argument_fault, fits_call, is_printable, printf_fault, is_printf, call_fault, op_fault, at_site}
 use Rattle.ms_check_types.specs.Bodies.{fits_within, fault_within}
 use Rattle.ms_check_types.specs.Faults.{inst_faults, code_faults}
 

@@ -11,7 +11,7 @@ use Rattle.ms_ir.specs.Layout.{Types, resolved, row_types, type_at, part_type}
 use Rattle.ms_ir.specs.Equal.{type_eq}
 use Rattle.ms_ir.proofs.Sizes.{drop_next}
 use Rattle.ms_ir.proofs.TypeRows.{struct_types}
-use Rattle.ms_valid.specs.TypesAgree.{leads_into, number_or_zero, is_below, first_misstep, constant_indices}
+use Rattle.ms_check_valid.specs.TypesAgree.{leads_into, number_or_zero, is_below, first_misstep, constant_indices}
 use Rattle.ms_check_types.specs.Parts.{constant_of, field_at, part_by}
 
 -- ---- parts of arrays and structs

@@ -4,8 +4,8 @@ use Rattle.ms_ir.specs.declared.syntax.Inst.{Inst}
 use Rattle.ms_ir.specs.declared.syntax.GlobalVar.{GlobalVar}
 use Rattle.ms_ir.specs.declared.syntax.Module.{Module}
 use Rattle.ms_ir.specs.Spots.{Spot, found_at_insts}
-use Rattle.ms_valid.specs.Initialisers.{init_fits}
-use Rattle.ms_valid.specs.TypesAgree.{operand_fits, at_site}
+use Rattle.ms_check_valid.specs.Initialisers.{init_fits}
+use Rattle.ms_check_valid.specs.TypesAgree.{operand_fits, at_site}
 use Rattle.ms_check_types.specs.Bodies.{fault_within}
 use Rattle.ms_check_types.specs.declared.mismatches.Mismatch.{Mismatch}
 

@@ -5,7 +5,7 @@ use Rattle.ms_ir.specs.declared.syntax.Operand.{Operand}
 use Rattle.ms_ir.specs.declared.syntax.Init.{Init}
 use Rattle.ms_ir.specs.Layout.{Types}
 use Rattle.ms_ir.specs.Equal.{type_eq}
-use Rattle.ms_valid.specs.Initialisers.{init_fits}
+use Rattle.ms_check_valid.specs.Initialisers.{init_fits}
 
 -- an item with its type fits the type that is asked for
 abbrev pub item_fits : (Ty → Operand → Bool) → Types → Ty → Ty × Init → Bool

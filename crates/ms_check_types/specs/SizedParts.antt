@@ -14,7 +14,7 @@ use Rattle.ms_ir.specs.Equal.{AddressStep}
 use Rattle.ms_ir.specs.Layout.{Types, size_of}
 use Rattle.ms_ir.specs.Locals.{Spelled}
 use Rattle.ms_ir.specs.Written.{type_parts, operand_types, own_types, init_types}
-use Rattle.ms_valid.specs.SizesFit.{sized, spelled_unless, taken_with, passes_limit, func_types}
+use Rattle.ms_check_valid.specs.SizesFit.{sized, spelled_unless, taken_with, passes_limit, func_types}
 
 -- a type and all types within it have sizes
 abbrev pub has_sizes : Types → Ty → Bool

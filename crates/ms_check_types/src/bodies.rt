@@ -5,7 +5,7 @@ use crate::symbols::Symbols;
 
 /// A function of a module, with what its names stand for.
 #[derive(Drop)]
-pub struct Body<'a, 'm> {
+pub struct FuncTypes<'a, 'm> {
     pub symbols: &'a Symbols<'m>,
     pub locals: &'a Locals<'m>,
 }

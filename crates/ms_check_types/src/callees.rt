@@ -9,8 +9,8 @@ ghost use Rattle.ms_check_types.specs.Callees.{callee_signature};
 use crate::rows::row_of;
 use crate::types::is_pointer;
 use ms_bits::NoMemory;
+use ms_check_tables::{NameTable, declarations_of, functions_of};
 use ms_ir::{Decl, Func, Module, Name, Ty};
-use ms_tables::{NameTable, declarations_of, functions_of};
 use std::alloc::Global;
 
 /// A function that a module defines or declares.
@@ -77,7 +77,7 @@ pub fn takes_pointer(func: &Func) -> bool
 
 /// The functions of a module, with the places of their names.
 #[derive(Drop)]
-pub struct Callees<'m> {
+pub struct FuncTable<'m> {
     pub source: &'m Module,
     decls: NameTable<'m>,
     funcs: NameTable<'m>,
@@ -85,14 +85,14 @@ pub struct Callees<'m> {
     ghost funcs_are: { funcs ≡ function_names source.now },
 }
 
-impl<'m> Callees<'m> {
-    /// The functions of a module. The one error is running out of memory.
-    pub fn of(alloc: Global, m: &'m Module) -> Result<Callees<'m>, NoMemory>
+impl<'m> FuncTable<'m> {
+    /// The functions of a module.
+    pub fn of(alloc: Global, m: &'m Module) -> Result<FuncTable<'m>, NoMemory>
         ensures { IfOk result (λ callees. callees.source.now ≡ m.now) }
     {
         let decls = declarations_of(alloc, m)?;
         let funcs = functions_of(alloc, m)?;
-        Ok(Callees {
+        Ok(FuncTable {
             source: m,
             decls,
             funcs,

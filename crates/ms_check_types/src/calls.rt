@@ -2,11 +2,11 @@
 ghost use Rattle.std.specs.Prelude.{◌≡◌, ◌&&◌, nat_eq, slice_get, if◌then◌else◌};
 ghost use Rattle.ms_ir.specs.declared.syntax.Op.TheVariants as operation;
 ghost use Rattle.ms_ir.specs.Signatures.{signature_of};
-ghost use Rattle.ms_valid.specs.TypesAgree.{first_misfit, fault_unless, argument_fault, is_start, is_create, fits_call, is_printable, printf_fault, is_printf, call_fault};
+ghost use Rattle.ms_check_valid.specs.TypesAgree.{first_misfit, fault_unless, argument_fault, is_start, is_create, fits_call, is_printable, printf_fault, is_printf, call_fault};
 ghost use Rattle.ms_check_types.specs.{Arguments.{fits_parameter}, Bodies.{fits_in, module_of}};
 ghost use Rattle.ms_check_types.specs.Callees.{callee_signature};
 
-use crate::bodies::Body;
+use crate::bodies::FuncTypes;
 use crate::callees::Callee;
 use crate::operands::{first_misfit, operand_fits};
 use crate::types::is_pointer;
@@ -20,7 +20,7 @@ pub fn fault_unless(holds: bool) -> Option<usize>
 }
 
 /// Whether an operand names the function that a fiber may begin with: one that takes a pointer and returns one.
-fn is_start(body: &Body<'_, '_>, operand: &Operand) -> bool
+fn is_start(body: &FuncTypes<'_, '_>, operand: &Operand) -> bool
     ensures { result ≡ is_start (module_of body.now) operand.now }
 {
     match operand {
@@ -30,14 +30,20 @@ fn is_start(body: &Body<'_, '_>, operand: &Operand) -> bool
 }
 
 /// Whether an argument of a call is the third of `pthread_create`, which names the function that begins.
-fn is_start_place(body: &Body<'_, '_>, name: &Name, place: usize) -> bool
+fn is_start_place(body: &FuncTypes<'_, '_>, name: &Name, place: usize) -> bool
     ensures { result ≡ (is_create (module_of body.now) name.now && nat_eq place 2) }
 {
     body.symbols.is_create(name) && place == 2
 }
 
 /// Whether an argument of a call fits by its place.
-fn fits_call(body: &Body<'_, '_>, name: &Name, place: usize, ty: &Ty, operand: &Operand) -> bool
+fn fits_call(
+    body: &FuncTypes<'_, '_>,
+    name: &Name,
+    place: usize,
+    ty: &Ty,
+    operand: &Operand,
+) -> bool
     ensures { result ≡ fits_call (module_of body.now) (fits_in body.now) name.now place (ty.now, operand.now) }
 {
     if is_start_place(body, name, place) {
@@ -49,7 +55,7 @@ fn fits_call(body: &Body<'_, '_>, name: &Name, place: usize, ty: &Ty, operand: &
 
 /// Whether an argument fits the parameter at a place, if there is one.
 fn argument_fits(
-    body: &Body<'_, '_>,
+    body: &FuncTypes<'_, '_>,
     name: &Name,
     callee: &Callee<'_>,
     place: usize,
@@ -66,7 +72,7 @@ fn argument_fits(
 
 /// The first argument that doesn't fit its parameter, is one too many, or is missing.
 fn argument_fault(
-    body: &Body<'_, '_>,
+    body: &FuncTypes<'_, '_>,
     name: &Name,
     callee: &Callee<'_>,
     args: &[(Ty, Operand)],
@@ -93,7 +99,7 @@ fn is_printable(ty: &Ty) -> bool
 }
 
 /// The first of some arguments, which are counted from 1 on, that doesn't fit or that `printf` doesn't print.
-fn printed_misfit(body: &Body<'_, '_>, args: &[(Ty, Operand)]) -> Option<usize>
+fn printed_misfit(body: &FuncTypes<'_, '_>, args: &[(Ty, Operand)]) -> Option<usize>
     ensures { result ≡ first_misfit (λ b. is_printable b.0 && fits_in body.now b) 1 args.now }
 {
     for (place, (ty, operand)) in args.iter().enumerate() {
@@ -105,7 +111,7 @@ fn printed_misfit(body: &Body<'_, '_>, args: &[(Ty, Operand)]) -> Option<usize>
 }
 
 /// The argument of a `printf` at fault: the first is a pointer, and the others are words and pointers.
-fn printf_fault(body: &Body<'_, '_>, args: &[(Ty, Operand)]) -> Option<usize>
+fn printf_fault(body: &FuncTypes<'_, '_>, args: &[(Ty, Operand)]) -> Option<usize>
     ensures { result ≡ printf_fault (fits_in body.now) args.now }
 {
     match args {
@@ -122,7 +128,7 @@ fn printf_fault(body: &Body<'_, '_>, args: &[(Ty, Operand)]) -> Option<usize>
 
 /// The argument of a call at fault, where the function is known.
 fn arguments_fault(
-    body: &Body<'_, '_>,
+    body: &FuncTypes<'_, '_>,
     name: &Name,
     callee: &Callee<'_>,
     args: &[(Ty, Operand)],
@@ -139,7 +145,7 @@ fn arguments_fault(
 
 /// The argument of a call at fault; 0 where a global variable is called, or the result has another type.
 pub fn call_fault(
-    body: &Body<'_, '_>,
+    body: &FuncTypes<'_, '_>,
     op: &Op,
     ret: &Option<Ty>,
     name: &Name,

@@ -1,7 +1,7 @@
 //! Casts (LLVM Language Reference, "Conversion Operations").
 ghost use Rattle.std.specs.Prelude.{◌≡◌};
 ghost use Rattle.ms_bits.specs.declared.operations.CastOp.TheVariants as cast;
-ghost use Rattle.ms_valid.specs.TypesAgree.{cast_allows};
+ghost use Rattle.ms_check_valid.specs.TypesAgree.{cast_allows};
 
 use ms_bits::CastOp;
 use ms_ir::Ty;

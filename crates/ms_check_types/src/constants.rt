@@ -2,7 +2,7 @@
 ghost use Rattle.std.specs.{Prelude.{◌≡◌, None, ◌&&◌}, List.{list_all}};
 ghost use Rattle.ms_ir.specs.declared.syntax.Ty as type;
 ghost use Rattle.ms_ir.specs.{Equal.{type_eq}, ValueTypes.{type_of}};
-ghost use Rattle.ms_valid.specs.TypesAgree.{operand_fits, is_variable, step_fits};
+ghost use Rattle.ms_check_valid.specs.TypesAgree.{operand_fits, is_variable, step_fits};
 
 use crate::steps::leads_on;
 use crate::symbols::Symbols;

@@ -1,15 +1,15 @@
 //! The first type, global or function that is or has a type without a size.
 ghost use Rattle.std.specs.Prelude.{◌≡◌, [], ◌∷◌, ◌++◌, flat_map, slice_get, IfOk};
 ghost use Rattle.ms_ir.specs.declared.syntax.Ty.{Named};
-ghost use Rattle.ms_valid.specs.SizesFit.{sized, unsized, unsized_globals};
+ghost use Rattle.ms_check_valid.specs.SizesFit.{sized, unsized, unsized_globals};
 ghost use Rattle.ms_check_types.specs.SizedParts.{type_faults, func_faults};
 
 use crate::globals::first_global;
 use crate::parts::has_sizes;
 use crate::sized_bodies::is_func_sized;
 use ms_bits::NoMemory;
+use ms_check_tables::{Extents, Spelled};
 use ms_ir::{Func, Module, Name, Ty};
-use ms_tables::{Extents, Spelled};
 use std::alloc::Global;
 
 /// Whether a named type, and each type in its definition, have sizes.
@@ -75,10 +75,9 @@ fn first_fault<'m>(extents: &Extents, m: &'m Module) -> Option<Spelled<'m>>
     }
 }
 
-/// The first named type, global or function, in this order, that is or has a type without a size, or the global with
-/// which the globals pass 16 MiB (LLVM Language Reference, "Structure Type"; the limits are own); none where all sizes
-/// fit. Each named type is laid out once, and each type that is written is looked at where it stands. The one error is
-/// running out of memory.
+/// The first named type, global or function, in this order, that is or has a type without a size, or the global with which
+/// the globals pass 16 MiB (LLVM Language Reference, "Structure Type"; the limits are own); none where all sizes fit. Each
+/// named type is laid out once, and each type that is written is looked at where it stands.
 pub fn first_unsized<'m>(alloc: Global, m: &'m Module) -> Result<Option<Spelled<'m>>, NoMemory>
     ensures { IfOk result (λ fault. fault ≡ slice_get (unsized m.now) 0) }
 {

@@ -1,17 +1,21 @@
 //! Instructions that step through a type (LLVM Language Reference, "'getelementptr' Instruction").
 ghost use Rattle.std.specs.{Prelude.{◌≡◌, length, take, drop, ◌∷◌}, Option.{option_or}};
 ghost use Rattle.ms_ir.specs.declared.syntax.Ty as type;
-ghost use Rattle.ms_valid.specs.TypesAgree.{first_misfit, first_misstep};
+ghost use Rattle.ms_check_valid.specs.TypesAgree.{first_misfit, first_misstep};
 ghost use Rattle.ms_check_types.specs.Bodies.{fits_in, types_of};
 
-use crate::bodies::Body;
+use crate::bodies::FuncTypes;
 use crate::operands::operand_fits;
 use crate::steps::{constant, part};
 use ms_ir::{Operand, Ty, ValueType};
 
 /// The first of some indices, which are counted from 2 on, that doesn't fit or leads into no part; the first one begins
 /// at a type.
-fn first_misstep<'a>(body: &Body<'a, '_>, ty: &'a Ty, indices: &[(Ty, Operand)]) -> Option<usize>
+fn first_misstep<'a>(
+    body: &FuncTypes<'a, '_>,
+    ty: &'a Ty,
+    indices: &[(Ty, Operand)],
+) -> Option<usize>
     ensures { result ≡ first_misstep (fits_in body.now) (types_of body.now) ty.now 2 indices.now }
 {
     let mut whole = ty;
@@ -29,7 +33,7 @@ fn first_misstep<'a>(body: &Body<'a, '_>, ty: &'a Ty, indices: &[(Ty, Operand)])
 
 /// The operand of a `getelementptr` at fault.
 pub fn gep_fault<'a>(
-    body: &Body<'a, '_>,
+    body: &FuncTypes<'a, '_>,
     ty: &'a Ty,
     base: &Operand,
     indices: &[(Ty, Operand)],

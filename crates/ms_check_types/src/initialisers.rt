@@ -1,8 +1,8 @@
 //! Initialisers of globals (LLVM Language Reference, "Global Variables", "Complex Constants").
 ghost use Rattle.std.specs.{Prelude.{◌≡◌, ◌||◌, None, length}, List.{list_all}};
 ghost use Rattle.ms_ir.specs.Equal.{is_undefined};
-ghost use Rattle.ms_valid.specs.Initialisers.{is_text_type, item_types, field_types, init_fits};
-ghost use Rattle.ms_valid.specs.TypesAgree.{operand_fits};
+ghost use Rattle.ms_check_valid.specs.Initialisers.{is_text_type, item_types, field_types, init_fits};
+ghost use Rattle.ms_check_valid.specs.TypesAgree.{operand_fits};
 ghost use Rattle.ms_check_types.specs.Items.{item_fits, each_fits, all_fit};
 
 use crate::constants::constant_fits;

@@ -2,10 +2,10 @@
 ghost use Rattle.std.specs.{Prelude.{◌≡◌, ◌&&◌, IfOk}, List.{list_all}, Option.{option_or}};
 ghost use Rattle.ms_ir.specs.{Instructions.{operands as operands_of}, Equal.{has_name}, Locals.{block_names}};
 ghost use Rattle.ms_ir.specs.Written.{targets};
-ghost use Rattle.ms_valid.specs.TypesAgree.{differ, first_misfit, fault_unless};
+ghost use Rattle.ms_check_valid.specs.TypesAgree.{differ, first_misfit, fault_unless};
 ghost use Rattle.ms_check_types.specs.Bodies.{fits_in, func_of, fault_in};
 
-use crate::bodies::Body;
+use crate::bodies::FuncTypes;
 use crate::calls::{call_fault, fault_unless};
 use crate::casts::cast_allows;
 use crate::geps::gep_fault;
@@ -17,17 +17,17 @@ use std::alloc::Global;
 
 /// The operand at fault of an instruction that asks for no more than that each operand has the type before it, and
 /// that it goes to blocks.
-fn plain_fault(body: &Body<'_, '_>, op: &Op) -> Option<usize>
+fn plain_fault(body: &FuncTypes<'_, '_>, op: &Op) -> Option<usize>
     ensures { result ≡ option_or (first_misfit (fits_in body.now) 0 (operands_of op.now))
         (fault_unless (list_all (has_name (block_names (func_of body.now))) (targets op.now))) }
 {
     first_misfit(body, op).or(fault_unless(leads_to_blocks(body, op)))
 }
 
-/// The operand at fault of a `switch` with these cases. The one error is running out of memory.
+/// The operand at fault of a `switch` with these cases.
 fn switch_fault(
     alloc: Global,
-    body: &Body<'_, '_>,
+    body: &FuncTypes<'_, '_>,
     op: &Op,
     cases: &[(u64, Name)],
 ) -> Result<Option<usize>, NoMemory>
@@ -39,11 +39,10 @@ fn switch_fault(
     Ok(first_misfit(body, op).or(fault_unless(different && known)))
 }
 
-/// The operand of an instruction at fault: the first that doesn't fit or that is missing, else 0. The one error is running out of
-/// memory.
+/// The operand of an instruction at fault: the first that doesn't fit or that is missing, else 0.
 pub fn op_fault<'a>(
     alloc: Global,
-    body: &Body<'_, 'a>,
+    body: &FuncTypes<'_, 'a>,
     op: &'a Op,
 ) -> Result<Option<usize>, NoMemory>
     ensures { IfOk result (λ r. r ≡ fault_in body.now op.now) }

@@ -14,6 +14,7 @@ mod initialisers;
 mod instructions;
 mod jumps;
 mod locals;
+mod mismatch_search;
 pub mod mismatches;
 mod operands;
 mod parts;
@@ -23,9 +24,8 @@ mod steps;
 mod symbols;
 mod typed;
 mod types;
-mod walks;
 mod written;
 
 pub use faults::first_unsized;
+pub use mismatch_search::first_mismatch;
 pub use mismatches::Mismatch;
-pub use walks::first_mismatch;

@@ -7,8 +7,8 @@ ghost use Rattle.ms_ir.specs.ValueTypes.{type_of};
 
 use crate::typed::TypedNames;
 use ms_bits::NoMemory;
+use ms_check_tables::{NameTable, blocks_of};
 use ms_ir::{Block, Func, Inst, Name, Ty, ValueType};
-use ms_tables::{NameTable, blocks_of};
 use std::alloc::Global;
 
 /// Adds parameters.
@@ -51,7 +51,7 @@ fn push_blocks<'m>(values: &mut TypedNames<'m>, blocks: &'m [Block]) -> Result<(
     Ok(())
 }
 
-/// The values of a function with their types. The one error is running out of memory.
+/// The values of a function with their types.
 fn values_of(alloc: Global, func: &Func) -> Result<TypedNames<'_>, NoMemory>
     ensures { IfOk result (λ typed. typed ≡ values func.now) }
 {
@@ -72,7 +72,7 @@ pub struct Locals<'m> {
 }
 
 impl<'m> Locals<'m> {
-    /// The locals of a function. The one error is running out of memory.
+    /// The locals of a function.
     pub fn of(alloc: Global, func: &'m Func) -> Result<Locals<'m>, NoMemory>
         ensures { IfOk result (λ locals. locals.func.now ≡ func.now) }
     {

@@ -1,10 +1,10 @@
 //! Operands with the types before them (LLVM Language Reference, "Instruction Reference").
 ghost use Rattle.std.specs.Prelude.{◌≡◌, option_map, slice_get};
 ghost use Rattle.ms_ir.specs.{Instructions.{operands}, ValueTypes.{type_of}};
-ghost use Rattle.ms_valid.specs.TypesAgree.{first_misfit};
+ghost use Rattle.ms_check_valid.specs.TypesAgree.{first_misfit};
 ghost use Rattle.ms_check_types.specs.{Bodies.{fits_in}, Typed.{holds_at}};
 
-use crate::bodies::Body;
+use crate::bodies::FuncTypes;
 use crate::constants::{global_fits, offset_fits};
 use ms_ir::{Op, Operand, ValueType};
 
@@ -23,7 +23,7 @@ pub fn typed_operand(op: &Op, place: usize) -> Option<(ValueType<'_>, &Operand)>
 }
 
 /// Whether an operand has the type before it.
-pub fn operand_fits(body: &Body<'_, '_>, ty: ValueType<'_>, operand: &Operand) -> bool
+pub fn operand_fits(body: &FuncTypes<'_, '_>, ty: ValueType<'_>, operand: &Operand) -> bool
     ensures { result ≡ fits_in body.now (type_of ty.entry, operand.now) }
 {
     match operand {
@@ -43,7 +43,7 @@ pub fn operand_fits(body: &Body<'_, '_>, ty: ValueType<'_>, operand: &Operand) -
 }
 
 /// Whether the operand with a place has the type before it, if there is one.
-fn fits_at(body: &Body<'_, '_>, op: &Op, place: usize) -> bool
+fn fits_at(body: &FuncTypes<'_, '_>, op: &Op, place: usize) -> bool
     ensures { result ≡ holds_at (fits_in body.now) (slice_get (operands op.now) place) }
 {
     match typed_operand(op, place) {
@@ -53,7 +53,7 @@ fn fits_at(body: &Body<'_, '_>, op: &Op, place: usize) -> bool
 }
 
 /// The place of the first operand of an instruction that doesn't have the type before it.
-pub fn first_misfit(body: &Body<'_, '_>, op: &Op) -> Option<usize>
+pub fn first_misfit(body: &FuncTypes<'_, '_>, op: &Op) -> Option<usize>
     ensures { result ≡ first_misfit (fits_in body.now) 0 (operands op.now) }
 {
     for place in 0..op.operand_count() {

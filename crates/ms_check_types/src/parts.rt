@@ -2,8 +2,8 @@
 ghost use Rattle.std.specs.{Prelude.{◌≡◌}, List.{list_all}};
 ghost use Rattle.ms_check_types.specs.SizedParts.{has_sizes};
 
+use ms_check_tables::Extents;
 use ms_ir::Ty;
-use ms_tables::Extents;
 
 /// Whether a type and each type within it have sizes. What a named type stands for is looked at where it is defined.
 #[cycle(parts)]

@@ -1,9 +1,9 @@
 //! What stands beside a name in a list.
 ghost use Rattle.std.specs.{Prelude.{◌≡◌}, Option.{option_copied}};
-ghost use Rattle.ms_tables.specs.FirstPlace.{first_place, at_place};
+ghost use Rattle.ms_check_tables.specs.FirstPlace.{first_place, at_place};
 
+use ms_check_tables::NameTable;
 use ms_ir::Name;
-use ms_tables::NameTable;
 
 /// What stands in a list at the first place of a name among some names. Found as `NameTable` finds it.
 pub fn row_of<'a, T>(names: &NameTable<'_>, rows: &'a [T], name: &Name) -> Option<&'a T>

@@ -7,8 +7,8 @@ ghost use Rattle.ms_check_types.specs.Typed.{holds_at};
 use crate::operands::typed_operand;
 use crate::parts::has_sizes;
 use crate::written::is_typed_sized;
+use ms_check_tables::Extents;
 use ms_ir::{Block, Func, Op};
-use ms_tables::Extents;
 
 /// Whether the type of an instruction that stands before no operand has sizes, if there is one.
 fn is_own_sized(extents: &Extents, op: &Op) -> bool

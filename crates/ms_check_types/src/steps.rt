@@ -3,7 +3,7 @@ ghost use Rattle.std.specs.Prelude.{◌≡◌, length, option_and_then, if◌the
 ghost use Rattle.std.specs.Option.{option_copied};
 ghost use Rattle.ms_ir.specs.declared.syntax.Ty as type;
 ghost use Rattle.ms_ir.specs.{Layout.{resolved}, Equal.{type_eq}};
-ghost use Rattle.ms_valid.specs.TypesAgree.{first_misstep, constant_indices};
+ghost use Rattle.ms_check_valid.specs.TypesAgree.{first_misstep, constant_indices};
 ghost use Rattle.ms_check_types.specs.Parts.{constant_of, field_at, part_by};
 
 use crate::symbols::Symbols;

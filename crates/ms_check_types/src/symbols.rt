@@ -4,14 +4,14 @@ ghost use Rattle.ms_ir.specs.declared.syntax.Ty as type;
 ghost use Rattle.ms_ir.specs.{Layout.{resolved}, Locals.{type_names, global_names}, Names.{lookup}};
 ghost use Rattle.ms_ir.specs.Signatures.{signature_of};
 ghost use Rattle.ms_ir.specs.declared.syntax.Operand.TheVariants as operand;
-ghost use Rattle.ms_valid.specs.TypesAgree.{is_variable, is_printf, is_start, is_create};
+ghost use Rattle.ms_check_valid.specs.TypesAgree.{is_variable, is_printf, is_start, is_create};
 ghost use Rattle.ms_check_types.specs.Callees.{callee_signature};
 
-use crate::callees::{Callee, Callees, takes_pointer};
+use crate::callees::{Callee, FuncTable, takes_pointer};
 use crate::rows::row_of;
 use ms_bits::NoMemory;
+use ms_check_tables::{NameTable, globals_of, types_of};
 use ms_ir::{Module, Name, Ty};
-use ms_tables::{NameTable, globals_of, types_of};
 use std::alloc::Global;
 
 /// The names of a module's types, and those of its globals.
@@ -33,19 +33,19 @@ pub struct Symbols<'m> {
     pub source: &'m Module,
     types: NameTable<'m>,
     globals: NameTable<'m>,
-    callees: Callees<'m>,
+    callees: FuncTable<'m>,
     ghost types_are: { types ≡ type_names source.now },
     ghost globals_are: { globals ≡ global_names source.now },
     ghost callees_are: { callees.source.now ≡ source.now },
 }
 
 impl<'m> Symbols<'m> {
-    /// The symbols of a module. The one error is running out of memory.
+    /// The symbols of a module.
     pub fn of(alloc: Global, m: &'m Module) -> Result<Symbols<'m>, NoMemory>
         ensures { IfOk result (λ symbols. symbols.source.now ≡ m.now) }
     {
         let (types, globals) = names_of_types_and_globals(alloc, m)?;
-        let callees = Callees::of(alloc, m)?;
+        let callees = FuncTable::of(alloc, m)?;
         Ok(Symbols {
             source: m,
             types,

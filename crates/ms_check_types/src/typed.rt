@@ -4,8 +4,8 @@ ghost use Rattle.ms_ir.specs.{Names.{lookup}, ValueTypes.{type_of}};
 
 use crate::rows::row_of;
 use ms_bits::NoMemory;
+use ms_check_tables::NameTable;
 use ms_ir::{Name, ValueType};
-use ms_tables::NameTable;
 use std::alloc::Global;
 use std::marker::Model;
 
@@ -52,7 +52,7 @@ impl<'m> TypedNames<'m> {
         }
     }
 
-    /// Appends a name with its type. The one error is running out of memory, where nothing changes.
+    /// Appends a name with its type. Where memory runs out nothing changes.
     pub fn push(&mut self, name: &'m Name, ty: ValueType<'m>) -> Result<(), NoMemory>
         ensures pushed { IfOk result (λ _. self.new ≡ self.old ++ (name.now, type_of ty.entry) ∷ []) }
         ensures err { OnErr result (self.new ≡ self.old) }

@@ -5,8 +5,8 @@ ghost use Rattle.ms_check_types.specs.SizedParts.{has_sizes, is_step_sized, is_t
 
 use crate::parts::has_sizes;
 use ms_bits::List;
+use ms_check_tables::Extents;
 use ms_ir::{Init, Operand, Ty, ValueType};
-use ms_tables::Extents;
 
 /// Whether the types that an operand names by itself have sizes.
 pub fn is_operand_sized(extents: &Extents, operand: &Operand) -> bool

@@ -6,7 +6,7 @@ ghost use Rattle.ms_corpus.specs.Jobs.{with_input, input_of};
 
 use ms_bits::{Bytes, Duplicate, List, NoMemory};
 use ms_check::CheckedModule;
-use ms_fork::{Cuts, Gate, Work, by_halves};
+use ms_fork::{Gate, Split, Work, parallel_map};
 use ms_runs::{RunResult, Setup};
 use ms_runtime::run;
 use std::alloc::Global;
@@ -14,13 +14,13 @@ use std::thread::Threads;
 
 /// What the jobs share, to read alone.
 #[derive(Drop)]
-struct Jobs<'a> {
+struct InputRuns<'a> {
     module: &'a CheckedModule,
     inputs: &'a [Bytes],
     setup: &'a Setup,
 }
 
-impl<'a> Jobs<'a> {
+impl<'a> InputRuns<'a> {
     /// What the run on an input is given.
     fn setup_of(&self, alloc: Global, input: &Bytes) -> Result<Setup, NoMemory>
         ensures { IfOk result (λ s. s ≡ with_input self.now.setup.now input.now) }
@@ -34,7 +34,7 @@ impl<'a> Jobs<'a> {
     }
 }
 
-impl<'a> Work for Jobs<'a> {
+impl<'a> Work for InputRuns<'a> {
     type Item = RunResult;
 
     ghost can = { λ work k. (k < length work.inputs.now) × (is_threaded work.module.now ≡ false) × WithinLimits (with_input work.setup.now (input_of work.inputs.now k)) };
@@ -51,8 +51,7 @@ impl<'a> Work for Jobs<'a> {
 /// what each run alone gives, in the order of the inputs, for every number of workers and every gate.
 ///
 /// Each job enters the gate with its number, counted from 0, before it does anything else. The list is cut in halves, and at
-/// most `workers` threads are at work at once; where no thread can be made, jobs run one after another. The one error is want
-/// of memory, in any job.
+/// most `workers` threads are at work at once; where no thread can be made, jobs run one after another.
 pub fn run_all<R: Threads + Sync, G: Gate + Sync>(
     rt: &R,
     alloc: Global,
@@ -67,14 +66,14 @@ pub fn run_all<R: Threads + Sync, G: Gate + Sync>(
     requires alone { is_threaded j.now ≡ false }
     ensures { IfOk result (λ all. all ≡ map (λ input. plain j.now (with_input setup.now input)) inputs.now) }
 {
-    let work = Jobs {
+    let work = InputRuns {
         module: j,
         inputs,
         setup,
     };
-    let cuts = Cuts {
+    let split = Split {
         most: 1,
         threads: usize::from(workers),
     };
-    by_halves(rt, alloc, &work, inputs.len(), cuts, gate)
+    parallel_map(rt, alloc, &work, inputs.len(), split, gate)
 }

@@ -105,7 +105,7 @@ impl Depot {
         })
     }
 
-    /// The origins from `id` to its root; none where `entry` gives `None`. The one error is running out of memory.
+    /// The origins from `id` to its root; none where `entry` gives `None`.
     pub fn trail(&self, id: u32) -> Result<List<Origin>, NoMemory>
         ensures { (setting : Setting) (world : World) → setting.roots ≡ self.now.roots → world.pairs ≡ self.now.pairs → IfOk result (λ way. way ≡ trail_of setting world id) }
     {
@@ -121,7 +121,7 @@ impl Depot {
     /// The number of the pair of `old` and `site`, which is made where it doesn't stand yet; `old` itself where it
     /// is neither a root nor a pair, is as deep as origins go, or as many pairs stand as may.
     ///
-    /// The one error is running out of memory, after which the pairs are as before.
+    /// Where memory runs out the pairs are as before.
     pub fn chain(&mut self, old: u32, site: u32) -> Result<u32, NoMemory>
         ensures chained { (setting : Setting) (world : World) → setting.roots ≡ self.old.roots → world.pairs ≡ self.old.pairs → IfOk result (λ id. IsChained setting world old site id self.new) }
         ensures roots { self.new.roots ≡ self.old.roots }

@@ -8,9 +8,9 @@ use Rattle.ms_ir.specs.declared.syntax.Func.{Func}
 use Rattle.ms_ir.specs.declared.syntax.Module.{Module}
 use Rattle.ms_ir.specs.Instructions.{func_at}
 use Rattle.ms_ir.specs.Equal.{has_name}
-use Rattle.ms_valid.specs.CleanValues.{IsClean}
+use Rattle.ms_check_valid.specs.CleanValues.{IsClean}
 use Rattle.ms_elide.specs.CleanSets.{is_in, IsExact}
-use Rattle.ms_good_laws.proofs.Starts.{place_within}
+use Rattle.ms_runs_good_laws.proofs.Starts.{place_within}
 
 pub there : {A : Type 0} (xs : List A) (k : ℕ) (x : A) → k < length xs → x ≡ get_or xs k x → slice_get xs k ≡ Some x
 there [] k x lt e = absurd (omega arith)

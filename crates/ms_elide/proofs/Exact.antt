@@ -13,13 +13,13 @@ use Rattle.ms_ir.specs.Instructions.{func_index}
 use Rattle.ms_ir.specs.Equal.{has_name}
 use Rattle.ms_ir.specs.Locals.{locals, results, func_insts, function_names}
 use Rattle.ms_ir.proofs.RootKinds.{name_same as name_sound}
-use Rattle.ms_valid.specs.NamesOnce.{repeats}
-use Rattle.ms_valid.specs.CleanValues.{makes_clean, gives_name, Supported, IsClean}
-use Rattle.ms_valid.proofs.NameTests.{name_same}
-use Rattle.ms_tables.specs.FirstPlace.{first_place}
-use Rattle.ms_tables.proofs.Once.{place_once}
-use Rattle.ms_tables.proofs.Places.{place_holds}
-use Rattle.ms_tables.proofs.Tied.{func_index_is}
+use Rattle.ms_check_valid.specs.NamesOnce.{repeats}
+use Rattle.ms_check_valid.specs.CleanValues.{makes_clean, gives_name, Supported, IsClean}
+use Rattle.ms_check_valid.proofs.NameTests.{name_same}
+use Rattle.ms_check_tables.specs.FirstPlace.{first_place}
+use Rattle.ms_check_tables.proofs.Once.{place_once}
+use Rattle.ms_check_tables.proofs.Places.{place_holds}
+use Rattle.ms_check_tables.proofs.Tied.{func_index_is}
 use Rattle.ms_elide.specs.SelfSupport.{Entries, listed, can_be, Needs, IsSelfSupporting, IsInGreatest}
 use Rattle.ms_elide.specs.Needed.{Row, rows, row_needs, op_needs, is_member}
 use Rattle.ms_elide.proofs.Needed.{Met, op_found, op_met}

@@ -18,7 +18,7 @@ use Rattle.ms_ir.specs.declared.calls.External.{External}
 use Rattle.ms_ir.specs.declared.calls.External.TheVariants.{Word}
 use Rattle.ms_ir.specs.Names.{externals, lookup}
 use Rattle.ms_ir.specs.Instructions.{operands, func_index, external_named}
-use Rattle.ms_valid.specs.CleanValues.{is_clean_operand, is_division, answers_clean, makes_clean}
+use Rattle.ms_check_valid.specs.CleanValues.{is_clean_operand, is_division, answers_clean, makes_clean}
 use Rattle.ms_elide.specs.Needed.{Needs, operand_needs, both_needs, all_needs, premises, answer_premises, op_needs}
 
 -- the operands that are looked at are clean

@@ -15,7 +15,7 @@ use Rattle.ms_ir.specs.declared.syntax.Func.{Func}
 use Rattle.ms_ir.specs.Names.{name_eq}
 use Rattle.ms_ir.specs.Equal.{has_name}
 use Rattle.ms_ir.specs.Locals.{results, block_locals, locals, func_insts}
-use Rattle.ms_valid.specs.CleanValues.{gives_name}
+use Rattle.ms_check_valid.specs.CleanValues.{gives_name}
 use Rattle.ms_elide.specs.Needed.{Row, result_rows, block_rows, rows}
 
 -- ---- names

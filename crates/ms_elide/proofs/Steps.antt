@@ -11,7 +11,7 @@ use Rattle.ms_ir.specs.declared.syntax.Name.{Name}
 use Rattle.ms_ir.specs.declared.syntax.Operand.{Operand}
 use Rattle.ms_ir.specs.declared.syntax.Func.{Func}
 use Rattle.ms_ir.proofs.RootKinds.{one_more}
-use Rattle.ms_tables.proofs.Items.{take_item}
+use Rattle.ms_check_tables.proofs.Items.{take_item}
 use Rattle.ms_elide.specs.Needed.{Needs, operand_needs, operand_needs_at, both_needs, all_needs, Row, row_needs, block_rows, rows}
 
 both_assoc : (a b c : Needs) → both_needs a (both_needs b c) ≡ both_needs (both_needs a b) c

@@ -10,8 +10,8 @@ use Rattle.ms_ir.specs.declared.syntax.Op.{Op}
 use Rattle.ms_ir.specs.declared.syntax.Func.{Func}
 use Rattle.ms_ir.specs.Instructions.{operands}
 use Rattle.ms_ir.specs.Locals.{locals}
-use Rattle.ms_tables.specs.FirstPlace.{first_place}
-use Rattle.ms_tables.proofs.Places.{place_below}
+use Rattle.ms_check_tables.specs.FirstPlace.{first_place}
+use Rattle.ms_check_tables.proofs.Places.{place_below}
 use Rattle.ms_elide.specs.SelfSupport.{Entries, listed, StaysWithin}
 use Rattle.ms_elide.proofs.RemovalLists.{Contains_none}
 use Rattle.ms_elide.specs.Needed.{Needs, Row, operand_needs, both_needs, all_needs, premises, op_needs, row_needs, rows}

@@ -6,7 +6,7 @@ use Rattle.ms_ir.specs.declared.syntax.Module.{Module}
 use Rattle.ms_ir.specs.Instructions.{func_at}
 use Rattle.ms_ir.specs.Equal.{has_name}
 use Rattle.ms_ir.specs.Locals.{function_names}
-use Rattle.ms_valid.specs.CleanValues.{IsClean}
+use Rattle.ms_check_valid.specs.CleanValues.{IsClean}
 
 -- the value x of the function k is in the set, which has a list of names for each function
 abbrev pub is_in : List (List Name) → ℕ → Name → Bool

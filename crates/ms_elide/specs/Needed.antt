@@ -13,8 +13,8 @@ use Rattle.ms_ir.specs.declared.syntax.Inst.{Inst}
 use Rattle.ms_ir.specs.declared.syntax.Block.{Block}
 use Rattle.ms_ir.specs.declared.syntax.Func.{Func}
 use Rattle.ms_ir.specs.Instructions.{operands, external_named}
-use Rattle.ms_tables.specs.FirstPlace.{first_place}
-use Rattle.ms_valid.specs.CleanValues.{is_division}
+use Rattle.ms_check_tables.specs.FirstPlace.{first_place}
+use Rattle.ms_check_valid.specs.CleanValues.{is_division}
 use Rattle.ms_elide.specs.declared.needs.Need.{Need}
 use Rattle.ms_elide.specs.declared.needs.Need.TheVariants.{Nothing, Local, Never}
 

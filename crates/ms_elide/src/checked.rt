@@ -7,11 +7,11 @@ use ms_bits::NoMemory;
 use ms_check::CheckedModule;
 use std::alloc::Global;
 
-/// The clean values of a checked module, as `clean_values` gives them. The one error is running out of memory.
+/// The clean values of a checked module, as `clean_values` gives them.
 pub fn clean(alloc: Global, m: &CheckedModule) -> Result<CleanSet<'_>, NoMemory>
     ensures functions { IfOk result (λ s. length s ≡ length m.now.funcs) }
     ensures exact { IfOk result (λ s. IsExact m.now s) }
 {
-    m.is_valid();
+    m.law_valid();
     clean_values(alloc, m.module())
 }

@@ -1,14 +1,14 @@
 //! What has to be clean so that a function's results are.
 ghost use Rattle.std.specs.Prelude.{◌≡◌, ◌++◌, map, take, option_to_list, slice_get, IfOk, OnOk};
 ghost use Rattle.ms_ir.specs.Instructions.{operands};
-ghost use Rattle.ms_tables.specs.FirstPlace.{first_place};
+ghost use Rattle.ms_check_tables.specs.FirstPlace.{first_place};
 ghost use Rattle.ms_elide.specs.Needed.{needed, operand_needs, operand_needs_at, all_needs, op_needs, row_needs, result_row, result_rows, block_rows, rows};
 
 use crate::premises::premises;
 use crate::scopes::FuncNames;
 use ms_bits::{List, NoMemory};
+use ms_check_tables::NameTable;
 use ms_ir::{Block, Func, Inst, Op, Operand};
-use ms_tables::NameTable;
 use std::alloc::Global;
 
 /// What has to be clean so that an operand is.

@@ -1,13 +1,13 @@
 //! Which operands decide whether a result is clean.
 ghost use Rattle.std.specs.Prelude.{◌≡◌, if◌then◌else◌};
 ghost use Rattle.ms_ir.specs.Instructions.{external_named};
-ghost use Rattle.ms_tables.specs.FirstPlace.{first_place};
-ghost use Rattle.ms_valid.specs.CleanValues.{is_division};
+ghost use Rattle.ms_check_tables.specs.FirstPlace.{first_place};
+ghost use Rattle.ms_check_valid.specs.CleanValues.{is_division};
 ghost use Rattle.ms_elide.specs.Needed.{premises, answer_premises};
 
 use ms_bits::BinOp;
+use ms_check_tables::NameTable;
 use ms_ir::{External, Name, Op, Operand, Ty};
-use ms_tables::NameTable;
 
 /// How many operands of an arithmetic or bitwise operation decide: of a division or a remainder the dividend alone, since
 /// a divisor that has a poisoned bit ends the run before there is a result.

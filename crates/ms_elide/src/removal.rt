@@ -6,9 +6,8 @@ use crate::users::Users;
 use ms_bits::{List, NoMemory};
 use std::alloc::Global;
 
-/// For each item, whether it is in the greatest set whose members support each other. An entry has the items that are
-/// members wherever its own is one, and an item without an entry is no member. The time is linear in what the entries
-/// have. The one error is running out of memory.
+/// For each item, whether it is in the greatest set whose members support each other. An entry has the items that are members
+/// wherever its own is one, and an item without an entry is no member. The time is linear in what the entries have.
 pub fn greatest(alloc: Global, needs: &[Option<List<usize>>]) -> Result<List<bool>, NoMemory>
     requires { StaysWithin needs.now }
     ensures len { IfOk result (λ members. length members ≡ length needs.now) }

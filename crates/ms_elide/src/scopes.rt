@@ -1,6 +1,6 @@
 //! What is looked up in a function.
 
-use ms_tables::NameTable;
+use ms_check_tables::NameTable;
 
 /// What is looked up in a module and in a function: the names of the module's functions, and those of the function's
 /// parameters, blocks and results, by whose places they are numbered.

@@ -1,13 +1,13 @@
 //! The clean values of a module.
 ghost use Rattle.std.specs.Prelude.{◌≡◌, ◌<◌, [], length, IfOk, OnOk, slice_index_or};
 ghost use Rattle.ms_ir.specs.Locals.{function_names, locals};
-ghost use Rattle.ms_valid.specs.{NamesOnce.{repeats}, Valid.{Valid}};
+ghost use Rattle.ms_check_valid.specs.{NamesOnce.{repeats}, Valid.{Valid}};
 ghost use Rattle.ms_elide.specs.CleanSets.{is_in, HasMore, IsExact};
 
 use crate::values::values_of;
 use ms_bits::NoMemory;
+use ms_check_tables::{NameTable, functions_of};
 use ms_ir::{Func, Module, Name};
-use ms_tables::{NameTable, functions_of};
 use std::alloc::Global;
 use std::marker::Model;
 
@@ -56,7 +56,7 @@ impl<'m> CleanSet<'m> {
 }
 
 /// The clean values of a valid module: its results that have no poisoned bit in any run, as far as the text of their
-/// functions shows. Near to linear in the module. The one error is running out of memory.
+/// functions shows. Near to linear in the module.
 pub fn clean_values(alloc: Global, m: &Module) -> Result<CleanSet<'_>, NoMemory>
     requires { Valid m.now }
     ensures functions { IfOk result (λ s. length s ≡ length m.now.funcs) }

@@ -81,7 +81,7 @@ impl Users {
         Ok(users)
     }
 
-    /// Those that need an item.
+    /// The users of an item: those that need it.
     pub fn at(&self, item: usize) -> &[usize]
         requires { item < length self.now }
         ensures { result.now ≡ slice_index_or self.now item [] }

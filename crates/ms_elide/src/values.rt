@@ -2,16 +2,16 @@
 ghost use Rattle.std.specs.Prelude.{◌≡◌, ◌++◌, ◌↔◌, ℕ, [], false, IfOk, IsTrue, OnOk, filter, map, option_to_list, slice_index_or};
 ghost use Rattle.ms_ir.specs.{declared.syntax.Name.{Name as NameOf}, declared.syntax.Module.{Module}, Equal.{has_name}};
 ghost use Rattle.ms_ir.specs.Locals.{locals, results, func_insts, function_names};
-ghost use Rattle.ms_valid.specs.{NamesOnce.{repeats}, CleanValues.{IsClean}};
-ghost use Rattle.ms_tables.specs.FirstPlace.{first_place};
+ghost use Rattle.ms_check_valid.specs.{NamesOnce.{repeats}, CleanValues.{IsClean}};
+ghost use Rattle.ms_check_tables.specs.FirstPlace.{first_place};
 ghost use Rattle.ms_elide.specs.{SelfSupport.{IsInGreatest}, Needed.{is_member, row_needs, rows}};
 
 use crate::needs::needs_of;
 use crate::removal::greatest;
 use crate::scopes::FuncNames;
 use ms_bits::{List, NoMemory};
+use ms_check_tables::{NameTable, locals_of};
 use ms_ir::{Block, Func, Inst, Name};
-use ms_tables::{NameTable, locals_of};
 use std::alloc::Global;
 
 /// Whether the local with a name is among the members, by places.
@@ -72,7 +72,7 @@ fn members_of<'m>(
     Ok(names)
 }
 
-/// Whether each local of a function is clean, by their places. The one error is running out of memory.
+/// Whether each local of a function is clean, by their places.
 fn clean_places(
     alloc: Global,
     scope: &FuncNames<'_, '_>,
@@ -85,7 +85,7 @@ fn clean_places(
     greatest(alloc, &needs)
 }
 
-/// The names of the clean values of a function. The one error is running out of memory.
+/// The names of the clean values of a function.
 pub fn values_of<'m>(
     alloc: Global,
     functions: &NameTable<'m>,

@@ -5,7 +5,7 @@
 //! of a word each, and the words of the blocks grow until no edge adds to them.
 #![tactic(auto)]
 
-mod answers;
+mod dataflow;
 mod definitions;
 mod graphs;
 mod orders;
@@ -15,5 +15,5 @@ mod spread;
 mod trails;
 mod visits;
 
-pub use answers::missing;
+pub use dataflow::missing;
 pub use graphs::{Graph, Missing, Use};

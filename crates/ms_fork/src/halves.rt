@@ -13,21 +13,21 @@ pub trait Work {
     /// What is made for one number.
     type Item;
 
-    /// It can be made for this number.
+    /// The numbers for which an item can be made.
     ghost can: { Self → ℕ → Type 0 };
 
     /// What is made for this number.
     ghost answer: { Self → ℕ → Self.Item };
 
-    /// Makes the item of a number. The one error is running out of memory.
+    /// Makes the item of a number.
     fn make(&self, alloc: Global, index: usize) -> Result<Self::Item, NoMemory>
         requires { can self.now index }
         ensures { IfOk result (λ item. item ≡ answer self.now index) };
 }
 
-/// How a list is cut, and by how many threads it is made.
+/// How the work on a list is split.
 #[derive(Clone, Copy, Debug, Drop)]
-pub struct Cuts {
+pub struct Split {
     /// A part of no more items is a piece.
     pub most: usize,
     /// So many threads at most are at work at once, and at least one.
@@ -35,7 +35,7 @@ pub struct Cuts {
 }
 
 /// A piece: the items of `count` numbers from `from` on, one after another.
-fn in_turn<W: Work<Item = T>, T: Drop, G: Gate>(
+fn map_piece<W: Work<Item = T>, T: Drop, G: Gate>(
     alloc: Global,
     work: &W,
     gate: &G,
@@ -56,7 +56,7 @@ fn in_turn<W: Work<Item = T>, T: Drop, G: Gate>(
 
 /// The items of `count` numbers from `from` on, cut in halves until each part is a piece.
 #[cycle(halves)]
-fn cut<R: Threads + Sync, W: Work<Item = T> + Sync, T: Send + Drop, G: Gate + Sync>(
+fn map_range<R: Threads + Sync, W: Work<Item = T> + Sync, T: Send + Drop, G: Gate + Sync>(
     rt: &R,
     alloc: Global,
     work: &W,
@@ -71,7 +71,7 @@ fn cut<R: Threads + Sync, W: Work<Item = T> + Sync, T: Send + Drop, G: Gate + Sy
     ensures { IfOk result (λ all. all.items ≡ map (W.answer work.now) (range_with_len from count)) }
 {
     if count <= most || count < 2 {
-        return in_turn(alloc, work, gate, from, count);
+        return map_piece(alloc, work, gate, from, count);
     }
     if threads < 2 {
         return half_by_half(rt, alloc, work, gate, most, from, count);
@@ -96,8 +96,8 @@ fn half_by_half<R: Threads + Sync, W: Work<Item = T> + Sync, T: Send + Drop, G: 
     ensures { IfOk result (λ all. all.items ≡ map (W.answer work.now) (range_with_len from count)) }
 {
     let low = count / 2;
-    let mut all = cut(rt, alloc, work, gate, most, from, low, 1)?;
-    let mut rest = cut(rt, alloc, work, gate, most, from + low, count - low, 1)?;
+    let mut all = map_range(rt, alloc, work, gate, most, from, low, 1)?;
+    let mut rest = map_range(rt, alloc, work, gate, most, from + low, count - low, 1)?;
     all.append(&mut rest)?;
     Ok(all)
 }
@@ -128,11 +128,11 @@ fn fork<R: Threads + Sync, W: Work<Item = T> + Sync, T: Send + Drop, G: Gate + S
     let front = move || -> Result<Vec<T>, NoMemory>
         requires { IsSync R.row × IsSync W.row × IsSync G.row × IsSend T.row × (0 < low) × (from + low < 2 ^ 64) × ((i : ℕ) → from ≤ i → i < from + low → W.can work.now i) }
         ensures { IfOk result (λ all. all.items ≡ map (W.answer work.entry.now) (range_with_len from low)) }
-    { cut(rt, alloc, work, gate, most, from, low, more) };
+    { map_range(rt, alloc, work, gate, most, from, low, more) };
     let back = move || -> Result<Vec<T>, NoMemory>
         requires { IsSync R.row × IsSync W.row × IsSync G.row × IsSend T.row × (0 < high) × (up + high < 2 ^ 64) × ((i : ℕ) → up ≤ i → i < up + high → W.can work.now i) }
         ensures { IfOk result (λ all. all.items ≡ map (W.answer work.entry.now) (range_with_len up high)) }
-    { cut(rt, alloc, work, gate, most, up, high, few) };
+    { map_range(rt, alloc, work, gate, most, up, high, few) };
     let (second, first) = join(rt, back, front);
     let mut all = first?;
     let mut rest = second?;
@@ -144,14 +144,13 @@ fn fork<R: Threads + Sync, W: Work<Item = T> + Sync, T: Send + Drop, G: Gate + S
 ///
 /// A list of more than `most` items is cut in halves, and so is each half again. As long as there are threads left, the
 /// second half goes to a thread of its own where one can be made; where none can, it is made after the first. Each piece
-/// enters the gate with its first number before it does anything else; an empty list has no piece. The one error is running out of
-/// memory, in any piece.
-pub fn by_halves<R: Threads + Sync, W: Work<Item = T> + Sync, T: Send + Drop, G: Gate + Sync>(
+/// enters the gate with its first number before it does anything else; an empty list has no piece.
+pub fn parallel_map<R: Threads + Sync, W: Work<Item = T> + Sync, T: Send + Drop, G: Gate + Sync>(
     rt: &R,
     alloc: Global,
     work: &W,
     count: usize,
-    cuts: Cuts,
+    split: Split,
     gate: &G,
 ) -> Result<List<T>, NoMemory>
     requires { (i : ℕ) → i < count → W.can work.now i }
@@ -160,6 +159,6 @@ pub fn by_halves<R: Threads + Sync, W: Work<Item = T> + Sync, T: Send + Drop, G:
     if count == 0 {
         return Ok(List::from_vec(Vec::new(alloc)));
     }
-    let all = cut(rt, alloc, work, gate, cuts.most, 0, count, cuts.threads)?;
+    let all = map_range(rt, alloc, work, gate, split.most, 0, count, split.threads)?;
     Ok(List::from_vec(all))
 }

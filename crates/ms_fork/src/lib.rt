@@ -5,4 +5,4 @@ mod gates;
 mod halves;
 
 pub use gates::{Gate, OpenGate};
-pub use halves::{Cuts, Work, by_halves};
+pub use halves::{Split, Work, parallel_map};

@@ -17,8 +17,8 @@ use Rattle.ms_ir.specs.Signatures.{Signature, func_signature, defined_signature,
 use Rattle.ms_ir.specs.Builders.{i32}
 use Rattle.ms_ir.specs.Declarations.{putchar}
 use Rattle.ms_ir.specs.declared.syntax.Operand.{Operand}
-use Rattle.ms_valid.specs.ExternalsFit.{flag_fits}
-use Rattle.ms_valid.proofs.NameTests.{name_same}
+use Rattle.ms_check_valid.specs.ExternalsFit.{flag_fits}
+use Rattle.ms_check_valid.proofs.NameTests.{name_same}
 use Rattle.ms_gen.specs.Generator.{name_of, function_of, state_after, main_of, generated}
 
 -- a function that takes a word of 32 bits and answers one

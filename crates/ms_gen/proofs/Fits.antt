@@ -10,15 +10,15 @@ use Rattle.ms_ir.specs.Spots.{Spot, over_block_spots}
 use Rattle.ms_ir.specs.Written.{mentions}
 use Rattle.ms_ir.specs.Declarations.{putchar}
 use Rattle.ms_ir.specs.Builders.{int, local}
-use Rattle.ms_valid.specs.NamesOnce.{percent_sign, repeats}
-use Rattle.ms_valid.specs.NamesKnown.{unknown_of}
-use Rattle.ms_valid.specs.TypesAgree.{operand_fits, op_fault, at_site}
-use Rattle.ms_valid.specs.PhisFit.{edges_fit}
-use Rattle.ms_valid.specs.ExternalsFit.{flagged_callees}
-use Rattle.ms_valid.specs.UsesDefined.{SiteUse, IsUseDefined, inst_uses}
-use Rattle.ms_valid.specs.MarksFit.{mark_fits}
-use Rattle.ms_valid.specs.SizesFit.{sized, func_types}
-use Rattle.ms_valid.proofs.TestedPaths.{all_passed}
+use Rattle.ms_check_valid.specs.NamesOnce.{percent_sign, repeats}
+use Rattle.ms_check_valid.specs.NamesKnown.{unknown_of}
+use Rattle.ms_check_valid.specs.TypesAgree.{operand_fits, op_fault, at_site}
+use Rattle.ms_check_valid.specs.PhisFit.{edges_fit}
+use Rattle.ms_check_valid.specs.ExternalsFit.{flagged_callees}
+use Rattle.ms_check_valid.specs.UsesDefined.{SiteUse, IsUseDefined, inst_uses}
+use Rattle.ms_check_valid.specs.MarksFit.{mark_fits}
+use Rattle.ms_check_valid.specs.SizesFit.{sized, func_types}
+use Rattle.ms_check_valid.proofs.TestedPaths.{all_passed}
 use Rattle.ms_gen.specs.Generator.{function_of, name_of, operations, main_of}
 use Rattle.ms_gen.proofs.Callable.{IsCallable}
 

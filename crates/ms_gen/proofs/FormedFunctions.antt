@@ -10,10 +10,10 @@ use Rattle.ms_ir.specs.Names.{is_reserved}
 use Rattle.ms_ir.specs.Instructions.{operands, over_blocks}
 use Rattle.ms_ir.specs.Locals.{locals}
 use Rattle.ms_ir.specs.Builders.{block}
-use Rattle.ms_valid.specs.FormedNames.{are_numbered}
-use Rattle.ms_valid.specs.FormedCode.{inst_formed, is_body}
-use Rattle.ms_valid.specs.Formed.{block_formed, func_formed, count_written}
-use Rattle.ms_valid.specs.ReadLimits.{func_names}
+use Rattle.ms_check_valid.specs.FormedNames.{are_numbered}
+use Rattle.ms_check_valid.specs.FormedCode.{inst_formed, is_body}
+use Rattle.ms_check_valid.specs.Formed.{block_formed, func_formed, count_written}
+use Rattle.ms_check_valid.specs.ReadLimits.{func_names}
 use Rattle.ms_gen.specs.Generator.{function_of, main_of, operation_on, operations, ending, body_of, draw, state_after}
 use Rattle.ms_gen.proofs.Names.{name_is_global}
 

@@ -16,15 +16,15 @@ use Rattle.ms_ir.specs.Instructions.{operands}
 use Rattle.ms_ir.specs.Equal.{has_name}
 use Rattle.ms_ir.specs.Spots.{found}
 use Rattle.ms_ir.specs.Declarations.{putchar}
-use Rattle.ms_valid.specs.Formed.{Formed, func_formed, count_written}
-use Rattle.ms_valid.specs.HasMain.{is_main}
-use Rattle.ms_valid.specs.ExternalsFit.{name_unless, decl_fits, called_names, flagged_callees}
-use Rattle.ms_valid.specs.ReadLimits.{func_names}
-use Rattle.ms_valid.specs.SizesFit.{sized, func_types, spelled_unless}
-use Rattle.ms_valid.specs.Uninstrumented.{CanInstrument}
-use Rattle.ms_valid.specs.UsesDefined.{IsUseDefined}
-use Rattle.ms_valid.specs.Valid.{Valid}
-use Rattle.ms_valid.proofs.TypedValues.{or_true}
+use Rattle.ms_check_valid.specs.Formed.{Formed, func_formed, count_written}
+use Rattle.ms_check_valid.specs.HasMain.{is_main}
+use Rattle.ms_check_valid.specs.ExternalsFit.{name_unless, decl_fits, called_names, flagged_callees}
+use Rattle.ms_check_valid.specs.ReadLimits.{func_names}
+use Rattle.ms_check_valid.specs.SizesFit.{sized, func_types, spelled_unless}
+use Rattle.ms_check_valid.specs.Uninstrumented.{CanInstrument}
+use Rattle.ms_check_valid.specs.UsesDefined.{IsUseDefined}
+use Rattle.ms_check_valid.specs.Valid.{Valid}
+use Rattle.ms_check_valid.proofs.TypedValues.{or_true}
 use Rattle.ms_gen.specs.Generator.{operations, function_of, state_after, functions_of, main_of, generated}
 use Rattle.ms_gen.proofs.Callable.{function_callable, putchar_callable}
 use Rattle.ms_gen.proofs.Fits.{Fits, first_fits, later_fits, main_fits, unknown_at, mismatch_at, bad_edge_at, bad_mark_at, uses_at}

@@ -10,7 +10,7 @@ use Rattle.ms_ir.specs.declared.syntax.Name.{Name}
 use Rattle.ms_ir.specs.declared.syntax.Name.TheVariants.{Number, Text}
 use Rattle.ms_ir.specs.Names.{name_eq}
 use Rattle.ms_ir.proofs.RootKinds.{name_same}
-use Rattle.ms_valid.specs.FormedNames.{are_bytes, is_global_name}
+use Rattle.ms_check_valid.specs.FormedNames.{are_bytes, is_global_name}
 use Rattle.ms_gen.specs.Generator.{name_of}
 
 -- the bytes of a name that is a text

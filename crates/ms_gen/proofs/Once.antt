@@ -8,7 +8,7 @@ use Rattle.ms_ir.specs.Names.{main_name}
 use Rattle.ms_ir.specs.Equal.{has_name}
 use Rattle.ms_ir.specs.Declarations.{putchar}
 use Rattle.ms_ir.specs.Locals.{locals}
-use Rattle.ms_valid.specs.NamesOnce.{at_sign, percent_sign, repeats, function_duplicates, duplicates}
+use Rattle.ms_check_valid.specs.NamesOnce.{at_sign, percent_sign, repeats, function_duplicates, duplicates}
 use Rattle.ms_gen.specs.Generator.{name_of, operations, function_of, state_after, main_of, generated}
 use Rattle.ms_gen.proofs.Names.{names_differ}
 

@@ -1,4 +1,4 @@
--- Lists that are made step by step, and the states of draws behind the steps.
+-- Lists that are made step by step, and the states of draws after the steps.
 use Rattle.std.proofs.Common.{◌≡◌, ◌∙◌, ◌+◌, ◌*◌, ◌++◌, ℕ, zero, suc, List, [], ◌∷◌, map, sym, ap, append_assoc, arith}
 use Rattle.std.specs.Fn.{iterate}
 use Rattle.std.specs.List.{range_with_len}

@@ -1,7 +1,7 @@
 //! Generated modules.
 ghost use Rattle.std.specs.Prelude.{◌≡◌, ◌<◌, ◌≤◌, ◌-◌, ◌++◌, [], ◌∷◌, OnOk, IfOk};
 ghost use Rattle.ms_ir.specs.{Builders.{local, int, sets, calls}, Declarations.{putchar as putchar_decl}};
-ghost use Rattle.ms_valid.specs.{Formed.{Formed}, Valid.{Valid}, Uninstrumented.{CanInstrument}};
+ghost use Rattle.ms_check_valid.specs.{Formed.{Formed}, Valid.{Valid}, Uninstrumented.{CanInstrument}};
 ghost use Rattle.ms_gen.specs.Generator.{call_of, functions_of, main_of, main_body_of, generated};
 
 use crate::draws::Draws;
@@ -116,8 +116,6 @@ fn all_functions(alloc: Global, seed: u64, functions: u32) -> Result<Vec<Func>, 
 /// carries out eight operations on it that are drawn from the seed, and calls the function before it, if there is one.
 /// `main` calls the last function with the number 1, and prints what it gives by `putchar`. The module has
 /// `13 * functions + 2` instructions; it is formed and valid, and can be instrumented.
-///
-/// The one error is running out of memory.
 pub fn generate(alloc: Global, seed: u64, functions: u32) -> Result<Module, NoMemory>
     requires some { 0 < functions }
     requires limit { functions ≤ 1000 }

@@ -14,7 +14,7 @@ use Rattle.ms_ir.specs.Layout.{Types, size_of, size_in}
 use Rattle.ms_runs.specs.World.{World}
 use Rattle.ms_runs.specs.Memory.{fits, next_base, make}
 use Rattle.ms_runs.specs.Globals.{constant, write_init, make_globals}
-use Rattle.ms_code.specs.Constants.{init_constants, global_constants, globals_constants}
+use Rattle.ms_machine_code.specs.Constants.{init_constants, global_constants, globals_constants}
 use Rattle.ms_host.specs.State.{WorldState, Beside}
 use Rattle.ms_host.specs.Shows.{Shows, Cleared}
 use Rattle.ms_host.specs.Initial.{init_sized, make_global, global_sized, globals_sized, global_fits, globals_fit, WritesInit, MakesGlobal, MakesGlobals, PassesLimit}

@@ -13,8 +13,8 @@ use Rattle.ms_ir.specs.Layout.{Types, Extent, extent, stored_size, size_of, size
 use Rattle.ms_runs.specs.World.{World}
 use Rattle.ms_runs.specs.Memory.{store_number, set_bytes}
 use Rattle.ms_runs.specs.Globals.{constant, write_init, write_items, write_fields}
-use Rattle.ms_code.specs.Constants.{init_constants, parts_constants}
-use Rattle.ms_code.proofs.PartConstants.{hidden-constants}
+use Rattle.ms_machine_code.specs.Constants.{init_constants, parts_constants}
+use Rattle.ms_machine_code.proofs.PartConstants.{hidden-constants}
 use Rattle.ms_host.specs.State.{WorldState, Beside}
 use Rattle.ms_host.specs.Shows.{Shows}
 use Rattle.ms_host.specs.Initial.{Reaches, part_begin, write_parts, init_sized, items_sized, parts_sized, Changes, WritesInit, WritesParts}

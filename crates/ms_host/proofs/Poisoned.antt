@@ -134,7 +134,7 @@ first-agrees t f g a n same good = first-alike f g a n (λ k l. same (a + k) (pa
 
 -- ---- strings
 
--- the search goes on behind a clean byte that isn't 0
+-- the search goes on after a clean byte that isn't 0
 pub string-clean : (world : World) (a k room : ℕ) → k < room → world.shadow (a + k) ≡ 0 → world.bytes (a + k) ≢ 0 → first_in_string world (a + k) (room - k) ≡ first_in_string world (a + (k + 1)) (room - (k + 1))
 string-clean world a k room l clean some =
     let n : room - k ≡ suc (room - (k + 1)) = omega (arith, l) in

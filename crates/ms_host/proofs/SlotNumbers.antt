@@ -31,7 +31,7 @@ slots-written bytes new cells a n g shows low is k l = ⊎_elim
     at : with_range (held bytes) (a - 0x680000000000) n g k ≡ held new k
     at = sym (ap (λ (f : ℕ → ℕ). f k) is)
 
--- ---- addresses before all slots, or behind them
+-- ---- addresses before all slots, or after them
 
 and-false : (x : Bool) → (x && false) ≡ false
 and-false true = refl

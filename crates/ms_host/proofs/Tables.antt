@@ -18,7 +18,7 @@ use Rattle.ms_runs.specs.World.{Allocation, World}
 use Rattle.ms_ir.specs.Areas.{area_eq, area_base, area_limit, room}
 use Rattle.ms_runs.specs.Memory.{used, fits, next_base, first_that, covers, is_good, is_heap_block, heap_size, keeps}
 use Rattle.ms_host.specs.Shows.{area_of, allocation_of, in_area, Lists}
-use Rattle.ms_valid.proofs.NamePlaces.{same_tests}
+use Rattle.ms_check_valid.proofs.NamePlaces.{same_tests}
 
 -- ---- kinds and areas
 

@@ -11,7 +11,7 @@ use Rattle.ms_ir.specs.Layout.{Types, size_of, size_in, align_in, round_up}
 use Rattle.ms_runs.specs.World.{World}
 use Rattle.ms_runs.specs.Memory.{fits, next_base, make}
 use Rattle.ms_runs.specs.Globals.{constant, write_init, make_globals}
-use Rattle.ms_code.specs.Constants.{init_constants, parts_constants, globals_constants, global_constants}
+use Rattle.ms_machine_code.specs.Constants.{init_constants, parts_constants, globals_constants, global_constants}
 use Rattle.ms_host.specs.State.{WorldState, Beside}
 use Rattle.ms_host.specs.Shows.{Shows}
 

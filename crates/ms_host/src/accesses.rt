@@ -109,7 +109,7 @@ impl World {
     {
         let good = self.planes.covers(addr, n);
         if good {
-            self.planes.is_laid_out();
+            self.planes.law_laid_out();
             write_byte(&mut self.planes, byte, addr, n);
         }
         good
@@ -124,7 +124,7 @@ impl World {
     {
         let good = self.planes.covers(addr, n);
         if good {
-            self.planes.is_laid_out();
+            self.planes.law_laid_out();
             write_unset(&mut self.planes, self.fill.as_slice(), self.made, addr, n);
             self.made += n;
         }

@@ -29,7 +29,7 @@ fn low_byte(word: u64) -> u8
     (word % 256) as u8
 }
 
-/// What a call at a site comes to of a function of whole words.
+/// The effect of calling a word function at a site.
 fn worded(function: WordFn, width: WordWidth, a: u64, b: u64, c: u64, site: u32) -> Answer
     requires { a < 2 ^ bits_of width }
     ensures { (beside : Beside) (meant : Meant) (world : WorldState) → Shows world beside meant → Answered beside (gives site (word_answer function (bits_of width) a b c) meant) result world }
@@ -40,7 +40,7 @@ fn worded(function: WordFn, width: WordWidth, a: u64, b: u64, c: u64, site: u32)
     }
 }
 
-/// What `llvm.assume` at a site comes to.
+/// The effect of `llvm.assume` at a site.
 fn assumed(condition: u64, site: u32) -> Answer
     ensures { (beside : Beside) (meant : Meant) (world : WorldState) → Shows world beside meant → Answered beside (assumed site condition meant) result world }
 {
@@ -59,7 +59,7 @@ fn unknown_size(least: u64) -> u64
 
 /// Answers a call of an external other than `printf` and the thread calls: what it does to the world, and whether the run goes on.
 ///
-/// An argument that is missing counts as 0. The one error is running out of memory, and the run is over then.
+/// An argument that is missing counts as 0. Where memory runs out the run is over.
 #[tactic(auto, using(crate::proofs::FixedNumbers::fixed_number, crate::proofs::FixedNumbers::no_thread_call))]
 pub fn answer(call: &HostCall, world: &mut World) -> Result<Answer, NoMemory>
     requires few { world.old.made + 2 ^ 26 < 2 ^ 64 }
@@ -78,7 +78,7 @@ pub fn answer(call: &HostCall, world: &mut World) -> Result<Answer, NoMemory>
 }
 
 impl World {
-    /// What a call at a site comes to of an external that prints, or takes input.
+    /// The effect of calling an external that prints, or takes input, at a site.
     fn answer_stream(
         &mut self,
         external: External,
@@ -103,7 +103,7 @@ impl World {
         }
     }
 
-    /// What a call of an external at a site comes to.
+    /// The effect of calling an external at a site.
     pub(crate) fn answer_external(
         &mut self,
         external: External,
@@ -142,7 +142,7 @@ impl World {
             External::LlvmObjectSize => Ok(Answer::Resumed(Some(unknown_size(b)))),
             External::LlvmMemcpy | External::LlvmMemmove => self.copied(site, a, b, c, None),
             External::LlvmMemset => Ok(self.filled(site, a, low_byte(b), c, None)),
-            External::LifetimeStart => Ok(self.begun(site, a, b)),
+            External::LifetimeStart => Ok(self.lifetime_start(site, a, b)),
             External::LifetimeEnd => Ok(Answer::Resumed(None)),
             External::Word(function, width) => Ok(worded(function, width, a, b, c, site)),
             External::Printf

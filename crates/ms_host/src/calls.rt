@@ -24,7 +24,7 @@ pub struct HostCall {
     pub site: u32,
 }
 
-/// What a call comes to.
+/// The effect of a call on the run: it goes on, with a value or without, or has ended.
 #[derive(Clone, Copy, Debug, PartialEq, Eq)]
 pub enum Answer {
     /// The run goes on, with the call's result if it has one.

@@ -55,7 +55,7 @@ impl World {
         if self.heap_size(base).is_none() {
             return trap(Trap::BadFree, site);
         }
-        self.end(base);
+        self.free_block(base);
         Answer::Resumed(None)
     }
 
@@ -78,7 +78,7 @@ impl World {
             Err(AllocError::NoMemory) => return Err(std::alloc::AllocError),
         };
         self.copy_all(new, base, smaller(old, n))?;
-        self.end(base);
+        self.free_block(base);
         Ok(Answer::Resumed(Some(new)))
     }
 
@@ -123,7 +123,7 @@ impl World {
     }
 
     /// `llvm.lifetime.start.p0`: the bytes are uninitialised anew; traps where they aren't good.
-    pub(crate) fn begun(&mut self, site: u32, n: u64, addr: u64) -> Answer
+    pub(crate) fn lifetime_start(&mut self, site: u32, n: u64, addr: u64) -> Answer
         requires { self.old.made + 2 ^ 26 < 2 ^ 64 }
         ensures answered { (beside : Beside) (world : Meant) → Shows self.old beside world → Answered beside (where_good site addr n world (Does (make_bytes self.old.fill addr n world))) result self.new }
         ensures keeps { Keeps self.old self.new }

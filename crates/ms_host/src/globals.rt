@@ -8,8 +8,8 @@ ghost use Rattle.ms_host.specs.Initial.{Reaches, part_begin, Changes, WritesInit
 use crate::numbers::{rounded, sum};
 use crate::worlds::World;
 use ms_alloc::{AllocError, AllocKind};
+use ms_check_tables::Extents;
 use ms_ir::{GlobalVar, Init, Ty};
-use ms_tables::Extents;
 
 /// How many bytes a word of a type takes where it is stored.
 fn stored_size(ty: &Ty) -> u8

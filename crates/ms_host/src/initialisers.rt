@@ -14,7 +14,7 @@ impl World {
         ensures keeps { Keeps self.old self.new }
         ensures made { self.new.made ≡ self.old.made }
     {
-        self.planes.is_laid_out();
+        self.planes.law_laid_out();
         let Some(addr) = at else {
             return;
         };
@@ -31,7 +31,7 @@ impl World {
         ensures keeps { Keeps self.old self.new }
         ensures made { self.new.made ≡ self.old.made }
     {
-        self.planes.is_laid_out();
+        self.planes.law_laid_out();
         let Some(addr) = at else {
             return;
         };
@@ -46,7 +46,7 @@ impl World {
         ensures keeps { Keeps self.old self.new }
         ensures made { self.new.made ≡ self.old.made }
     {
-        self.planes.is_laid_out();
+        self.planes.law_laid_out();
         if let Some(live) = live_past(&self.planes, addr, k) {
             self.planes.store(live, 1, u64::from(byte));
         }

@@ -111,7 +111,7 @@ impl World {
         ensures keeps { Keeps self.old self.new }
         ensures made { self.new.made ≡ self.old.made }
     {
-        self.planes.is_laid_out();
+        self.planes.law_laid_out();
         if let Some(live) = live_past(&self.planes, addr, k) {
             self.planes.set_origin_at(live, origin);
         }
@@ -121,7 +121,7 @@ impl World {
     pub fn load_origin(&self, addr: u64, mask: u64) -> u32
         ensures { (beside : Beside) (world : Meant) → Shows self.now beside world → result ≡ load_origin addr mask world }
     {
-        self.planes.is_laid_out();
+        self.planes.law_laid_out();
         let mut rest = mask;
         for k in 0..8u64 {
             if rest % 256 != 0 {
@@ -139,7 +139,7 @@ impl World {
         requires { IsTrue (is_live addr n self.now.planes.table) }
         ensures { (beside : Beside) (world : Meant) → Shows self.now beside world → IsFound world addr (first_nonzero world.shadow addr n) result }
     {
-        self.planes.is_laid_out();
+        self.planes.law_laid_out();
         let Some(part) = self.planes.first_poisoned(addr, n) else {
             return None;
         };
@@ -152,7 +152,7 @@ impl World {
     pub fn first_poisoned_in_string(&self, addr: u64) -> Option<PoisonedByte>
         ensures { (beside : Beside) (world : Meant) → Shows self.now beside world → IsFound world addr (first_in_string world addr (bytes_left world addr)) result }
     {
-        self.planes.is_laid_out();
+        self.planes.law_laid_out();
         let room = self.bytes_left(addr);
         for k in 0..room {
             let here = addr + k;

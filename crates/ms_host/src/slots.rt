@@ -69,7 +69,7 @@ pub(crate) fn is_far(a: u64) -> bool
 }
 
 impl Slots {
-    /// The slots at the start of a run: zeros. The one error is running out of memory.
+    /// The slots at the start of a run: zeros.
     pub fn new(alloc: Global) -> Result<Slots, NoMemory>
         ensures { IfOk result (λ s. ShowsSlots s (λ a. 0)) }
     {

@@ -51,7 +51,7 @@ impl World {
         ensures keeps { Keeps self.old self.new }
         ensures made { self.new.made ≡ self.old.made }
     {
-        self.planes.is_laid_out();
+        self.planes.law_laid_out();
         for k in 0..n {
             let byte = self.byte(addr + k);
             self.print_byte(byte)?;
@@ -66,7 +66,7 @@ impl World {
         ensures keeps { Keeps self.old self.new }
         ensures made { self.new.made ≡ self.old.made }
     {
-        self.planes.is_laid_out();
+        self.planes.law_laid_out();
         let input = self.input.as_slice();
         let left = (input.len() - self.at) as u64;
         let count = smaller(n, left);

@@ -13,7 +13,7 @@ impl World {
         ensures room { (beside : Beside) (world : Meant) → Shows self.now beside world → result ≡ bytes_left world addr }
         ensures good { IsTrue (is_live addr result self.now.planes.table) }
     {
-        self.planes.is_laid_out();
+        self.planes.law_laid_out();
         match self.planes.block_of(addr) {
             Some((base, size)) => base + size - addr,
             None => 0,
@@ -28,7 +28,7 @@ impl World {
         ensures short { MatchOption result (Unit {0}) (λ n. n ≤ 2 ^ 26) }
         ensures low { MatchOption result (Unit {0}) (λ n. addr + n < 2 ^ 64) }
     {
-        self.planes.is_laid_out();
+        self.planes.law_laid_out();
         let room = self.bytes_left(addr);
         for k in 0..room {
             if self.byte(addr + k) == 0 {
@@ -44,7 +44,7 @@ impl World {
         requires second { IsTrue (is_live b n self.now.planes.table) }
         ensures { (beside : Beside) (world : Meant) → Shows self.now beside world → result ≡ compared (bytes_at world.bytes a n) (bytes_at world.bytes b n) }
     {
-        self.planes.is_laid_out();
+        self.planes.law_laid_out();
         for k in 0..n {
             let x = self.byte(a + k);
             let y = self.byte(b + k);

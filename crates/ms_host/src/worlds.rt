@@ -18,7 +18,7 @@ use std::marker::Model;
 /// slots, how much of the input was taken, the output, and the number of uninitialised bytes that were made. It also
 /// has the fill of which these are made.
 ///
-/// The one error of most calls is running out of memory. The run is over then, and only the input and the fill are still known.
+/// Where memory runs out the run is over, and only the input and the fill are still known.
 #[derive(Debug, Drop)]
 pub struct World {
     pub(crate) planes: Planes,
@@ -43,8 +43,7 @@ impl Model for World {
 impl World {
     /// The world at the start of a run, before the globals are made. The input and the fill are copied.
     ///
-    /// The k-th uninitialised byte that is made, counted from 0, is the byte of the fill at k modulo its length. The one
-    /// error is running out of memory.
+    /// The k-th uninitialised byte that is made, counted from 0, is the byte of the fill at k modulo its length.
     pub fn new(alloc: Global, input: &[u8], fill: &[u8]) -> Result<World, NoMemory>
         requires { 0 < length fill.now }
         ensures shows { IfOk result (λ w. Shows w nothing_beside (first_world input.now)) }
@@ -68,10 +67,10 @@ impl World {
     }
 
     /// A law: the allocations of each area stand one after the other, within its limit.
-    pub fn is_laid_out(&self)
+    pub fn law_laid_out(&self)
         ensures { IsLaidOut self.now.planes.table }
     {
-        self.planes.is_laid_out();
+        self.planes.law_laid_out();
     }
 
     /// Makes an allocation of `size` uninitialised bytes, and returns its base. Linear in the size.
@@ -85,9 +84,9 @@ impl World {
         ensures keeps { Keeps self.old self.new }
         ensures made { self.new.made ≤ self.old.made + 2 ^ 26 }
     {
-        self.planes.is_laid_out();
+        self.planes.law_laid_out();
         let base = self.planes.make(kind, size)?;
-        self.planes.is_laid_out();
+        self.planes.law_laid_out();
         write_unset(
             &mut self.planes,
             self.fill.as_slice(),
@@ -109,7 +108,7 @@ impl World {
         ensures keeps { Keeps self.old self.new }
         ensures made { self.new.made ≡ self.old.made }
     {
-        self.planes.is_laid_out();
+        self.planes.law_laid_out();
         let base = self.planes.make(kind, size)?;
         Ok(base)
     }
@@ -118,7 +117,7 @@ impl World {
     pub fn mark(&self) -> u64
         ensures { (beside : Beside) (world : Meant) → Shows self.now beside world → result ≡ next_base (area_of AllocKind.Stack) world }
     {
-        self.planes.is_laid_out();
+        self.planes.law_laid_out();
         self.planes.mark()
     }
 
@@ -128,19 +127,19 @@ impl World {
         ensures keeps { Keeps self.old self.new }
         ensures made { self.new.made ≡ self.old.made }
     {
-        self.planes.is_laid_out();
+        self.planes.law_laid_out();
         self.planes.release(mark);
     }
 
     /// Ends the live heap block that begins at `base`, and returns its size; `None` where none begins there, and then
     /// nothing changes.
-    pub fn end(&mut self, base: u64) -> Option<u64>
+    pub fn free_block(&mut self, base: u64) -> Option<u64>
         ensures size { (beside : Beside) (world : Meant) → Shows self.old beside world → result ≡ heap_size world base }
         ensures ended { (beside : Beside) (world : Meant) → Shows self.old beside world → Shows self.new beside (end_block base world) }
         ensures keeps { Keeps self.old self.new }
         ensures made { self.new.made ≡ self.old.made }
     {
-        self.planes.is_laid_out();
+        self.planes.law_laid_out();
         let Ok(size) = self.planes.end(base) else {
             return None;
         };
@@ -152,7 +151,7 @@ impl World {
         ensures size { (beside : Beside) (world : Meant) → Shows self.now beside world → result ≡ heap_size world base }
         ensures table { result ≡ block_size base self.now.planes.table }
     {
-        self.planes.is_laid_out();
+        self.planes.law_laid_out();
         self.planes.heap_size(base)
     }
 }

@@ -59,7 +59,7 @@ fn append_chunk<F: Read>(
 }
 
 /// A law: what is read is bytes.
-fn in_range(bytes: &[u8])
+fn law_in_range(bytes: &[u8])
     ensures { All (λ b. b < 2 ^ 8) bytes.now }
 {
     let _count = bytes.len();
@@ -94,7 +94,7 @@ fn read_to_end<F: Read>(
         let most = limit + 1 - bytes.len() as u64;
         match append_chunk(file, &mut chunk, most, &mut bytes, counters) {
             Ok(0) => {
-                in_range(&bytes);
+                law_in_range(&bytes);
                 return Ok(bytes);
             }
             Ok(_) => {}

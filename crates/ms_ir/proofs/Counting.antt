@@ -113,13 +113,13 @@ blocks_few m f = by_func (func_at m f) refl
     by_func (Some g) h = let p = funcs_part m.funcs f g h in omega (arith, p)
 
 -- a site by the parts that stand before its instruction
-pub record Behind (m : Module) (p : Place) (fs : List Func) (bs : List Block) (xs : List Inst) : Type 0 where
+pub record After (m : Module) (p : Place) (fs : List Func) (bs : List Block) (xs : List Inst) : Type 0 where
   pub is : 1 + over_funcs one_unmarked fs + over_blocks one_unmarked bs + over_insts one_unmarked xs ≡ site_at m p.func p.block p.inst
   pub fits : 1 + over_funcs one_unmarked fs + over_blocks one_unmarked bs + over_insts one_unmarked xs < 2 ^ 32
 
-pub behind : (m : Module) (p : Place) (fs : List Func) (bs : List Block) (xs : List Inst) → HasSmallNumbers m → IsUnmarkedAt m p
-    → fs ≡ take p.func m.funcs → bs ≡ take p.block (blocks_at m p.func) → xs ≡ take p.inst (insts_at m p.func p.block) → Behind m p fs bs xs
-behind m p fs bs xs numbers u hf hb hi =
+pub after : (m : Module) (p : Place) (fs : List Func) (bs : List Block) (xs : List Inst) → HasSmallNumbers m → IsUnmarkedAt m p
+    → fs ≡ take p.func m.funcs → bs ≡ take p.block (blocks_at m p.func) → xs ≡ take p.inst (insts_at m p.func p.block) → After m p fs bs xs
+after m p fs bs xs numbers u hf hb hi =
     let f = ap (over_funcs one_unmarked) hf in
     let b = ap (over_blocks one_unmarked) hb in
     let i = ap (over_insts one_unmarked) hi in

@@ -8,7 +8,7 @@ use Rattle.std.proofs.lemmas.List.{length-map}
 use Rattle.std.proofs.Math.Path.{ap₂}
 use Rattle.ms_ir.specs.declared.syntax.Ty.{Ty, Array, Struct, Row_of-Ty, end_of-Ty, more_of-Ty, items-the_row-Ty, items_hidden-the_row-Ty-1}
 use Rattle.ms_ir.specs.declared.syntax.Ty.TheBlock.{hidden-the_row-Ty-0, hidden-the_row-Ty-1, shape-the_row-Ty-0}
-use Rattle.ms_ir.specs.declared.rows.Kind.{Kind}
+use Rattle.ms_ir.specs.declared.rows.ParamType.{ParamType}
 use Rattle.ms_ir.specs.Rows.{kind_type}
 use Rattle.ms_ir.specs.Equal.{AddressStep, type_eq, row_eq, types_eq, indices_eq, steps_eq}
 
@@ -65,5 +65,5 @@ pointwise_steps (s ∷ ss) [] = refl
 pointwise_steps (s ∷ ss) (t ∷ ts) = ap₂ (λ a b. (type_eq s.0 t.0 && a) && b) (pointwise_indices s.1 t.1) (pointwise_steps ss ts)
 
 -- lists of another length differ, also by kinds
-pub kinds_differ : (ts : List Ty) (kinds : List Kind) → length ts ≢ length kinds → false ≡ types_eq ts (map kind_type kinds)
+pub kinds_differ : (ts : List Ty) (kinds : List ParamType) → length ts ≢ length kinds → false ≡ types_eq ts (map kind_type kinds)
 kinds_differ ts kinds h = types_differ ts (map kind_type kinds) (λ e. h (e ∙ length-map kinds kind_type))

@@ -106,7 +106,7 @@ named_in (d ∷ es) x e h = elim (cases_Bool (name_eq (external_name d) x)) [
   | inr other ↦ named_in es x e (sym (ap (λ b. if b then Some d else lookup (map (λ e. (external_name e, e)) es) x) other) ∙ h)
 ]
 
--- the same where another table stands behind
+-- the same where another table stands after
 named_before : (es : List External) (rest : List (Name × External)) (x : Name) (e : External) → (lookup rest x ≡ Some e → external_name e ≡ x)
     → lookup (map (λ e. (external_name e, e)) es ++ rest) x ≡ Some e → external_name e ≡ x
 named_before [] rest x e later h = later h

@@ -3,7 +3,7 @@ use Rattle.std.proofs.Common.{◌≡◌, ℕ, List, [], ◌∷◌, ◌++◌, Boo
 use Rattle.std.proofs.lemmas.Bool.{or_parts}
 use Rattle.ms_ir.specs.declared.syntax.Name.{Name}
 use Rattle.ms_ir.specs.declared.syntax.Name.TheVariants.{Number, Text}
-use Rattle.ms_ir.specs.declared.rows.Row.{Row}
+use Rattle.ms_ir.specs.declared.rows.SignatureRow.{SignatureRow}
 use Rattle.ms_ir.specs.declared.calls.External.{External}
 use Rattle.ms_ir.specs.declared.calls.External.TheVariants.{Malloc, Calloc, Realloc, Free, Memcpy, Memmove, Memset, Memcmp, Strlen, Putchar, Puts, Getchar, Read, Write, Exit, Abort, LlvmMemcpy, LlvmMemmove, LlvmMemset, LifetimeStart, LifetimeEnd, Printf, LlvmTrap, LlvmAssume, LlvmObjectSize, PthreadCreate, PthreadJoin, SchedYield}
 use Rattle.ms_ir.specs.declared.calls.RuntimeFn.{RuntimeFn}
@@ -19,7 +19,7 @@ lookup_map f [] x = refl
 lookup_map f (row ∷ rest) x = one_row f (name_eq row.0 x) row.1 _ _ (lookup_map f rest x)
 
 -- looking up what the rows of a table have
-pub lookup_of : {F A : Type 0} (k : Row F → A) (rows : List (Row F)) (x : Name) → lookup (map (λ r. (Text r.name.now, k r)) rows) x ≡ option_map k (lookup (by_name rows) x)
+pub lookup_of : {F A : Type 0} (k : SignatureRow F → A) (rows : List (SignatureRow F)) (x : Name) → lookup (map (λ r. (Text r.name.now, k r)) rows) x ≡ option_map k (lookup (by_name rows) x)
 lookup_of k [] x = refl
 lookup_of k (row ∷ rest) x = one_row k (name_eq (Text row.name.now) x) row _ _ (lookup_of k rest x)
 
@@ -28,7 +28,7 @@ pub some_mapped : {A B : Type 0} (f : A → B) (a : Option A) → is_some a ≡ 
 some_mapped f None = refl
 some_mapped f (Some a) = refl
 
--- looking up in two tables, one behind the other
+-- looking up in two tables, one after the other
 pub lookup_front : {A : Type 0} (rows rest : List (Name × A)) (x : Name) (a : A) → lookup rows x ≡ Some a → lookup (rows ++ rest) x ≡ Some a
 lookup_front [] rest x a h = absurd cc
 lookup_front (row ∷ rows) rest x a h = by_name (name_eq row.0 x) h (lookup_front rows rest x a)

@@ -5,33 +5,33 @@ use Rattle.ms_ir.specs.declared.syntax.Name.{Name}
 use Rattle.ms_ir.specs.declared.syntax.Name.TheVariants.{Text}
 use Rattle.ms_ir.specs.declared.syntax.Ty.{Ty, Int, Ptr}
 use Rattle.ms_ir.specs.declared.syntax.Decl.{Decl}
-use Rattle.ms_ir.specs.declared.rows.Kind.{Kind}
-use Rattle.ms_ir.specs.declared.rows.Kind.TheVariants as kind
-use Rattle.ms_ir.specs.declared.rows.Row.{Row}
+use Rattle.ms_ir.specs.declared.rows.ParamType.{ParamType}
+use Rattle.ms_ir.specs.declared.rows.ParamType.TheVariants as kind
+use Rattle.ms_ir.specs.declared.rows.SignatureRow.{SignatureRow}
 use Rattle.ms_ir.specs.declared.calls.External.{External}
 use Rattle.ms_ir.specs.declared.calls.External.TheVariants.{Word}
 use Rattle.ms_ir.specs.declared.word_externals.WordRow.{WordRow}
 use Rattle.ms_ir.specs.Signatures.{Signature, declared_as}
 
 -- each row with its name
-abbrev pub by_name : {F : Type 0} → List (Row F) → List (Name × Row F)
+abbrev pub by_name : {F : Type 0} → List (SignatureRow F) → List (Name × SignatureRow F)
 by_name rows = map (λ r. (Text r.name.now, r)) rows
 
 -- which function each row is, with its name
-abbrev pub by_kind : {F : Type 0} → List (Row F) → List (Name × F)
+abbrev pub by_kind : {F : Type 0} → List (SignatureRow F) → List (Name × F)
 by_kind rows = map (λ r. (Text r.name.now, r.is)) rows
 
 -- the type of a kind
-abbrev pub kind_type : Kind → Ty
+abbrev pub kind_type : ParamType → Ty
 kind_type kind.Ptr = Ptr
 kind_type (kind.Int n) = Int n
 
 -- the types of the function of a row
-abbrev pub row_signature : {F : Type 0} → Row F → Signature
+abbrev pub row_signature : {F : Type 0} → SignatureRow F → Signature
 row_signature r = record { ret = option_map kind_type r.ret; params = map kind_type r.params.now }
 
 -- the function of a row as it is declared
-abbrev pub row_declaration : {F : Type 0} → Row F → Decl
+abbrev pub row_declaration : {F : Type 0} → SignatureRow F → Decl
 row_declaration r = declared_as (Text r.name.now) (row_signature r)
 
 -- the functions of whole words by the names of their rows

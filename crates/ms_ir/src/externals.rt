@@ -6,178 +6,203 @@ ghost use Rattle.ms_ir.specs.Names.{lookup, externals};
 ghost use Rattle.ms_ir.specs.Signatures.{decl_signature, signature_eq, external_signature, is_thread_call};
 
 use crate::calls::External;
-use crate::rows::{Kind, Row, named};
+use crate::rows::{ParamType, SignatureRow, named};
 use crate::syntax::{Decl, Name};
 use crate::word_externals;
 
 /// Each external that is no function of whole words.
-static EXTERNALS: [Row<External>; 28] = [
-    Row {
+static EXTERNALS: [SignatureRow<External>; 28] = [
+    SignatureRow {
         name: b"malloc",
         is: External::Malloc,
-        ret: Some(Kind::Ptr),
-        params: &[Kind::Int(64)],
+        ret: Some(ParamType::Ptr),
+        params: &[ParamType::Int(64)],
     },
-    Row {
+    SignatureRow {
         name: b"calloc",
         is: External::Calloc,
-        ret: Some(Kind::Ptr),
-        params: &[Kind::Int(64), Kind::Int(64)],
+        ret: Some(ParamType::Ptr),
+        params: &[ParamType::Int(64), ParamType::Int(64)],
     },
-    Row {
+    SignatureRow {
         name: b"realloc",
         is: External::Realloc,
-        ret: Some(Kind::Ptr),
-        params: &[Kind::Ptr, Kind::Int(64)],
+        ret: Some(ParamType::Ptr),
+        params: &[ParamType::Ptr, ParamType::Int(64)],
     },
-    Row {
+    SignatureRow {
         name: b"free",
         is: External::Free,
         ret: None,
-        params: &[Kind::Ptr],
+        params: &[ParamType::Ptr],
     },
-    Row {
+    SignatureRow {
         name: b"memcpy",
         is: External::Memcpy,
-        ret: Some(Kind::Ptr),
-        params: &[Kind::Ptr, Kind::Ptr, Kind::Int(64)],
+        ret: Some(ParamType::Ptr),
+        params: &[ParamType::Ptr, ParamType::Ptr, ParamType::Int(64)],
     },
-    Row {
+    SignatureRow {
         name: b"memmove",
         is: External::Memmove,
-        ret: Some(Kind::Ptr),
-        params: &[Kind::Ptr, Kind::Ptr, Kind::Int(64)],
+        ret: Some(ParamType::Ptr),
+        params: &[ParamType::Ptr, ParamType::Ptr, ParamType::Int(64)],
     },
-    Row {
+    SignatureRow {
         name: b"memset",
         is: External::Memset,
-        ret: Some(Kind::Ptr),
-        params: &[Kind::Ptr, Kind::Int(32), Kind::Int(64)],
+        ret: Some(ParamType::Ptr),
+        params: &[ParamType::Ptr, ParamType::Int(32), ParamType::Int(64)],
     },
-    Row {
+    SignatureRow {
         name: b"memcmp",
         is: External::Memcmp,
-        ret: Some(Kind::Int(32)),
-        params: &[Kind::Ptr, Kind::Ptr, Kind::Int(64)],
+        ret: Some(ParamType::Int(32)),
+        params: &[ParamType::Ptr, ParamType::Ptr, ParamType::Int(64)],
     },
-    Row {
+    SignatureRow {
         name: b"strlen",
         is: External::Strlen,
-        ret: Some(Kind::Int(64)),
-        params: &[Kind::Ptr],
+        ret: Some(ParamType::Int(64)),
+        params: &[ParamType::Ptr],
     },
-    Row {
+    SignatureRow {
         name: b"putchar",
         is: External::Putchar,
-        ret: Some(Kind::Int(32)),
-        params: &[Kind::Int(32)],
+        ret: Some(ParamType::Int(32)),
+        params: &[ParamType::Int(32)],
     },
-    Row {
+    SignatureRow {
         name: b"puts",
         is: External::Puts,
-        ret: Some(Kind::Int(32)),
-        params: &[Kind::Ptr],
+        ret: Some(ParamType::Int(32)),
+        params: &[ParamType::Ptr],
     },
-    Row {
+    SignatureRow {
         name: b"getchar",
         is: External::Getchar,
-        ret: Some(Kind::Int(32)),
+        ret: Some(ParamType::Int(32)),
         params: &[],
     },
-    Row {
+    SignatureRow {
         name: b"read",
         is: External::Read,
-        ret: Some(Kind::Int(64)),
-        params: &[Kind::Int(32), Kind::Ptr, Kind::Int(64)],
+        ret: Some(ParamType::Int(64)),
+        params: &[ParamType::Int(32), ParamType::Ptr, ParamType::Int(64)],
     },
-    Row {
+    SignatureRow {
         name: b"write",
         is: External::Write,
-        ret: Some(Kind::Int(64)),
-        params: &[Kind::Int(32), Kind::Ptr, Kind::Int(64)],
+        ret: Some(ParamType::Int(64)),
+        params: &[ParamType::Int(32), ParamType::Ptr, ParamType::Int(64)],
     },
-    Row {
+    SignatureRow {
         name: b"exit",
         is: External::Exit,
         ret: None,
-        params: &[Kind::Int(32)],
+        params: &[ParamType::Int(32)],
     },
-    Row {
+    SignatureRow {
         name: b"abort",
         is: External::Abort,
         ret: None,
         params: &[],
     },
-    Row {
+    SignatureRow {
         name: b"llvm.memcpy.p0.p0.i64",
         is: External::LlvmMemcpy,
         ret: None,
-        params: &[Kind::Ptr, Kind::Ptr, Kind::Int(64), Kind::Int(1)],
+        params: &[
+            ParamType::Ptr,
+            ParamType::Ptr,
+            ParamType::Int(64),
+            ParamType::Int(1),
+        ],
     },
-    Row {
+    SignatureRow {
         name: b"llvm.memmove.p0.p0.i64",
         is: External::LlvmMemmove,
         ret: None,
-        params: &[Kind::Ptr, Kind::Ptr, Kind::Int(64), Kind::Int(1)],
+        params: &[
+            ParamType::Ptr,
+            ParamType::Ptr,
+            ParamType::Int(64),
+            ParamType::Int(1),
+        ],
     },
-    Row {
+    SignatureRow {
         name: b"llvm.memset.p0.i64",
         is: External::LlvmMemset,
         ret: None,
-        params: &[Kind::Ptr, Kind::Int(8), Kind::Int(64), Kind::Int(1)],
+        params: &[
+            ParamType::Ptr,
+            ParamType::Int(8),
+            ParamType::Int(64),
+            ParamType::Int(1),
+        ],
     },
-    Row {
+    SignatureRow {
         name: b"llvm.lifetime.start.p0",
         is: External::LifetimeStart,
         ret: None,
-        params: &[Kind::Int(64), Kind::Ptr],
+        params: &[ParamType::Int(64), ParamType::Ptr],
     },
-    Row {
+    SignatureRow {
         name: b"llvm.lifetime.end.p0",
         is: External::LifetimeEnd,
         ret: None,
-        params: &[Kind::Int(64), Kind::Ptr],
+        params: &[ParamType::Int(64), ParamType::Ptr],
     },
-    Row {
+    SignatureRow {
         name: b"printf",
         is: External::Printf,
-        ret: Some(Kind::Int(32)),
-        params: &[Kind::Ptr],
+        ret: Some(ParamType::Int(32)),
+        params: &[ParamType::Ptr],
     },
-    Row {
+    SignatureRow {
         name: b"llvm.trap",
         is: External::LlvmTrap,
         ret: None,
         params: &[],
     },
-    Row {
+    SignatureRow {
         name: b"llvm.assume",
         is: External::LlvmAssume,
         ret: None,
-        params: &[Kind::Int(1)],
+        params: &[ParamType::Int(1)],
     },
-    Row {
+    SignatureRow {
         name: b"llvm.objectsize.i64.p0",
         is: External::LlvmObjectSize,
-        ret: Some(Kind::Int(64)),
-        params: &[Kind::Ptr, Kind::Int(1), Kind::Int(1), Kind::Int(1)],
+        ret: Some(ParamType::Int(64)),
+        params: &[
+            ParamType::Ptr,
+            ParamType::Int(1),
+            ParamType::Int(1),
+            ParamType::Int(1),
+        ],
     },
-    Row {
+    SignatureRow {
         name: b"pthread_create",
         is: External::PthreadCreate,
-        ret: Some(Kind::Int(32)),
-        params: &[Kind::Ptr, Kind::Ptr, Kind::Ptr, Kind::Ptr],
+        ret: Some(ParamType::Int(32)),
+        params: &[
+            ParamType::Ptr,
+            ParamType::Ptr,
+            ParamType::Ptr,
+            ParamType::Ptr,
+        ],
     },
-    Row {
+    SignatureRow {
         name: b"pthread_join",
         is: External::PthreadJoin,
-        ret: Some(Kind::Int(32)),
-        params: &[Kind::Int(64), Kind::Ptr],
+        ret: Some(ParamType::Int(32)),
+        params: &[ParamType::Int(64), ParamType::Ptr],
     },
-    Row {
+    SignatureRow {
         name: b"sched_yield",
         is: External::SchedYield,
-        ret: Some(Kind::Int(32)),
+        ret: Some(ParamType::Int(32)),
         params: &[],
     },
 ];

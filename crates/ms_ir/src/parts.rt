@@ -4,7 +4,7 @@ ghost use Rattle.std.specs.Prelude.{◌≡◌, ◌++◌, ◌∷◌, [], IfOk};
 use ms_bits::{Duplicate, NoMemory};
 use std::alloc::Global;
 
-/// Copies of two values. The one error is running out of memory.
+/// Copies of two values.
 pub fn two<A: Duplicate, B: Duplicate>(alloc: Global, a: &A, b: &B) -> Result<(A, B), NoMemory>
     ensures { IfOk result (λ p. p ≡ (a.now, b.now)) }
 {
@@ -13,7 +13,7 @@ pub fn two<A: Duplicate, B: Duplicate>(alloc: Global, a: &A, b: &B) -> Result<(A
     Ok((a, b))
 }
 
-/// Copies of three values. The one error is running out of memory.
+/// Copies of three values.
 pub fn three<A: Duplicate, B: Duplicate, C: Duplicate>(
     alloc: Global,
     a: &A,
@@ -28,7 +28,7 @@ pub fn three<A: Duplicate, B: Duplicate, C: Duplicate>(
     Ok((a, b, c))
 }
 
-/// Copies of four values. The one error is running out of memory.
+/// Copies of four values.
 pub fn four<A: Duplicate, B: Duplicate, C: Duplicate, D: Duplicate>(
     alloc: Global,
     a: &A,
@@ -43,7 +43,7 @@ pub fn four<A: Duplicate, B: Duplicate, C: Duplicate, D: Duplicate>(
     Ok((a, b, c, d))
 }
 
-/// Adds a copy at the end. The one error is running out of memory.
+/// Adds a copy at the end.
 pub fn push_copy<T: Duplicate>(alloc: Global, items: &mut Vec<T>, item: &T) -> Result<(), NoMemory>
     ensures { IfOk result (λ _. items.new.items ≡ items.old.items ++ item.now ∷ []) }
 {

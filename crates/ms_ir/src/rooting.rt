@@ -98,8 +98,7 @@ fn push_funcs(
     Ok(())
 }
 
-/// The roots of a module in text order; the first has the number 1. The one error is running out of memory. Linear
-/// in the module.
+/// The roots of a module in text order; the first has the number 1. Linear in the module.
 pub fn roots(alloc: Global, m: &Module) -> Result<List<Root>, NoMemory>
     requires { HasSmallNumbers m.now }
     ensures { IfOk result (λ roots. roots ≡ roots_of m.now) }

@@ -11,7 +11,7 @@ use std::alloc::Global;
 
 /// A type that a function of a table takes or returns.
 #[derive(Clone, Copy, Debug, PartialEq, Eq)]
-pub enum Kind {
+pub enum ParamType {
     /// `ptr`.
     Ptr,
     /// `iN` by its width in bits.
@@ -19,25 +19,25 @@ pub enum Kind {
 }
 
 /// A function of a table.
-pub struct Row<F> {
+pub struct SignatureRow<F> {
     /// Its name.
     pub name: &'static [u8],
     /// Which it is.
     pub is: F,
     /// What it returns; none is `void`.
-    pub ret: Option<Kind>,
+    pub ret: Option<ParamType>,
     /// What it takes.
-    pub params: &'static [Kind],
+    pub params: &'static [ParamType],
 }
 
-impl Kind {
+impl ParamType {
     /// The type.
     pub fn ty(self) -> Ty
         ensures { result ≡ kind_type self }
     {
         match self {
-            Kind::Ptr => Ty::Ptr,
-            Kind::Int(width) => Ty::Int(width),
+            ParamType::Ptr => Ty::Ptr,
+            ParamType::Int(width) => Ty::Int(width),
         }
     }
 
@@ -46,14 +46,14 @@ impl Kind {
         ensures { result ≡ type_eq ty.now (kind_type self) }
     {
         match (ty, self) {
-            (Ty::Ptr, Kind::Ptr) => true,
-            (Ty::Int(n), Kind::Int(width)) => *n == width,
+            (Ty::Ptr, ParamType::Ptr) => true,
+            (Ty::Int(n), ParamType::Int(width)) => *n == width,
             _ => false,
         }
     }
 }
 
-fn is_result(ret: Option<Kind>, ty: &Option<Ty>) -> bool
+fn is_result(ret: Option<ParamType>, ty: &Option<Ty>) -> bool
     ensures { result ≡ result_type_eq ty.now (option_map kind_type ret) }
 {
     match (ty, ret) {
@@ -63,7 +63,7 @@ fn is_result(ret: Option<Kind>, ty: &Option<Ty>) -> bool
     }
 }
 
-fn are_params(kinds: &[Kind], params: &[Ty]) -> bool
+fn are_params(kinds: &[ParamType], params: &[Ty]) -> bool
     ensures { result ≡ types_eq params.now (map kind_type kinds.now) }
 {
     if params.len() != kinds.len() {
@@ -77,7 +77,7 @@ fn are_params(kinds: &[Kind], params: &[Ty]) -> bool
     true
 }
 
-fn types_of(alloc: Global, kinds: &[Kind]) -> Result<List<Ty>, NoMemory>
+fn types_of(alloc: Global, kinds: &[ParamType]) -> Result<List<Ty>, NoMemory>
     ensures { IfOk result (λ ts. ts ≡ map kind_type kinds.now) }
 {
     let mut types = Vec::with_capacity(alloc, kinds.len())?;
@@ -87,7 +87,7 @@ fn types_of(alloc: Global, kinds: &[Kind]) -> Result<List<Ty>, NoMemory>
     Ok(List::from_vec(types))
 }
 
-/// The name that a text is. The one error is running out of memory.
+/// The name that a text is.
 pub fn name_of(alloc: Global, text: &[u8]) -> Result<Name, NoMemory>
     ensures { IfOk result (λ x. x ≡ spelling.Text text.now) }
 {
@@ -95,13 +95,13 @@ pub fn name_of(alloc: Global, text: &[u8]) -> Result<Name, NoMemory>
 }
 
 /// Whether a declaration has the types of a function that returns and takes these.
-pub fn are_types(ret: Kind, params: &[Kind], decl: &Decl) -> bool
+pub fn are_types(ret: ParamType, params: &[ParamType], decl: &Decl) -> bool
     ensures { result ≡ signature_eq (decl_signature decl.now) (answers (kind_type ret) (map kind_type params.now)) }
 {
     is_result(Some(ret), &decl.ret) && are_params(params, decl.params.as_slice())
 }
 
-impl<F> Row<F> {
+impl<F> SignatureRow<F> {
     /// Whether a declaration has the types of the function.
     pub fn has_types_of(&self, decl: &Decl) -> bool
         ensures { result ≡ signature_eq (decl_signature decl.now) (row_signature self.now) }
@@ -119,7 +119,7 @@ impl<F> Row<F> {
         }
     }
 
-    /// The function as it is declared. The one error is running out of memory.
+    /// The function as it is declared.
     pub fn declaration(&self, alloc: Global) -> Result<Decl, NoMemory>
         ensures { IfOk result (λ d. d ≡ row_declaration self.now) }
     {
@@ -133,8 +133,8 @@ impl<F> Row<F> {
     }
 }
 
-/// The functions of a table as they are declared. The one error is running out of memory.
-pub fn declarations_of<F>(alloc: Global, rows: &[Row<F>]) -> Result<List<Decl>, NoMemory>
+/// The functions of a table as they are declared.
+pub fn declarations_of<F>(alloc: Global, rows: &[SignatureRow<F>]) -> Result<List<Decl>, NoMemory>
     ensures { IfOk result (λ ds. ds ≡ map row_declaration rows.now) }
 {
     let mut declarations = Vec::with_capacity(alloc, rows.len())?;
@@ -145,7 +145,7 @@ pub fn declarations_of<F>(alloc: Global, rows: &[Row<F>]) -> Result<List<Decl>, 
 }
 
 /// The row with a name, if there is one.
-fn find<'r, F>(rows: &'r [Row<F>], text: &[u8]) -> Option<&'r Row<F>>
+fn find<'r, F>(rows: &'r [SignatureRow<F>], text: &[u8]) -> Option<&'r SignatureRow<F>>
     ensures { option_copied result ≡ lookup (by_name rows.now) (spelling.Text text.now) }
 {
     for row in rows {
@@ -157,7 +157,7 @@ fn find<'r, F>(rows: &'r [Row<F>], text: &[u8]) -> Option<&'r Row<F>>
 }
 
 /// Which function has a name, if there is one.
-pub fn named<F: Copy>(rows: &[Row<F>], text: &[u8]) -> Option<F>
+pub fn named<F: Copy>(rows: &[SignatureRow<F>], text: &[u8]) -> Option<F>
     ensures { result ≡ lookup (by_kind rows.now) (spelling.Text text.now) }
 {
     match find(rows, text) {

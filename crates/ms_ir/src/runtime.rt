@@ -8,197 +8,222 @@ ghost use Rattle.ms_ir.specs.Signatures.{decl_signature, signature_eq, runtime_s
 ghost use Rattle.ms_ir.specs.Rows.{row_signature};
 
 use crate::calls::RuntimeFn;
-use crate::rows::{Kind, Row, declarations_of, named};
+use crate::rows::{ParamType, SignatureRow, declarations_of, named};
 use crate::syntax::{Decl, Name, Ty};
 use ms_bits::{BitMove, List, NoMemory};
 use std::alloc::Global;
 
 /// Each function that marked calls alone reach.
-static RUNTIME_FUNCTIONS: [Row<RuntimeFn>; 13] = [
-    Row {
+static RUNTIME_FUNCTIONS: [SignatureRow<RuntimeFn>; 13] = [
+    SignatureRow {
         name: b"__msan_check",
         is: RuntimeFn::Check,
         ret: None,
         params: &[
-            Kind::Int(64),
-            Kind::Int(32),
-            Kind::Int(32),
-            Kind::Int(32),
-            Kind::Int(32),
-            Kind::Int(32),
+            ParamType::Int(64),
+            ParamType::Int(32),
+            ParamType::Int(32),
+            ParamType::Int(32),
+            ParamType::Int(32),
+            ParamType::Int(32),
         ],
     },
-    Row {
+    SignatureRow {
         name: b"__msan_check_memory",
         is: RuntimeFn::CheckMemory,
         ret: None,
-        params: &[Kind::Ptr, Kind::Int(64), Kind::Int(32), Kind::Int(32)],
+        params: &[
+            ParamType::Ptr,
+            ParamType::Int(64),
+            ParamType::Int(32),
+            ParamType::Int(32),
+        ],
     },
-    Row {
+    SignatureRow {
         name: b"__msan_check_string",
         is: RuntimeFn::CheckString,
         ret: None,
-        params: &[Kind::Ptr, Kind::Int(32)],
+        params: &[ParamType::Ptr, ParamType::Int(32)],
     },
-    Row {
+    SignatureRow {
         name: b"__msan_blind",
         is: RuntimeFn::Blind,
         ret: None,
-        params: &[Kind::Int(64)],
+        params: &[ParamType::Int(64)],
     },
-    Row {
+    SignatureRow {
         name: b"__msan_poison",
         is: RuntimeFn::Poison,
         ret: None,
-        params: &[Kind::Ptr, Kind::Int(64), Kind::Int(64), Kind::Int(32)],
+        params: &[
+            ParamType::Ptr,
+            ParamType::Int(64),
+            ParamType::Int(64),
+            ParamType::Int(32),
+        ],
     },
-    Row {
+    SignatureRow {
         name: b"__msan_unpoison",
         is: RuntimeFn::Unpoison,
         ret: None,
-        params: &[Kind::Ptr, Kind::Int(64)],
+        params: &[ParamType::Ptr, ParamType::Int(64)],
     },
-    Row {
+    SignatureRow {
         name: b"__msan_copy",
         is: RuntimeFn::Copy,
         ret: None,
-        params: &[Kind::Ptr, Kind::Ptr, Kind::Int(64)],
+        params: &[ParamType::Ptr, ParamType::Ptr, ParamType::Int(64)],
     },
-    Row {
+    SignatureRow {
         name: b"__msan_fill",
         is: RuntimeFn::Fill,
         ret: None,
         params: &[
-            Kind::Ptr,
-            Kind::Int(64),
-            Kind::Int(64),
-            Kind::Int(32),
-            Kind::Int(32),
+            ParamType::Ptr,
+            ParamType::Int(64),
+            ParamType::Int(64),
+            ParamType::Int(32),
+            ParamType::Int(32),
         ],
     },
-    Row {
+    SignatureRow {
         name: b"__msan_store_origin",
         is: RuntimeFn::StoreOrigin,
         ret: None,
-        params: &[Kind::Ptr, Kind::Int(64), Kind::Int(32), Kind::Int(32)],
+        params: &[
+            ParamType::Ptr,
+            ParamType::Int(64),
+            ParamType::Int(32),
+            ParamType::Int(32),
+        ],
     },
-    Row {
+    SignatureRow {
         name: b"__msan_load_origin",
         is: RuntimeFn::LoadOrigin,
-        ret: Some(Kind::Int(32)),
-        params: &[Kind::Ptr, Kind::Int(64)],
+        ret: Some(ParamType::Int(32)),
+        params: &[ParamType::Ptr, ParamType::Int(64)],
     },
-    Row {
+    SignatureRow {
         name: b"__msan_size",
         is: RuntimeFn::Size,
-        ret: Some(Kind::Int(64)),
-        params: &[Kind::Ptr],
+        ret: Some(ParamType::Int(64)),
+        params: &[ParamType::Ptr],
     },
-    Row {
+    SignatureRow {
         name: b"__msan_check_format",
         is: RuntimeFn::CheckFormat,
         ret: None,
-        params: &[Kind::Ptr, Kind::Int(32), Kind::Ptr, Kind::Int(32)],
+        params: &[
+            ParamType::Ptr,
+            ParamType::Int(32),
+            ParamType::Ptr,
+            ParamType::Int(32),
+        ],
     },
-    Row {
+    SignatureRow {
         name: b"__msan_thread_result",
         is: RuntimeFn::ThreadResult,
         ret: None,
-        params: &[Kind::Ptr, Kind::Int(64), Kind::Int(32), Kind::Int(32)],
+        params: &[
+            ParamType::Ptr,
+            ParamType::Int(64),
+            ParamType::Int(32),
+            ParamType::Int(32),
+        ],
     },
 ];
 
 /// Each function that moves bits, at the place of its variant.
-static BIT_MOVES: [Row<RuntimeFn>; 15] = [
-    Row {
+static BIT_MOVES: [SignatureRow<RuntimeFn>; 15] = [
+    SignatureRow {
         name: b"llvm.bswap.i16",
         is: RuntimeFn::Move(BitMove::Bswap16),
-        ret: Some(Kind::Int(16)),
-        params: &[Kind::Int(16)],
+        ret: Some(ParamType::Int(16)),
+        params: &[ParamType::Int(16)],
     },
-    Row {
+    SignatureRow {
         name: b"llvm.bswap.i32",
         is: RuntimeFn::Move(BitMove::Bswap32),
-        ret: Some(Kind::Int(32)),
-        params: &[Kind::Int(32)],
+        ret: Some(ParamType::Int(32)),
+        params: &[ParamType::Int(32)],
     },
-    Row {
+    SignatureRow {
         name: b"llvm.bswap.i64",
         is: RuntimeFn::Move(BitMove::Bswap64),
-        ret: Some(Kind::Int(64)),
-        params: &[Kind::Int(64)],
+        ret: Some(ParamType::Int(64)),
+        params: &[ParamType::Int(64)],
     },
-    Row {
+    SignatureRow {
         name: b"llvm.bitreverse.i8",
         is: RuntimeFn::Move(BitMove::Bitreverse8),
-        ret: Some(Kind::Int(8)),
-        params: &[Kind::Int(8)],
+        ret: Some(ParamType::Int(8)),
+        params: &[ParamType::Int(8)],
     },
-    Row {
+    SignatureRow {
         name: b"llvm.bitreverse.i16",
         is: RuntimeFn::Move(BitMove::Bitreverse16),
-        ret: Some(Kind::Int(16)),
-        params: &[Kind::Int(16)],
+        ret: Some(ParamType::Int(16)),
+        params: &[ParamType::Int(16)],
     },
-    Row {
+    SignatureRow {
         name: b"llvm.bitreverse.i32",
         is: RuntimeFn::Move(BitMove::Bitreverse32),
-        ret: Some(Kind::Int(32)),
-        params: &[Kind::Int(32)],
+        ret: Some(ParamType::Int(32)),
+        params: &[ParamType::Int(32)],
     },
-    Row {
+    SignatureRow {
         name: b"llvm.bitreverse.i64",
         is: RuntimeFn::Move(BitMove::Bitreverse64),
-        ret: Some(Kind::Int(64)),
-        params: &[Kind::Int(64)],
+        ret: Some(ParamType::Int(64)),
+        params: &[ParamType::Int(64)],
     },
-    Row {
+    SignatureRow {
         name: b"llvm.fshl.i8",
         is: RuntimeFn::Move(BitMove::Fshl8),
-        ret: Some(Kind::Int(8)),
-        params: &[Kind::Int(8), Kind::Int(8), Kind::Int(8)],
+        ret: Some(ParamType::Int(8)),
+        params: &[ParamType::Int(8), ParamType::Int(8), ParamType::Int(8)],
     },
-    Row {
+    SignatureRow {
         name: b"llvm.fshl.i16",
         is: RuntimeFn::Move(BitMove::Fshl16),
-        ret: Some(Kind::Int(16)),
-        params: &[Kind::Int(16), Kind::Int(16), Kind::Int(16)],
+        ret: Some(ParamType::Int(16)),
+        params: &[ParamType::Int(16), ParamType::Int(16), ParamType::Int(16)],
     },
-    Row {
+    SignatureRow {
         name: b"llvm.fshl.i32",
         is: RuntimeFn::Move(BitMove::Fshl32),
-        ret: Some(Kind::Int(32)),
-        params: &[Kind::Int(32), Kind::Int(32), Kind::Int(32)],
+        ret: Some(ParamType::Int(32)),
+        params: &[ParamType::Int(32), ParamType::Int(32), ParamType::Int(32)],
     },
-    Row {
+    SignatureRow {
         name: b"llvm.fshl.i64",
         is: RuntimeFn::Move(BitMove::Fshl64),
-        ret: Some(Kind::Int(64)),
-        params: &[Kind::Int(64), Kind::Int(64), Kind::Int(64)],
+        ret: Some(ParamType::Int(64)),
+        params: &[ParamType::Int(64), ParamType::Int(64), ParamType::Int(64)],
     },
-    Row {
+    SignatureRow {
         name: b"llvm.fshr.i8",
         is: RuntimeFn::Move(BitMove::Fshr8),
-        ret: Some(Kind::Int(8)),
-        params: &[Kind::Int(8), Kind::Int(8), Kind::Int(8)],
+        ret: Some(ParamType::Int(8)),
+        params: &[ParamType::Int(8), ParamType::Int(8), ParamType::Int(8)],
     },
-    Row {
+    SignatureRow {
         name: b"llvm.fshr.i16",
         is: RuntimeFn::Move(BitMove::Fshr16),
-        ret: Some(Kind::Int(16)),
-        params: &[Kind::Int(16), Kind::Int(16), Kind::Int(16)],
+        ret: Some(ParamType::Int(16)),
+        params: &[ParamType::Int(16), ParamType::Int(16), ParamType::Int(16)],
     },
-    Row {
+    SignatureRow {
         name: b"llvm.fshr.i32",
         is: RuntimeFn::Move(BitMove::Fshr32),
-        ret: Some(Kind::Int(32)),
-        params: &[Kind::Int(32), Kind::Int(32), Kind::Int(32)],
+        ret: Some(ParamType::Int(32)),
+        params: &[ParamType::Int(32), ParamType::Int(32), ParamType::Int(32)],
     },
-    Row {
+    SignatureRow {
         name: b"llvm.fshr.i64",
         is: RuntimeFn::Move(BitMove::Fshr64),
-        ret: Some(Kind::Int(64)),
-        params: &[Kind::Int(64), Kind::Int(64), Kind::Int(64)],
+        ret: Some(ParamType::Int(64)),
+        params: &[ParamType::Int(64), ParamType::Int(64), ParamType::Int(64)],
     },
 ];
 
@@ -211,7 +236,7 @@ fn move_spelled(text: &[u8]) -> Option<RuntimeFn>
 }
 
 /// The row of a function that moves bits.
-fn move_row(kind: BitMove) -> &'static Row<RuntimeFn>
+fn move_row(kind: BitMove) -> &'static SignatureRow<RuntimeFn>
     ensures name { spelling.Text result.now.name.now ≡ runtime_name (called.Move kind) }
     ensures types { row_signature result.now ≡ runtime_signature (called.Move kind) }
 {
@@ -219,7 +244,7 @@ fn move_row(kind: BitMove) -> &'static Row<RuntimeFn>
 }
 
 /// The row of a runtime function.
-fn row_of(function: RuntimeFn) -> &'static Row<RuntimeFn>
+fn row_of(function: RuntimeFn) -> &'static SignatureRow<RuntimeFn>
     ensures name { spelling.Text result.now.name.now ≡ runtime_name function }
     ensures types { row_signature result.now ≡ runtime_signature function }
 {
@@ -284,7 +309,7 @@ impl RuntimeFn {
     }
 }
 
-/// The functions that marked calls alone reach, as an instrumented module declares them. The one error is running out of memory.
+/// The functions that marked calls alone reach, as an instrumented module declares them.
 pub fn runtime_declarations(alloc: Global) -> Result<List<Decl>, NoMemory>
     ensures { IfOk result (λ ds. ds ≡ runtime_declarations) }
 {

@@ -40,7 +40,7 @@ fn first<T>(items: &[T], count: u32) -> &[T]
 }
 
 /// The site that comes after these functions, blocks and instructions.
-fn site_behind(funcs: &[Func], blocks: &[Block], insts: &[Inst]) -> u32
+fn site_after(funcs: &[Func], blocks: &[Block], insts: &[Inst]) -> u32
     requires { 1 + over_funcs one_unmarked funcs.now + over_blocks one_unmarked blocks.now + over_insts one_unmarked insts.now < 2 ^ 32 }
     ensures { result ≡ 1 + over_funcs one_unmarked funcs.now + over_blocks one_unmarked blocks.now + over_insts one_unmarked insts.now }
 {
@@ -57,7 +57,7 @@ pub fn site_of(m: &Module, place: Place) -> u32
     let funcs = first(m.funcs.as_slice(), place.func);
     let blocks = first(blocks_of(m, place.func), place.block);
     let insts = first(insts_of(m, place.func, place.block), place.inst);
-    site_behind(funcs, blocks, insts)
+    site_after(funcs, blocks, insts)
 }
 
 /// A part of a list, and which of its unmarked instructions is sought, counted from 0.

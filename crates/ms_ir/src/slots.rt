@@ -116,7 +116,7 @@ impl Slot {
         }
     }
 
-    /// The slot as it is declared. The one error is running out of memory.
+    /// The slot as it is declared.
     pub fn declaration(self, alloc: Global) -> Result<GlobalVar, NoMemory>
         ensures { IfOk result (λ g. g ≡ slot_global self) }
     {
@@ -146,7 +146,7 @@ fn globals_of(alloc: Global, slots: &[Slot]) -> Result<List<GlobalVar>, NoMemory
     Ok(List::from_vec(globals))
 }
 
-/// The slots as an instrumented module declares them. The one error is running out of memory.
+/// The slots as an instrumented module declares them.
 pub fn slot_globals(alloc: Global) -> Result<List<GlobalVar>, NoMemory>
     ensures { IfOk result (λ gs. gs ≡ slot_globals) }
 {

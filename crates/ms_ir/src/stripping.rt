@@ -84,8 +84,8 @@ fn strip_decls(alloc: Global, decls: &[Decl]) -> Result<List<Decl>, NoMemory>
     Ok(List::from_vec(left))
 }
 
-/// A copy of a module without its marked instructions, and without the globals and declarations whose names
-/// are reserved. The one error is running out of memory. Linear in the module.
+/// A copy of a module without its marked instructions, and without the globals and declarations whose names are reserved.
+/// Linear in the module.
 pub fn strip(alloc: Global, m: &Module) -> Result<Module, NoMemory>
     ensures { IfOk result (λ left. left ≡ strip m.now) }
 {

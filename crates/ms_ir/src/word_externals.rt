@@ -7,7 +7,7 @@ ghost use Rattle.ms_ir.specs.Names.{lookup, word_externals};
 ghost use Rattle.ms_ir.specs.{Signatures.{decl_signature, signature_eq, external_signature}, Rows.{word_rows}};
 
 use crate::calls::External;
-use crate::rows::{Kind, are_types};
+use crate::rows::{ParamType, are_types};
 use crate::syntax::Decl;
 use ms_bits::{WordFn, WordWidth};
 
@@ -108,10 +108,14 @@ pub fn spelled(text: &[u8]) -> Option<External>
 pub fn has_types_of(function: WordFn, width: WordWidth, decl: &Decl) -> bool
     ensures { result ≡ signature_eq (decl_signature decl.now) (external_signature (external.Word function width)) }
 {
-    let word = Kind::Int(width.bits());
+    let word = ParamType::Int(width.bits());
     match function {
         WordFn::Ctpop | WordFn::Bswap | WordFn::Bitreverse => are_types(word, &[word], decl),
-        WordFn::Ctlz | WordFn::Cttz | WordFn::Abs => are_types(word, &[word, Kind::Int(1)], decl),
+        WordFn::Ctlz | WordFn::Cttz | WordFn::Abs => are_types(
+            word,
+            &[word, ParamType::Int(1)],
+            decl,
+        ),
         WordFn::Fshl | WordFn::Fshr => are_types(word, &[word, word, word], decl),
         WordFn::Smax
         | WordFn::Smin

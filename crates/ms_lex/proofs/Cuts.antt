@@ -40,7 +40,7 @@ at_stop b z place h c t = rw (h, c, t) refl
 
 pub record Found (text : Text) (limit : ℕ) (found : List Token) (place : ℕ) (rest : Text) : Type 0 where
   pub all : before found (cut_from 0 place rest) ≡ cut_of text
-  pub behind : rest ≡ drop place text
+  pub after : rest ≡ drop place text
   pub inside : place + length rest ≡ length text
   pub few : length found ≤ limit
 
@@ -49,7 +49,7 @@ within text limit front few stop c e = rw (← e, le-ltb limit (length front) fe
 
 pub began : (text : Text) (limit : ℕ) → Found text limit [] 0 text
 unfolding cut_of
-began text limit = record { all = refl; behind = refl; inside = omega arith; few = omega arith }
+began text limit = record { all = refl; after = refl; inside = omega arith; few = omega arith }
 
 pub ended : (text : Text) (limit : ℕ) (found : List Token) (place : ℕ) (rest : Text) → Found text limit found place rest → rest ≡ [] → tokens_of text limit ≡ Ok found
 unfolding tokens_of
@@ -64,15 +64,15 @@ module _ (text : Text) (limit : ℕ) (found : List Token) (place : ℕ) (rest : 
   len = rw parts (omega arith)
 
   this_byte : slice_index text place ≡ b
-  this_byte = ap (λ k. get_or text k 0) (omega arith) ∙ sym (get_or-drop place text 0 0) ∙ ap (λ r. get_or r 0 0) (sym so_far.behind ∙ parts)
+  this_byte = ap (λ k. get_or text k 0) (omega arith) ∙ sym (get_or-drop place text 0 0) ∙ ap (λ r. get_or r 0 0) (sym so_far.after ∙ parts)
 
   next_rest : drop (place + 1) text ≡ z
-  next_rest = sym (drop-drop 1 place text) ∙ ap (drop 1) (sym so_far.behind ∙ parts)
+  next_rest = sym (drop-drop 1 place text) ∙ ap (drop 1) (sym so_far.after ∙ parts)
 
   pub blank_more : is_blank b ≡ true → Found text limit found (place + 1) z
   blank_more h = record {
     all = ap (before found) (sym (at_blank b z place h)) ∙ here;
-    behind = sym next_rest;
+    after = sym next_rest;
     inside = omega (arith, so_far.inside, len);
     few = so_far.few;
   }
@@ -80,7 +80,7 @@ module _ (text : Text) (limit : ℕ) (found : List Token) (place : ℕ) (rest : 
   pub comment_more : is_blank b ≡ false → eqb b 59 ≡ true → position_or_len is_newline z ≤ length z → Found text limit found (place + 1 + position_or_len is_newline z) (drop (position_or_len is_newline z) z)
   comment_more h c long = record {
     all = ap (before found) (sym (at_comment b z place h c)) ∙ here;
-    behind = ap (drop (position_or_len is_newline z)) (sym next_rest) ∙ drop-drop (position_or_len is_newline z) (place + 1) text;
+    after = ap (drop (position_or_len is_newline z)) (sym next_rest) ∙ drop-drop (position_or_len is_newline z) (place + 1) text;
     inside = omega (arith, so_far.inside, len, length-drop (position_or_len is_newline z) z);
     few = so_far.few;
   }
@@ -101,7 +101,7 @@ module _ (text : Text) (limit : ℕ) (found : List Token) (place : ℕ) (rest : 
     pub one_more : n ≤ length rest → length found < limit → Found text limit (found ++ record { kind = kind; start = place; end = place + n } ∷ []) (place + n) (drop n rest)
     one_more long room = record {
       all = ap (λ ts. record { tokens = ts; stop = (cut_from 0 (place + n) (drop n rest)).stop }) (append_assoc found _ _) ∙ ap (λ r. before found (with_first (record { kind = kind; start = place; end = place + n }) (cut_from 0 (place + n) (drop n r)))) parts ∙ ap (before found) (sym (at_token b z place kind n h c t some)) ∙ here;
-      behind = ap (drop n) so_far.behind ∙ drop-drop n place text;
+      after = ap (drop n) so_far.after ∙ drop-drop n place text;
       inside = omega (arith, so_far.inside, length-drop n rest);
       few = omega (arith, length-append {A = Token});
     }

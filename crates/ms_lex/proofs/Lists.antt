@@ -6,7 +6,7 @@ use Rattle.ms_lex.proofs.Exact.{shorter}
 use Rattle.ms_lex.proofs.Loops.{loop_goes, loop_ends}
 
 module _ {T R : Type 0} (end : T) where
-  -- the closing token, behind all items
+  -- the closing token, after all items
   abbrev pub closed : {A : Type 0} → (T → Bool) → (T → R) → List A → List T → Outcome T R (List A)
   closed closes reason all rest = and_then (run end (expect closes reason) rest) (λ _. done all)
 

@@ -1,4 +1,4 @@
--- The tokens of a text lie in it, one behind the other.
+-- The tokens of a text lie in it, one after the other.
 use Rattle.std.proofs.Common.{◌≡◌, ℕ, zero, suc, ◌+◌, ◌-◌, ◌<◌, ◌≤◌, Bool, true, false, not, cond, eqb, ltb, List, [], ◌∷◌, length, take, drop, Option, Some, None, refl, arith, length-drop}
 use Rattle.std.proofs.Math.Dec.{eqb-suc-zero}
 use Rattle.std.proofs.lemmas.Bool.{ltb-true}
@@ -8,7 +8,7 @@ use Rattle.ms_lex.specs.declared.kinds.Kind.{Kind}
 use Rattle.ms_lex.specs.declared.kinds.Token.{Token}
 use Rattle.ms_lex.specs.Tokens.{Text, Form, Found, Cut, is_blank, is_name_byte, is_newline, is_one_of, is_quote, is_number, begins_word, is_c, punctuation, one_of, followed_by, or_else, run, run_that, up_to_quote, string, name, label, c_text, table, or_next, first_fit, token_at, cut_at, cut_from, cut_of, InOrder}
 
--- ---- A form that fits takes a byte or more, and none behind the end
+-- ---- A form that fits takes a byte or more, and none after the end
 
 abbrev Inside : Text → Option ℕ → Type 0
 Inside text None = Unit {0}
@@ -173,13 +173,13 @@ in_order_from : (left place : ℕ) (text : Text) → left ≤ length text → Fr
 in_order_from left place [] long = tt
 in_order_from (suc left) place (b ∷ rest) long = moved _ _ _ _ (cut_from left (place + 1) rest).tokens (omega arith) (omega arith) (in_order_from left (place + 1) rest (omega arith))
 in_order_from zero place (b ∷ rest) long =
-    let behind : From place (place + 1 + length rest) (cut_from 0 (place + 1) rest).tokens = earlier place (place + 1 + 0) _ (cut_from 0 (place + 1) rest).tokens (omega arith) (in_order_from 0 (place + 1) rest (omega arith)) in
+    let after : From place (place + 1 + length rest) (cut_from 0 (place + 1) rest).tokens = earlier place (place + 1 + 0) _ (cut_from 0 (place + 1) rest).tokens (omega arith) (in_order_from 0 (place + 1) rest (omega arith)) in
     let line = prefix_inside (λ b. not (is_newline b)) rest in
-    let behind_line : From place (place + 1 + length rest) (cut_from (position_or_len is_newline rest) (place + 1) rest).tokens = earlier place (place + 1 + position_or_len is_newline rest) _ (cut_from (position_or_len is_newline rest) (place + 1) rest).tokens (omega arith) (in_order_from (position_or_len is_newline rest) (place + 1) rest line) in
+    let after_line : From place (place + 1 + length rest) (cut_from (position_or_len is_newline rest) (place + 1) rest).tokens = earlier place (place + 1 + position_or_len is_newline rest) _ (cut_from (position_or_len is_newline rest) (place + 1) rest).tokens (omega arith) (in_order_from (position_or_len is_newline rest) (place + 1) rest line) in
     let token = cut_at_inside (token_at (b ∷ rest)) b rest place (token_inside (b ∷ rest)) (λ left less. in_order_from left (place + 1) rest less) in
     moved place (place + 0) (place + 1 + length rest) (place + length (b ∷ rest)) _ (omega arith) (omega arith)
     (chosen (is_blank b) (eqb b 59) (cut_from 0 (place + 1) rest) (cut_from (position_or_len is_newline rest) (place + 1) rest) (cut_at (token_at (b ∷ rest)) place (λ left. cut_from left (place + 1) rest)) place (place + 1 + length rest)
-    behind behind_line (moved place place (place + length (b ∷ rest)) (place + 1 + length rest) _ refl (omega arith) token))
+    after after_line (moved place place (place + length (b ∷ rest)) (place + 1 + length rest) _ refl (omega arith) token))
 
 pub in_order_of : (text : Text) → From 0 (length text) (cut_of text).tokens
 unfolding cut_of
@@ -192,15 +192,15 @@ within_at place size [] h k d less = absurd (omega arith)
 within_at place size (t ∷ ts) h zero d less = (h.1, h.2)
 within_at place size (t ∷ ts) h (suc k) d less = within_at t.end size ts h.3 k d (omega arith)
 
-behind_at : (place size : ℕ) (ts : List Token) → From place size ts → (k : ℕ) (d : Token) → k < length ts → place ≤ (slice_index_or ts k d).start
-behind_at place size [] h k d less = absurd (omega arith)
-behind_at place size (t ∷ ts) h zero d less = h.0
-behind_at place size (t ∷ ts) h (suc k) d less = let rest = behind_at t.end size ts h.3 k d (omega arith) in omega (arith, h.0, h.1)
+after_at : (place size : ℕ) (ts : List Token) → From place size ts → (k : ℕ) (d : Token) → k < length ts → place ≤ (slice_index_or ts k d).start
+after_at place size [] h k d less = absurd (omega arith)
+after_at place size (t ∷ ts) h zero d less = h.0
+after_at place size (t ∷ ts) h (suc k) d less = let rest = after_at t.end size ts h.3 k d (omega arith) in omega (arith, h.0, h.1)
 
 pairs_at : (place size : ℕ) (ts : List Token) → From place size ts → (i j : ℕ) (d : Token) → i < j → j < length ts → (slice_index_or ts i d).end ≤ (slice_index_or ts j d).start
 pairs_at place size [] h i j d less inside = absurd (omega arith)
 pairs_at place size (t ∷ ts) h i zero d less inside = absurd (omega arith)
-pairs_at place size (t ∷ ts) h zero (suc j) d less inside = behind_at t.end size ts h.3 j d (omega arith)
+pairs_at place size (t ∷ ts) h zero (suc j) d less inside = after_at t.end size ts h.3 j d (omega arith)
 pairs_at place size (t ∷ ts) h (suc i) (suc j) d less inside = pairs_at t.end size ts h.3 i j d (omega arith) (omega arith)
 
 in_order_by_index : (size : ℕ) (ts : List Token) → From 0 size ts → InOrder ts size

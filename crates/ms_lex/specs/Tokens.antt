@@ -157,8 +157,8 @@ with_first token rest = record { tokens = token ∷ rest.tokens; stop = rest.sto
 
 -- a token of n bytes at this place, and the text after its first byte
 abbrev pub cut_at : Found → ℕ → (ℕ → Cut) → Cut
-cut_at None place behind = record { tokens = []; stop = Some place }
-cut_at (Some found) place behind = with_first (record { kind = found.0; start = place; end = place + found.1 }) (behind (found.1 - 1))
+cut_at None place after = record { tokens = []; stop = Some place }
+cut_at (Some found) place after = with_first (record { kind = found.0; start = place; end = place + found.1 }) (after (found.1 - 1))
 
 -- The text from this place on. As many of its bytes as `left` says belong to the token or the comment in front of it.
 -- Any other byte is a blank, begins a comment, which goes on up to the end of its line, or begins a token.

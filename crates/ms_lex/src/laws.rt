@@ -22,7 +22,7 @@ pub trait HasGrammar {
 /// From a list of tokens every grammar either reads one value, or stops at one token for one reason, and
 /// never both. The function `run` of its definition finds out which.
 #[tactic(auto, using(crate::proofs::Relations::one_reading, crate::proofs::Relations::not_both, crate::proofs::Relations::either))]
-pub fn reads_or_stops<G: HasGrammar>(grammar: &G)
+pub fn law_reads_or_stops<G: HasGrammar>(grammar: &G)
     ensures one_reading { (ts x y : List G.Token) (a b : G.Value)
         → Reads (G.end grammar.now) (G.grammar grammar.now) ts a x
         → Reads (G.end grammar.now) (G.grammar grammar.now) ts b y → (a ≡ b) × (x ≡ y) }

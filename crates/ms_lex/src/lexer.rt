@@ -7,7 +7,7 @@ ghost use Rattle.ms_lex.specs.Tokens as spec;
 use crate::errors::LexError;
 use crate::kinds::Token;
 use crate::scan::{is_blank, line_length, token_at};
-use crate::spellings::{behind, front};
+use crate::spellings::{bytes_after, front};
 use std::alloc::Global;
 
 /// Why no token begins at this byte, which stands at this place.
@@ -38,7 +38,7 @@ fn cut(alloc: Global, text: &[u8], limit: u32) -> Result<Vec<Token>, LexError>
         } else if first == b';' {
             let line = line_length(after);
             place = place + 1 + line as u32;
-            rest = behind(after, line);
+            rest = bytes_after(after, line);
         } else {
             match token_at(rest, first, after) {
                 None => return Err(refusal(first, place)),
@@ -53,7 +53,7 @@ fn cut(alloc: Global, text: &[u8], limit: u32) -> Result<Vec<Token>, LexError>
                         end,
                     })?;
                     place = end;
-                    rest = behind(rest, n);
+                    rest = bytes_after(rest, n);
                 }
             }
         }
@@ -93,6 +93,6 @@ pub fn tokens(alloc: Global, text: &[u8], limit: u32) -> Result<Vec<Token>, LexE
 }
 
 /// The tokens of a text stand in it in order, up to the first place where none begins too.
-pub fn tokens_stand_in_order(text: &[u8])
+pub fn law_tokens_stand_in_order(text: &[u8])
     ensures { InOrder (cut_of text.now).tokens (length text.now) }
 {}

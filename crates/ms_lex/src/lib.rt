@@ -16,8 +16,8 @@ mod spellings;
 
 pub use errors::{LexError, NoMemory};
 pub use kinds::{Kind, Token};
-pub use laws::{HasGrammar, reads_or_stops};
-pub use lexer::{tokens, tokens_stand_in_order};
+pub use laws::{HasGrammar, law_reads_or_stops};
+pub use lexer::{law_tokens_stand_in_order, tokens};
 pub use names::{name_of, plain_name};
 pub use numbers::{decimal, number_of};
 pub use scan::is_name_byte;

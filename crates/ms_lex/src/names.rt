@@ -32,10 +32,10 @@ fn hexadecimal_byte(text: &[u8]) -> Option<(u8, &[u8])>
     ensures none { IfNone result (unescaped (92 ∷ text.now) ≡ 92 ∷ unescaped text.now) }
 {
     match text {
-        [first, second, behind @ ..] => {
+        [first, second, after @ ..] => {
             let high = hexadecimal_digit(*first)?;
             let low = hexadecimal_digit(*second)?;
-            Some((16 * high + low, behind))
+            Some((16 * high + low, after))
         }
         _ => None,
     }
@@ -50,12 +50,12 @@ fn first_byte(text: &[u8]) -> Option<(u8, &[u8])>
 {
     match text {
         [] => None,
-        [b'\\', b'\\', behind @ ..] => Some((b'\\', behind)),
-        [b'\\', behind @ ..] => match hexadecimal_byte(behind) {
+        [b'\\', b'\\', after @ ..] => Some((b'\\', after)),
+        [b'\\', after @ ..] => match hexadecimal_byte(after) {
             Some(found) => Some(found),
-            None => Some((b'\\', behind)),
+            None => Some((b'\\', after)),
         },
-        [first, behind @ ..] => Some((*first, behind)),
+        [first, after @ ..] => Some((*first, after)),
     }
 }
 
@@ -65,9 +65,9 @@ fn unescape(alloc: Global, text: &[u8]) -> Result<Vec<u8>, NoMemory>
 {
     let mut bytes: Vec<u8> = Vec::new(alloc);
     let mut rest = text;
-    'bytes: while let Some((byte, behind)) = first_byte(rest) {
+    'bytes: while let Some((byte, after)) = first_byte(rest) {
         bytes.push(byte)?;
-        rest = behind;
+        rest = after;
     }
     Ok(bytes)
 }

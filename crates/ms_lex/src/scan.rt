@@ -5,7 +5,7 @@ ghost use Rattle.std.specs.{Char.{is_ascii_digit}, List.{list_all, position_or_l
 ghost use Rattle.ms_lex.specs.Tokens as spec;
 
 use crate::kinds::Kind;
-use crate::spellings::behind;
+use crate::spellings::bytes_after;
 
 pub fn is_blank(b: u8) -> bool
     ensures { result ≡ spec.is_blank b }
@@ -220,7 +220,7 @@ fn c_text(text: &[u8], run: usize) -> Option<usize>
     if !is_c(&text[..run]) {
         return None;
     }
-    match string(behind(text, run)) {
+    match string(bytes_after(text, run)) {
         Some(n) => Some(run + n),
         None => None,
     }
@@ -263,7 +263,7 @@ fn string_token(text: &[u8], rest: &[u8]) -> Option<(Kind, usize)>
 }
 
 /// A token of one byte and what stands after that.
-fn behind_byte(kind: Kind, length: Option<usize>) -> Option<(Kind, usize)>
+fn after_byte(kind: Kind, length: Option<usize>) -> Option<(Kind, usize)>
     requires { IfSome length (λ n. n < 2 ^ 62) }
     ensures { result ≡ spec.or_next kind (option_map (λ m. 1 + m) length) None }
 {
@@ -299,9 +299,9 @@ pub fn token_at(text: &[u8], first: u8, rest: &[u8]) -> Option<(Kind, usize)>
     }
     match first {
         b'"' => string_token(text, rest),
-        b'@' => behind_byte(Kind::Global, name(rest)),
-        b'%' => behind_byte(Kind::Local, name(rest)),
-        b'#' => behind_byte(Kind::Group, run(rest)),
+        b'@' => after_byte(Kind::Global, name(rest)),
+        b'%' => after_byte(Kind::Local, name(rest)),
+        b'#' => after_byte(Kind::Group, run(rest)),
         b'!' => Some(bang_token(rest)),
         _ => {
             if is_punctuation(first) {

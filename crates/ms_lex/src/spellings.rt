@@ -17,7 +17,7 @@ pub fn front(text: &[u8]) -> Option<(u8, &[u8])>
 }
 
 /// The text after so many bytes.
-pub fn behind(text: &[u8], n: usize) -> &[u8]
+pub fn bytes_after(text: &[u8], n: usize) -> &[u8]
     requires { n ≤ length text.now }
     ensures { result.now ≡ drop n text.now }
 {

@@ -14,10 +14,10 @@ use Rattle.ms_ir.specs.Instructions.{func_at, blocks_at, insts_at, over_insts, o
 use Rattle.ms_ir.specs.Locals.{locals}
 use Rattle.ms_ir.proofs.Counting.{blocks_are, insts_are}
 use Rattle.ms_runs.specs.Control.{Frame}
-use Rattle.ms_valid.specs.Formed.{Formed, func_formed}
-use Rattle.ms_good_laws.specs.GoodStates.{GoodFrame, GoodFrames, IsBelow}
-use Rattle.ms_good_laws.proofs.Starts.{all_get}
-use Rattle.ms_code.specs.Reads.{Holds}
+use Rattle.ms_check_valid.specs.Formed.{Formed, func_formed}
+use Rattle.ms_runs_good_laws.specs.GoodStates.{GoodFrame, GoodFrames, IsBelow}
+use Rattle.ms_runs_good_laws.proofs.Starts.{all_get}
+use Rattle.ms_machine_code.specs.Reads.{Holds}
 use Rattle.ms_machine_frames.specs.declared.frames.Frame.{Frame as Kept}
 use Rattle.ms_machine_frames.specs.declared.fibers.Fiber.{Fiber}
 use Rattle.ms_machine_frames.specs.Standing.{frames_of}

@@ -10,7 +10,7 @@ use Rattle.ms_ir.specs.declared.syntax.Func.{Func}
 use Rattle.ms_ir.specs.Names.{name_eq, lookup}
 use Rattle.ms_ir.specs.Locals.{block_locals, locals, typed_result, value_type}
 use Rattle.ms_ir.proofs.Sizes.{drop_next}
-use Rattle.ms_valid.specs.FlowGraph.{name_place}
+use Rattle.ms_check_valid.specs.FlowGraph.{name_place}
 use Rattle.ms_machine.specs.Searches.{IsSought}
 
 -- ---- types

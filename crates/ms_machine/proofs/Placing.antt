@@ -9,8 +9,8 @@ use Rattle.ms_ir.specs.declared.syntax.Module.{Module}
 use Rattle.ms_ir.specs.Instructions.{func_at, blocks_at, insts_at, over_insts, over_blocks, over_funcs}
 use Rattle.ms_ir.proofs.Counting.{blocks_are, insts_are}
 use Rattle.ms_ir.proofs.Sizes.{drop_next}
-use Rattle.ms_valid.specs.Formed.{Formed}
-use Rattle.ms_valid.proofs.SmallNumbers.{small_numbers}
+use Rattle.ms_check_valid.specs.Formed.{Formed}
+use Rattle.ms_check_valid.proofs.SmallNumbers.{small_numbers}
 use Rattle.ms_machine.specs.Searches.{IsInBlock, IsInFunc}
 use Rattle.ms_machine_steps.proofs.RunSteps.{funcs_below}
 

@@ -4,10 +4,10 @@ use Rattle.ms_ir.specs.declared.syntax.Module.{Module}
 use Rattle.ms_runs.specs.declared.runs.Setup.{Setup}
 use Rattle.ms_runs.specs.Control.{Frame}
 use Rattle.ms_runs.specs.Plain.{PlainState}
-use Rattle.ms_valid.specs.Formed.{Formed}
-use Rattle.ms_valid.specs.Valid.{Valid}
-use Rattle.ms_code.specs.declared.code.Program.{Program}
-use Rattle.ms_code.specs.Compiled.{Compiled}
+use Rattle.ms_check_valid.specs.Formed.{Formed}
+use Rattle.ms_check_valid.specs.Valid.{Valid}
+use Rattle.ms_machine_code.specs.declared.code.Program.{Program}
+use Rattle.ms_machine_code.specs.Compiled.{Compiled}
 use Rattle.ms_host.specs.declared.calls.Asked.{Asked}
 use Rattle.ms_host.specs.State.{WorldState, Beside}
 use Rattle.ms_machine_frames.specs.declared.frames.Frame.{Frame as Kept}

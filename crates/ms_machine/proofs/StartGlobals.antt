@@ -14,15 +14,15 @@ use Rattle.ms_ir.specs.Written.{init_types, items_types}
 use Rattle.ms_runs.specs.World.{World, first_world}
 use Rattle.ms_runs.specs.Memory.{used, fits, next_base, make}
 use Rattle.ms_runs.specs.Globals.{address_of, constant, write_init, write_items, write_fields, make_globals}
-use Rattle.ms_valid.specs.SizesFit.{sized, taken_with, unsized_globals}
-use Rattle.ms_valid.specs.Valid.{Valid}
-use Rattle.ms_code.specs.Constants.{globals_constants}
-use Rattle.ms_compile_operands.proofs.SizedTypes.{own_size}
-use Rattle.ms_compile_operands.proofs.ValidSizes.{sized_first, sized_both, fits_next, still_within, valid_parts}
+use Rattle.ms_check_valid.specs.SizesFit.{sized, taken_with, unsized_globals}
+use Rattle.ms_check_valid.specs.Valid.{Valid}
+use Rattle.ms_machine_code.specs.Constants.{globals_constants}
+use Rattle.ms_machine_operands.proofs.SizedTypes.{own_size}
+use Rattle.ms_machine_operands.proofs.ValidSizes.{sized_first, sized_both, fits_next, still_within, valid_parts}
 use Rattle.ms_host.specs.State.{WorldState, nothing_beside}
 use Rattle.ms_host.specs.Shows.{Shows}
 use Rattle.ms_host.specs.Initial.{init_sized, items_sized, global_sized, globals_sized, globals_fit, MakesGlobals, PassesLimit}
-use Rattle.ms_good_laws.proofs.Rooms.{used_push}
+use Rattle.ms_runs_good_laws.proofs.Rooms.{used_push}
 
 -- ---- sizes
 

@@ -17,15 +17,15 @@ use Rattle.ms_ir.specs.Names.{name_eq, main_name, lookup}
 use Rattle.ms_ir.specs.Layout.{width_of}
 use Rattle.ms_ir.specs.Locals.{block_locals, locals, results, typed_result, value_type}
 use Rattle.ms_ir.specs.Written.{result_type}
-use Rattle.ms_valid.specs.FlowGraph.{name_place}
-use Rattle.ms_valid.specs.FormedNames.{is_local_name, is_global_name, are_numbered}
-use Rattle.ms_valid.specs.FormedCode.{is_int_type, is_value_type, result_formed, shape_formed, inst_formed, is_body}
-use Rattle.ms_valid.specs.Formed.{block_formed, func_formed}
-use Rattle.ms_code.specs.Reads.{Holds}
-use Rattle.ms_compile_operands.specs.Words.{IsWord}
+use Rattle.ms_check_valid.specs.FlowGraph.{name_place}
+use Rattle.ms_check_valid.specs.FormedNames.{is_local_name, is_global_name, are_numbered}
+use Rattle.ms_check_valid.specs.FormedCode.{is_int_type, is_value_type, result_formed, shape_formed, inst_formed, is_body}
+use Rattle.ms_check_valid.specs.Formed.{block_formed, func_formed}
+use Rattle.ms_machine_code.specs.Reads.{Holds}
+use Rattle.ms_machine_operands.specs.Words.{IsWord}
 use Rattle.ms_machine.specs.WordsNamed.{word_named}
 use Rattle.ms_machine.proofs.Naming.{lookup_hit, lookup_miss, place_hit, counts}
-use Rattle.ms_good_laws.proofs.Starts.{formed_shape}
+use Rattle.ms_runs_good_laws.proofs.Starts.{formed_shape}
 
 -- ---- types of results
 

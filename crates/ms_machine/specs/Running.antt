@@ -7,10 +7,10 @@ use Rattle.ms_ir.specs.Locals.{locals}
 use Rattle.ms_runs.specs.declared.runs.Setup.{Setup}
 use Rattle.ms_runs.specs.Control.{Frame}
 use Rattle.ms_runs.specs.Plain.{PlainState}
-use Rattle.ms_good_laws.specs.GoodWorlds.{GivesBytes}
-use Rattle.ms_good_laws.specs.GoodRuns.{SoundPlain}
-use Rattle.ms_code.specs.Reads.{Holds}
-use Rattle.ms_code.specs.Encodes.{number_of}
+use Rattle.ms_runs_good_laws.specs.GoodWorlds.{GivesBytes}
+use Rattle.ms_runs_good_laws.specs.GoodRuns.{SoundPlain}
+use Rattle.ms_machine_code.specs.Reads.{Holds}
+use Rattle.ms_machine_code.specs.Encodes.{number_of}
 use Rattle.ms_host.specs.State.{WorldState, Beside}
 use Rattle.ms_host.specs.Shows.{Shows}
 use Rattle.ms_host.specs.SlotBytes.{ShowsSlots}

@@ -5,7 +5,7 @@ use Rattle.ms_ir.specs.declared.syntax.Name.{Name}
 use Rattle.ms_ir.specs.declared.syntax.Block.{Block}
 use Rattle.ms_ir.specs.declared.syntax.Func.{Func}
 use Rattle.ms_ir.specs.Instructions.{over_blocks, over_funcs}
-use Rattle.ms_valid.specs.FlowGraph.{name_place}
+use Rattle.ms_check_valid.specs.FlowGraph.{name_place}
 
 -- the instruction with a number among those of blocks, counted from 0, stands in block b, as instruction p
 pub record IsInBlock (blocks : List Block) (number b p : ℕ) : Type 0 where

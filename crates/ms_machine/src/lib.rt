@@ -5,15 +5,15 @@
 //! afterwards stand for what the definitions make of it.
 #![tactic(auto)]
 
+mod inspect;
 mod names;
 mod places;
 mod running;
 mod spawning;
-mod standing;
 mod starting;
 mod words;
 
+pub use inspect::{frames, place, word};
 pub use running::{advance, resume};
 pub use spawning::spawn;
-pub use standing::{frames, place, word};
 pub use starting::start;

@@ -1,7 +1,7 @@
 //! Where instructions stand, by their numbers, counted from 0 in text order.
 ghost use Rattle.std.specs.Prelude.{◌≡◌, ◌≤◌, ◌<◌, ◌+◌, ℕ, Some, IfErr, IfNone, IfOk, IfSome};
 ghost use Rattle.ms_ir.specs.Instructions.{func_at, over_blocks, over_funcs};
-ghost use Rattle.ms_valid.specs.Formed.{Formed};
+ghost use Rattle.ms_check_valid.specs.Formed.{Formed};
 ghost use Rattle.ms_machine.specs.Searches.{IsInBlock, IsInFunc};
 
 use ms_ir::{Block, Func, Module, Place};

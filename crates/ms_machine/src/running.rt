@@ -19,9 +19,9 @@ use std::alloc::Global;
 
 /// Goes on until a function is called that the module doesn't define, until the run ends, or until no step is left.
 ///
-/// A step is an unmarked instruction with the marked ones before it. None is begun where none is left. That of an
-/// external is counted when it is asked for; then `resume` goes on after the call. A step takes as long in a large
-/// module as in a small one. The one error is running out of memory, and the run is over then.
+/// A step is an unmarked instruction with the marked ones before it. None is begun where none is left. That of an external is
+/// counted when it is asked for; then `resume` goes on after the call. A step takes as long in a large module as in a small
+/// one. Where memory runs out the run is over.
 pub fn advance(
     alloc: Global,
     m: &CheckedModule,
@@ -35,7 +35,7 @@ pub fn advance(
     ensures given { KeepsGiven world.old world.new }
     ensures made { world.new.made + 2 ^ 26 * budget.new.left ≤ world.old.made + 2 ^ 26 * budget.old.left }
 {
-    m.is_valid();
+    m.law_valid();
     steps::run_steps(alloc, m.program(), fiber, world, budget)
 }
 
@@ -52,6 +52,6 @@ pub fn resume(m: &CheckedModule, fiber: &mut Fiber, value: Option<u64>)
         → Answered later (asked_effect (setting_of m.now u) (types_due m.now state.frames) call state.world) (Resumed value) after → after.fill ≡ before.fill → after.slots ≡ before.slots
         → HasResumed (IsRunning m.now u later) m.now u call.asked state fiber.new after }
 {
-    m.is_valid();
+    m.law_valid();
     steps::give_answer(m.program(), fiber, value);
 }

@@ -1,6 +1,6 @@
 //! The fiber of a thread that begins.
 ghost use Rattle.std.specs.Prelude.{◌≡◌, IfOk};
-ghost use Rattle.ms_good_laws.specs.GoodStates.{IsStart};
+ghost use Rattle.ms_runs_good_laws.specs.GoodStates.{IsStart};
 ghost use Rattle.ms_machine.specs.Spawning.{SpawnedFor};
 
 use ms_bits::NoMemory;
@@ -8,12 +8,11 @@ use ms_check::CheckedModule;
 use ms_machine_frames::{Fiber, spawn_fiber};
 use std::alloc::Global;
 
-/// A fiber that begins with the function with a number, of the type `ptr (ptr)`, and this argument. The one error is running out of
-/// memory.
+/// A fiber that begins with the function with a number, of the type `ptr (ptr)`, and this argument.
 pub fn spawn(alloc: Global, m: &CheckedModule, func: u32, argument: u64) -> Result<Fiber, NoMemory>
     requires start { IsStart m.now func }
     ensures spawned { IfOk result (SpawnedFor m.now func argument) }
 {
-    m.is_valid();
+    m.law_valid();
     spawn_fiber(alloc, m.program(), func, argument)
 }

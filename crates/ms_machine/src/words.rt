@@ -2,14 +2,14 @@
 ghost use Rattle.std.specs.Prelude.{◌≡◌, ◌≤◌, ◌<◌, ◌%◌, ◌^◌, ℕ, true, length, get_or};
 ghost use Rattle.ms_ir.specs.{declared.syntax.Name.{Name as NameOf}, Layout.{width_of}, Locals.{locals}};
 ghost use Rattle.ms_ir.specs.ValueTypes.{type_of};
-ghost use Rattle.ms_valid.specs.{FlowGraph.{name_place}, Formed.{func_formed}, FormedCode.{is_value_type}};
-ghost use Rattle.ms_code.specs.Reads.{Holds};
+ghost use Rattle.ms_check_valid.specs.{FlowGraph.{name_place}, Formed.{func_formed}, FormedCode.{is_value_type}};
+ghost use Rattle.ms_machine_code.specs.Reads.{Holds};
 ghost use Rattle.ms_machine.specs.WordsNamed.{word_named};
 
 use crate::names::{number_named, type_named};
 use ms_bits::Word;
-use ms_compile_operands::width_of;
 use ms_ir::{Func, Name, ValueType};
+use ms_machine_operands::width_of;
 
 /// The width of a type of values.
 fn width(ty: ValueType<'_>) -> u8

@@ -1,5 +1,5 @@
 pub mod Selections
-pub mod Quickly
+pub mod WordOperations
 pub mod Moves
 pub mod HeapBlocks
 pub mod Steps

@@ -7,12 +7,12 @@ use Rattle.ms_ir.specs.declared.syntax.Block.{Block}
 use Rattle.ms_ir.specs.Instructions.{one_unmarked, roots_in, over_insts, over_blocks}
 use Rattle.ms_ir.proofs.Sizes.{drop_next}
 use Rattle.ms_runs.specs.World.{Here}
-use Rattle.ms_valid.specs.Formed.{count_written}
-use Rattle.ms_tasks.specs.Tasks.{InsertedCode}
-use Rattle.ms_tasks.specs.Environments.{Env, Given}
-use Rattle.ms_tasks.specs.PassLists.{pass_insts}
+use Rattle.ms_check_valid.specs.Formed.{count_written}
+use Rattle.ms_pass_tasks.specs.Tasks.{InsertedCode}
+use Rattle.ms_pass_tasks.specs.Environments.{Env, Given}
+use Rattle.ms_pass_tasks.specs.PassLists.{pass_insts}
 use Rattle.ms_pass_laws.specs.Pass.{here_after, pass_blocks, enter_block}
-use Rattle.ms_instrumented_laws.proofs.Costs.{written_append}
+use Rattle.ms_pass_form_laws.proofs.Costs.{written_append}
 use Rattle.ms_pass.specs.declared.counts.Counts.{Counts}
 use Rattle.ms_pass.specs.Counted.{here_of, past_insts, past_blocks, AreSmall}
 use Rattle.ms_pass.specs.Passed.{with_insts, with_blocks}
@@ -23,8 +23,8 @@ use Rattle.ms_pass.proofs.Growth.{insts_grow}
 module _ (func : Name → Option ℕ) where
   pub counts_next : (counts next whole : Counts) (blocks : List Block) (i : ℕ) (b : Block) → i < length blocks → b ≡ get_or blocks i b → next ≡ past_insts func counts b.insts
       → past_blocks func counts (drop i blocks) ≡ whole → past_blocks func next (drop (i + 1) blocks) ≡ whole
-  counts_next counts next whole blocks i b below is behind before =
-      ap (λ n. past_blocks func n (drop (i + 1) blocks)) behind
+  counts_next counts next whole blocks i b below is later before =
+      ap (λ n. past_blocks func n (drop (i + 1) blocks)) later
       ∙ ap₂ {C = Counts} (λ s r. record { site = s; root = r })
       (add_assoc counts.site (over_insts one_unmarked b.insts) (over_blocks one_unmarked (drop (i + 1) blocks)))
       (add_assoc counts.root (over_insts (roots_in func) b.insts) (over_blocks (roots_in func) (drop (i + 1) blocks)))
@@ -73,8 +73,8 @@ module _ (given : Given) (env : Env) where
   pub blocks_next : (main : Bool) (counts next : Counts) (c after : InsertedCode) (done more whole : List Block) (blocks : List Block) (i : ℕ) (b : Block) → i < length blocks → b ≡ get_or blocks i b
       → next ≡ past_insts given.func counts b.insts → after ≡ left (here_of counts main) b c → more ≡ done ++ made (here_of counts main) b c ∷ []
       → done ++ with_blocks given env (here_of counts main) (drop i blocks) c ≡ whole → more ++ with_blocks given env (here_of next main) (drop (i + 1) blocks) after ≡ whole
-  blocks_next main counts next c after done more whole blocks i b below is behind grown pushed before =
-      ap₂ (λ l k. l ++ k) pushed (ap₂ (λ n k. with_blocks given env (here_of n main) (drop (i + 1) blocks) k) behind grown)
+  blocks_next main counts next c after done more whole blocks i b below is later grown pushed before =
+      ap₂ (λ l k. l ++ k) pushed (ap₂ (λ n k. with_blocks given env (here_of n main) (drop (i + 1) blocks) k) later grown)
       ∙ append_assoc done (made (here_of counts main) b c ∷ []) (with_blocks given env (here_of (past_insts given.func counts b.insts) main) (drop (i + 1) blocks) (left (here_of counts main) b c))
       ∙ ap (λ l. done ++ l) (sym (here_step main counts c blocks i b below is)) ∙ before
 
@@ -96,8 +96,8 @@ module _ (given : Given) (env : Env) where
       → next ≡ past_insts given.func counts b.insts → after ≡ left (here_of counts main) b c
       → c.next + over_blocks count_written (with_blocks given env (here_of counts main) (drop i blocks) c) < limit
       → after.next + over_blocks count_written (with_blocks given env (here_of next main) (drop (i + 1) blocks) after) < limit
-  room_next main counts next c after blocks i b limit below is behind grown room =
+  room_next main counts next c after blocks i b limit below is later grown room =
       let x = pass_insts given env b.insts (here_of counts main) c.next in
       let parts = ap (over_blocks count_written) (here_step main counts c blocks i b below is) in
-      let same = ap₂ (λ n k. k.next + over_blocks count_written (with_blocks given env (here_of n main) (drop (i + 1) blocks) k)) behind grown in
+      let same = ap₂ (λ n k. k.next + over_blocks count_written (with_blocks given env (here_of n main) (drop (i + 1) blocks) k)) later grown in
       omega (arith, parts, same, room, written_append c.code x.code, (insts_grow given env b.insts (here_of counts main) c.next).few)

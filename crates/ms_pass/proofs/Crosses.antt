@@ -6,8 +6,8 @@ use Rattle.std.proofs.Crossing
 use Rattle.std.proofs.MapsCrossing
 use Rattle.ms_ir.proofs.Crosses.{Func-sync, Ty-sync}
 use Rattle.ms_ir.proofs.syntax.Name.TheSendSync as names
-use Rattle.ms_tables.specs.contracts.table.NameTable as name_table
-use Rattle.ms_tables.specs.contracts.extents.Extents as extents
+use Rattle.ms_check_tables.specs.contracts.table.NameTable as name_table
+use Rattle.ms_check_tables.specs.contracts.extents.Extents as extents
 use Rattle.ms_elide.specs.contracts.sets.CleanSet as clean_set
 use Rattle.ms_pass.specs.contracts.functions.Functions as functions
 

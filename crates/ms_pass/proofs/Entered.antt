@@ -3,9 +3,9 @@ use Rattle.std.proofs.Common.{◌≡◌, ℕ, suc, Bool, true, false, List, [], 
 use Rattle.std.specs.Prelude.{if◌then◌else◌}
 use Rattle.ms_ir.specs.declared.syntax.Name.{Name}
 use Rattle.ms_ir.specs.declared.syntax.Ty.{Ty}
-use Rattle.ms_tasks.specs.Tasks.{InsertedCode, Task, tasks_code}
-use Rattle.ms_tasks.specs.Environments.{Env}
-use Rattle.ms_tasks.specs.SlotTasks.{param_mask, param_origin, take_tasks, take_parameters}
+use Rattle.ms_pass_tasks.specs.Tasks.{InsertedCode, Task, tasks_code}
+use Rattle.ms_pass_tasks.specs.Environments.{Env}
+use Rattle.ms_pass_tasks.specs.SlotTasks.{param_mask, param_origin, take_tasks, take_parameters}
 use Rattle.ms_rules_builder.specs.Made.{with_tasks}
 use Rattle.ms_pass_laws.specs.Pass.{entry_code}
 use Rattle.ms_pass.specs.Passed.{entry}

@@ -40,7 +40,7 @@ over_within count (f ∷ fs) zero below = omega arith
 over_within count (f ∷ fs) (suc k) below = let rest = over_within count fs k (omega (arith, below)) in omega (arith, rest)
 
 module _ (func : Name → Option ℕ) where
-  -- the counts behind a function are those before the next one
+  -- the counts after a function are those before the next one
   pub next_counts : (fs : List Func) (k : ℕ) → k < length fs → past_blocks func (before_func func fs k) (func_in fs k).blocks ≡ before_func func fs (k + 1)
   next_counts fs k below =
       let sum : (count : Inst → ℕ) → over_funcs count (take k fs) + over_blocks count (func_in fs k).blocks ≡ over_funcs count (take (suc k) fs) = λ count. sym (over_more count fs k below) in
@@ -49,7 +49,7 @@ module _ (func : Name → Option ℕ) where
       (add_assoc 0 (over_funcs (roots_in func) (take k fs)) (over_blocks (roots_in func) (func_in fs k).blocks) ∙ ap (λ n. 0 + n) (sum (roots_in func)))
       ∙ ap (before_func func fs) (sym (add-one k))
 
-  -- they are small where those behind all functions are
+  -- they are small where those after all functions are
   pub small_at : (fs : List Func) (k : ℕ) → k < length fs → AreSmall (past_funcs func no_counts fs) → AreSmall (past_blocks func (before_func func fs k) (func_in fs k).blocks)
   small_at fs k below small =
       (within 1 (over_funcs one_unmarked (take k fs)) _ _ (2 ^ 32) (over_within one_unmarked fs k below) small.0, within 0 (over_funcs (roots_in func) (take k fs)) _ _ (2 ^ 40) (over_within (roots_in func) fs k below) small.1)

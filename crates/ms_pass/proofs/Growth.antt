@@ -2,9 +2,9 @@
 use Rattle.std.proofs.Common.{ℕ, List, [], ◌∷◌, ◌++◌, arith}
 use Rattle.ms_ir.specs.declared.syntax.Inst.{Inst}
 use Rattle.ms_runs.specs.World.{Here}
-use Rattle.ms_tasks.specs.Environments.{Env, Given}
-use Rattle.ms_tasks.specs.PassLists.{emit_op, next_here, pass_insts}
-use Rattle.ms_instrumented_laws.proofs.Costs.{written_append}
+use Rattle.ms_pass_tasks.specs.Environments.{Env, Given}
+use Rattle.ms_pass_tasks.specs.PassLists.{emit_op, next_here, pass_insts}
+use Rattle.ms_pass_form_laws.proofs.Costs.{written_append}
 use Rattle.ms_rules.proofs.Growth.{Grows, none, round_grows}
 
 module _ (given : Given) (env : Env) where

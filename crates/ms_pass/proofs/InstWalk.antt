@@ -7,9 +7,9 @@ use Rattle.ms_ir.specs.declared.syntax.Inst.{Inst}
 use Rattle.ms_ir.specs.Instructions.{one_unmarked, roots_in, over_insts}
 use Rattle.ms_ir.proofs.Sizes.{drop_next}
 use Rattle.ms_runs.specs.World.{Here}
-use Rattle.ms_tasks.specs.Tasks.{InsertedCode}
-use Rattle.ms_tasks.specs.Environments.{Env, Given}
-use Rattle.ms_tasks.specs.PassLists.{emit_op, next_here, pass_insts}
+use Rattle.ms_pass_tasks.specs.Tasks.{InsertedCode}
+use Rattle.ms_pass_tasks.specs.Environments.{Env, Given}
+use Rattle.ms_pass_tasks.specs.PassLists.{emit_op, next_here, pass_insts}
 use Rattle.ms_rules.specs.Placed.{with_inst}
 use Rattle.ms_pass.specs.declared.counts.Counts.{Counts}
 use Rattle.ms_pass.specs.Counted.{here_of, past_inst, past_insts, AreSmall}
@@ -21,8 +21,8 @@ use Rattle.ms_pass.proofs.Growth.{insts_grow}
 module _ (func : Name → Option ℕ) where
   pub counts_next : (counts next whole : Counts) (insts : List Inst) (i : ℕ) (inst : Inst) → i < length insts → inst ≡ get_or insts i inst → next ≡ past_inst func counts inst
       → past_insts func counts (drop i insts) ≡ whole → past_insts func next (drop (i + 1) insts) ≡ whole
-  counts_next counts next whole insts i inst below is behind before =
-      ap (λ n. past_insts func n (drop (i + 1) insts)) behind
+  counts_next counts next whole insts i inst below is later before =
+      ap (λ n. past_insts func n (drop (i + 1) insts)) later
       ∙ ap₂ {C = Counts} (λ s r. record { site = s; root = r })
       (add_assoc counts.site (one_unmarked inst) (over_insts one_unmarked (drop (i + 1) insts)))
       (add_assoc counts.root (roots_in func inst) (over_insts (roots_in func) (drop (i + 1) insts)))
@@ -54,8 +54,8 @@ module _ (given : Given) (env : Env) where
   pub insts_next : (main : Bool) (counts next : Counts) (c after whole : InsertedCode) (insts : List Inst) (i : ℕ) (inst : Inst) → i < length insts → inst ≡ get_or insts i inst
       → next ≡ past_inst given.func counts inst → after ≡ with_inst given env (here_of counts main) inst c
       → with_insts given env (here_of counts main) (drop i insts) c ≡ whole → with_insts given env (here_of next main) (drop (i + 1) insts) after ≡ whole
-  insts_next main counts next c after whole insts i inst below is behind grown before =
-      ap₂ (λ n k. with_insts given env (here_of n main) (drop (i + 1) insts) k) behind grown
+  insts_next main counts next c after whole insts i inst below is later grown before =
+      ap₂ (λ n k. with_insts given env (here_of n main) (drop (i + 1) insts) k) later grown
       ∙ insts_step (here_of counts main) inst (drop (i + 1) insts) c
       ∙ ap (λ l. with_insts given env (here_of counts main) l c) (sym (drop_next insts i inst below is)) ∙ before
 

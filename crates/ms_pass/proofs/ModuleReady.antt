@@ -6,19 +6,19 @@ use Rattle.ms_ir.specs.declared.syntax.Func.{Func}
 use Rattle.ms_ir.specs.declared.syntax.Module.{Module}
 use Rattle.ms_ir.specs.Instructions.{operands, func_at}
 use Rattle.ms_ir.specs.Locals.{function_names}
-use Rattle.ms_valid.specs.Formed.{Formed}
-use Rattle.ms_valid.specs.Uninstrumented.{CanInstrument}
-use Rattle.ms_valid.specs.Valid.{Valid}
-use Rattle.ms_valid.proofs.SmallNumbers.{funcs_written}
-use Rattle.ms_tables.specs.FirstPlace.{first_place}
-use Rattle.ms_instrumented_laws.proofs.AllReady.{Plain}
-use Rattle.ms_instrumented_laws.proofs.PlainModules.{plain_module}
+use Rattle.ms_check_valid.specs.Formed.{Formed}
+use Rattle.ms_check_valid.specs.Uninstrumented.{CanInstrument}
+use Rattle.ms_check_valid.specs.Valid.{Valid}
+use Rattle.ms_check_valid.proofs.SmallNumbers.{funcs_written}
+use Rattle.ms_check_tables.specs.FirstPlace.{first_place}
+use Rattle.ms_pass_form_laws.proofs.AllReady.{Plain}
+use Rattle.ms_pass_form_laws.proofs.PlainModules.{plain_module}
 use Rattle.ms_rules.specs.Taken.{IsTaken}
 use Rattle.ms_rules.proofs.TakenInsts.{inst_taken}
 use Rattle.ms_pass.specs.Counted.{past_funcs, AreSmall}
 use Rattle.ms_pass.specs.Passed.{no_counts}
 use Rattle.ms_pass.specs.Ready.{IsReady}
-use Rattle.ms_good_laws.proofs.Starting.{funcs_few}
+use Rattle.ms_runs_good_laws.proofs.Starting.{funcs_few}
 use Rattle.ms_pass_laws.proofs.KnownInstructions.{within_funcs}
 
 blocks_taken : (m : Module) → Plain m → (n : ℕ) (f : Func) → func_at m n ≡ Some f → All (λ b. All (IsTaken m.types) b.insts) f.blocks

@@ -13,14 +13,14 @@ use Rattle.ms_ir.specs.Names.{name_eq, main_name}
 use Rattle.ms_ir.specs.Locals.{values, function_names}
 use Rattle.ms_ir.specs.Signatures.{slot_globals, runtime_declarations}
 use Rattle.ms_runs.specs.World.{Here}
-use Rattle.ms_tables.specs.FirstPlace.{first_place}
-use Rattle.ms_tables.proofs.Places.{place_tells}
-use Rattle.ms_tables.proofs.Tied.{func_index_is}
+use Rattle.ms_check_tables.specs.FirstPlace.{first_place}
+use Rattle.ms_check_tables.proofs.Places.{place_tells}
+use Rattle.ms_check_tables.proofs.Tied.{func_index_is}
 use Rattle.ms_elide.specs.CleanSets.{is_in}
-use Rattle.ms_tasks.specs.Environments.{Given}
+use Rattle.ms_pass_tasks.specs.Environments.{Given}
 use Rattle.ms_pass_laws.specs.Pass.{Numbering, pass, pass_funcs, pass_blocks, enter_block, entry_code}
 use Rattle.ms_pass_laws.specs.Numbers.{value_index}
-use Rattle.ms_elide_laws.specs.Eliding.{eliding}
+use Rattle.ms_pass_form_laws.specs.Eliding.{eliding}
 use Rattle.ms_pass.specs.declared.counts.Counts.{Counts}
 use Rattle.ms_pass.specs.Counted.{here_of, past_blocks, past_funcs}
 use Rattle.ms_rules.specs.Valued.{value_names}

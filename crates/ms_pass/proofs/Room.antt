@@ -14,11 +14,11 @@ use Rattle.ms_ir.specs.Instructions.{over_insts, over_blocks}
 use Rattle.ms_ir.specs.Layout.{Types}
 use Rattle.ms_ir.specs.Names.{name_eq, main_name}
 use Rattle.ms_runs.specs.World.{Here}
-use Rattle.ms_valid.specs.Formed.{count_written}
-use Rattle.ms_tasks.specs.Tasks.{InsertedCode}
-use Rattle.ms_tasks.specs.Environments.{Env, Given}
+use Rattle.ms_check_valid.specs.Formed.{count_written}
+use Rattle.ms_pass_tasks.specs.Tasks.{InsertedCode}
+use Rattle.ms_pass_tasks.specs.Environments.{Env, Given}
 use Rattle.ms_pass_laws.specs.Pass.{Numbering}
-use Rattle.ms_instrumented_laws.proofs.CostSum.{funcs_cost, funcs_bound}
+use Rattle.ms_pass_form_laws.proofs.CostSum.{funcs_cost, funcs_bound}
 use Rattle.ms_pass.specs.declared.counts.Counts.{Counts}
 use Rattle.ms_pass.specs.Counted.{here_of}
 use Rattle.ms_rules.specs.Valued.{valued, result_names, block_results, value_names}

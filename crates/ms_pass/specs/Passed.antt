@@ -14,10 +14,10 @@ use Rattle.ms_ir.specs.Names.{name_eq, main_name}
 use Rattle.ms_ir.specs.Signatures.{slot_globals, runtime_declarations}
 use Rattle.ms_runs.specs.World.{Here}
 use Rattle.ms_elide.specs.CleanSets.{IsExact}
-use Rattle.ms_tables.specs.FirstPlace.{first_place}
-use Rattle.ms_tasks.specs.Tasks.{InsertedCode}
-use Rattle.ms_tasks.specs.Environments.{Env, Given}
-use Rattle.ms_tasks.specs.PassLists.{pass_insts}
+use Rattle.ms_check_tables.specs.FirstPlace.{first_place}
+use Rattle.ms_pass_tasks.specs.Tasks.{InsertedCode}
+use Rattle.ms_pass_tasks.specs.Environments.{Env, Given}
+use Rattle.ms_pass_tasks.specs.PassLists.{pass_insts}
 use Rattle.ms_pass_laws.specs.Pass.{pass_blocks, entry_code, enter_block}
 use Rattle.ms_pass.specs.declared.counts.Counts.{Counts}
 use Rattle.ms_pass.specs.Counted.{here_of, past_funcs}

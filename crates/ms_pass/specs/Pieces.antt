@@ -3,7 +3,7 @@ use Rattle.std.specs.Prelude.{◌≡◌, ℕ, ◌<◌, List, length, slice_get, 
 use Rattle.ms_ir.specs.declared.syntax.Name.{Name}
 use Rattle.ms_ir.specs.declared.syntax.Func.{Func}
 use Rattle.ms_ir.specs.Layout.{Types}
-use Rattle.ms_tables.specs.FirstPlace.{first_place}
+use Rattle.ms_check_tables.specs.FirstPlace.{first_place}
 use Rattle.ms_pass.specs.declared.counts.Counts.{Counts}
 use Rattle.ms_pass.specs.Counted.{past_blocks, AreSmall}
 use Rattle.ms_pass.specs.Passed.{before_func, func_in, no_counts}

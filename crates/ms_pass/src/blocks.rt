@@ -1,7 +1,7 @@
 //! The blocks of a function.
 ghost use Rattle.std.specs.Prelude.{◌≡◌, ◌+◌, ◌++◌, [], ◌∷◌, ◌<◌, ◌≤◌, ◌^◌, All, length, IfOk, OnOk};
 ghost use Rattle.ms_ir.specs.Instructions.{over_blocks};
-ghost use Rattle.ms_valid.specs.Formed.{count_written};
+ghost use Rattle.ms_check_valid.specs.Formed.{count_written};
 ghost use Rattle.ms_rules.specs.{Scopes.{env_of, given_of}, Taken.{IsTaken}};
 ghost use Rattle.ms_pass.specs.{Counted.{here_of, past_insts, past_blocks, AreSmall}, Passed.{with_insts, with_blocks}};
 
@@ -40,8 +40,7 @@ fn push_block(
     Ok(Builder::new(alloc, next))
 }
 
-/// The instrumented form of blocks of which the first begins with code. The counts become those after them. The one
-/// error is running out of memory.
+/// The instrumented form of blocks of which the first begins with code. The counts become those after them.
 pub fn passed_blocks(
     alloc: Global,
     scope: &Scope<'_, '_>,

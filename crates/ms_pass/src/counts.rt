@@ -1,13 +1,13 @@
 //! How many sites and roots stand before a place in a module.
 ghost use Rattle.std.specs.{Prelude.{◌≡◌, map, length, IfOk}, List.{range_with_len}};
-ghost use Rattle.ms_tables.specs.FirstPlace.{first_place};
+ghost use Rattle.ms_check_tables.specs.FirstPlace.{first_place};
 ghost use Rattle.ms_pass.specs.Counted.{past_inst, past_insts, past_blocks, past_funcs, AreSmall};
 ghost use Rattle.ms_pass.specs.Passed.{before_func, no_counts};
 
 use ms_bits::NoMemory;
+use ms_check_tables::{NameTable, next_site};
 use ms_ir::{Block, Func, Inst};
 use ms_rules::root_count;
-use ms_tables::{NameTable, next_site};
 use std::alloc::Global;
 
 /// The site of the next instruction, and how many roots stand before it.
@@ -19,7 +19,7 @@ pub struct Counts {
 
 impl Counts {
     /// The counts after an instruction.
-    fn behind_inst(self, functions: &NameTable<'_>, inst: &Inst) -> Counts
+    fn after_inst(self, functions: &NameTable<'_>, inst: &Inst) -> Counts
         requires { AreSmall (past_inst (first_place functions.now) self inst.now) }
         ensures { result ≡ past_inst (first_place functions.now) self inst.now }
     {
@@ -30,31 +30,31 @@ impl Counts {
     }
 
     /// The counts after instructions.
-    fn behind_insts(self, functions: &NameTable<'_>, insts: &[Inst]) -> Counts
+    fn after_insts(self, functions: &NameTable<'_>, insts: &[Inst]) -> Counts
         requires { AreSmall (past_insts (first_place functions.now) self insts.now) }
         ensures { result ≡ past_insts (first_place functions.now) self insts.now }
     {
         let mut counts = self;
         for inst in insts {
-            counts = counts.behind_inst(functions, inst);
+            counts = counts.after_inst(functions, inst);
         }
         counts
     }
 
     /// The counts after the blocks of a function.
-    fn behind_blocks(self, functions: &NameTable<'_>, blocks: &[Block]) -> Counts
+    fn after_blocks(self, functions: &NameTable<'_>, blocks: &[Block]) -> Counts
         requires { AreSmall (past_blocks (first_place functions.now) self blocks.now) }
         ensures { result ≡ past_blocks (first_place functions.now) self blocks.now }
     {
         let mut counts = self;
         for block in blocks {
-            counts = counts.behind_insts(functions, block.insts.as_slice());
+            counts = counts.after_insts(functions, block.insts.as_slice());
         }
         counts
     }
 }
 
-/// The counts before each function of a module. The one error is running out of memory. Linear in the functions.
+/// The counts before each function of a module. Linear in the functions.
 pub fn counts_before(
     alloc: Global,
     functions: &NameTable<'_>,
@@ -67,7 +67,7 @@ pub fn counts_before(
     let mut all = Vec::with_capacity(alloc, funcs.len())?;
     for func in funcs {
         all.push(counts)?;
-        counts = counts.behind_blocks(functions, func.blocks.as_slice());
+        counts = counts.after_blocks(functions, func.blocks.as_slice());
     }
     Ok(all)
 }

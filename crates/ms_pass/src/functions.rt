@@ -1,7 +1,7 @@
 //! The functions of a module.
 ghost use Rattle.std.specs.{Prelude.{◌≡◌, ◌≤◌, ◌^◌, All, length, map, IfOk}, List.{range_with_len}};
 ghost use Rattle.ms_ir.specs.Names.{name_eq, main_name};
-ghost use Rattle.ms_tables.specs.FirstPlace.{first_place};
+ghost use Rattle.ms_check_tables.specs.FirstPlace.{first_place};
 ghost use Rattle.ms_rules.specs.{Scopes.{env_of}, Valued.{value_names}};
 ghost use Rattle.ms_pass.specs.Counted.{here_of, past_blocks, past_funcs, AreSmall};
 ghost use Rattle.ms_pass.specs.Passed.{entry, first_number, func_made, given_by, names_in, no_counts, passed_func};
@@ -10,12 +10,12 @@ ghost use Rattle.ms_pass.specs.{Ready.{IsReady}, Pieces.{CanPass}};
 use crate::blocks::passed_blocks;
 use crate::counts::{Counts, counts_before};
 use ms_bits::{Duplicate, List, NoMemory};
+use ms_check_tables::{Extents, NameTable};
 use ms_elide::CleanSet;
-use ms_fork::{Cuts, Gate, Work, by_halves};
+use ms_fork::{Gate, Split, Work, parallel_map};
 use ms_ir::{Block, Func, Name, Ty};
 use ms_rules::{Scope, push_parameters, values_of};
 use ms_rules_builder::Builder;
-use ms_tables::{Extents, NameTable};
 use std::alloc::Global;
 use std::thread::Threads;
 
@@ -51,7 +51,7 @@ fn blocks_in<'m>(
     blocks_by(alloc, extents, functions, &values, clean, before, func)
 }
 
-/// The same, where `values` are the names of the function's values.
+/// The blocks of `blocks_in`, where `values` are the names of the function's values.
 fn blocks_by<'m>(
     alloc: Global,
     extents: &Extents<'m>,
@@ -132,7 +132,7 @@ impl<'a, 'm> Work for Functions<'a, 'm> {
 }
 
 /// The instrumented form of the functions of a module, where `clean` has the clean values of each: the same for every gate.
-/// They are made in pieces of at most eight by several threads. The one error is running out of memory, in any piece.
+/// They are made in pieces of at most eight by several threads.
 pub fn passed_funcs<'m, R: Threads + Sync, G: Gate + Sync>(
     rt: &R,
     alloc: Global,
@@ -155,9 +155,9 @@ pub fn passed_funcs<'m, R: Threads + Sync, G: Gate + Sync>(
         counts: &counts,
         funcs,
     };
-    let cuts = Cuts {
+    let split = Split {
         most: 8,
         threads: 16,
     };
-    by_halves(rt, alloc, &work, funcs.len(), cuts, gate)
+    parallel_map(rt, alloc, &work, funcs.len(), split, gate)
 }

@@ -3,10 +3,10 @@ ghost use Rattle.std.specs.Prelude.{◌≡◌, false, IfOk};
 ghost use Rattle.ms_ir.specs.{ThreadCalls.{is_threaded}, Instructions.{strip}};
 ghost use Rattle.ms_runs.specs.{declared.runs.Setup.{Setup as SetupOf}, Faithful.{Fair, Faithful, Undisturbed}};
 ghost use Rattle.ms_runs.specs.Plain.{plain};
-ghost use Rattle.ms_valid.specs.{Formed.{Formed}, Uninstrumented.{CanInstrument}, Valid.{Valid}};
-ghost use Rattle.ms_good_laws.specs.Fills.{InsertedUnderFills};
-ghost use Rattle.ms_fills_laws.specs.{Checked.{HoldsUnderFills}, Chosen.{HoldsUnderChoices}};
-ghost use Rattle.ms_elide_laws.specs.Elided.{IsElided, ChecksUnclean};
+ghost use Rattle.ms_check_valid.specs.{Formed.{Formed}, Uninstrumented.{CanInstrument}, Valid.{Valid}};
+ghost use Rattle.ms_runs_good_laws.specs.Fills.{InsertedUnderFills};
+ghost use Rattle.ms_runs_fills_laws.specs.{Checked.{HoldsUnderFills}, Chosen.{HoldsUnderChoices}};
+ghost use Rattle.ms_pass_form_laws.specs.Elided.{IsElided, ChecksUnclean};
 ghost use Rattle.ms_pass.specs.Passed.{IsMadeOf};
 
 use crate::modules::passed_module;
@@ -27,10 +27,10 @@ use std::thread::Threads;
 /// a beginning of the module's own. The answer is formed and valid, and isn't compiled: it is for
 /// being written.
 ///
-/// The functions are made in pieces of at most eight, by several threads where there are more. Each piece enters the gate with
-/// the number of its first function, counted from 0, before it does anything else. The answer is the same for every gate: its
-/// functions are made one by one, each with the sites and roots before it, and its globals and declarations are those of the
-/// module and then the slots and the runtime functions. The one error is running out of memory, in any piece. Linear in the module.
+/// The functions are made in pieces of at most eight, by several threads where there are more. Each piece enters the gate
+/// with the number of its first function, counted from 0, before it does anything else. The answer is the same for every
+/// gate: its functions are made one by one, each with the sites and roots before it, and its globals and declarations are
+/// those of the module and then the slots and the runtime functions. Linear in the module.
 pub fn instrumented<R: Threads + Sync, G: Gate + Sync>(
     rt: &R,
     alloc: Global,
@@ -50,13 +50,13 @@ pub fn instrumented<R: Threads + Sync, G: Gate + Sync>(
     ensures undisturbed { IfOk result (λ j. (setup : SetupOf) → Fair setup → Undisturbed (plain j setup) (plain m.now setup)) }
     ensures pieces { IfOk result (λ j. IsMadeOf m.now j) }
 {
-    m.is_valid();
+    m.law_valid();
     let values = clean(alloc, m)?;
     let module = passed_module(rt, alloc, m.module(), &values, gate)?;
     Ok(module)
 }
 
-/// The same as a checked module, which can be run. The one error is running out of memory. Linear in the module.
+/// Inserts shadow code as `instrumented` does, and gives a checked module, which can be run. Linear in the module.
 pub fn instrument<R: Threads + Sync, G: Gate + Sync>(
     rt: &R,
     alloc: Global,

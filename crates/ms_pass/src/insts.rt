@@ -5,10 +5,10 @@ ghost use Rattle.ms_pass.specs.{Counted.{here_of, past_inst, past_insts, AreSmal
 
 use crate::counts::Counts;
 use ms_bits::NoMemory;
+use ms_check_tables::next_site;
 use ms_ir::Inst;
 use ms_rules::{Scope, push_inst};
 use ms_rules_builder::Builder;
-use ms_tables::next_site;
 
 /// Adds an instruction between its lists. The counts become those after it.
 fn push_next(
@@ -30,7 +30,7 @@ fn push_next(
     Ok(())
 }
 
-/// Adds instructions, each between its lists. The counts become those after them. The one error is running out of memory.
+/// Adds instructions, each between its lists. The counts become those after them.
 pub fn push_insts(
     builder: &mut Builder,
     scope: &Scope<'_, '_>,

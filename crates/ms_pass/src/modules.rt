@@ -1,16 +1,16 @@
 //! The instrumented form of a module, from its parts.
 ghost use Rattle.std.specs.{Prelude.{◌≡◌, ◌++◌, All, length, map, IfOk}, List.{range_with_len}};
 ghost use Rattle.ms_ir.specs.{Locals.{function_names}, Signatures.{slot_globals, runtime_declarations}};
-ghost use Rattle.ms_tables.specs.FirstPlace.{first_place};
+ghost use Rattle.ms_check_tables.specs.FirstPlace.{first_place};
 ghost use Rattle.ms_pass.specs.{Counted.{past_funcs, AreSmall}, Passed.{inst, no_counts, passed_module}};
 ghost use Rattle.ms_pass.specs.Ready.{IsReady};
 
 use crate::functions::passed_funcs;
 use ms_bits::{Duplicate, List, NoMemory};
+use ms_check_tables::{Extents, functions_of};
 use ms_elide::CleanSet;
 use ms_fork::Gate;
 use ms_ir::{Decl, Func, GlobalVar, Module, Name, Ty, runtime_declarations, slot_globals};
-use ms_tables::{Extents, functions_of};
 use std::alloc::Global;
 use std::thread::Threads;
 
@@ -67,7 +67,7 @@ fn funcs_of<'m, R: Threads + Sync, G: Gate + Sync>(
     funcs_within(rt, alloc, m, &extents, clean, gate)
 }
 
-/// The same, where `extents` are those of the module's named types.
+/// The functions of `funcs_of`, where `extents` are those of the module's named types.
 fn funcs_within<'m, R: Threads + Sync, G: Gate + Sync>(
     rt: &R,
     alloc: Global,
@@ -113,8 +113,7 @@ fn with_funcs(
     })
 }
 
-/// The instrumented form of a module with these clean values, whose functions can be instrumented. The one error is running out of
-/// memory.
+/// The instrumented form of a module with these clean values, whose functions can be instrumented.
 pub fn passed_module<'m, R: Threads + Sync, G: Gate + Sync>(
     rt: &R,
     alloc: Global,

@@ -20,15 +20,15 @@ use Rattle.ms_runs.specs.Poisoned.{Poisoned}
 use Rattle.ms_ir.specs.Equal.{has_name}
 use Rattle.ms_ir.specs.Locals.{results, block_locals, parameter_names, locals}
 use Rattle.ms_ir.proofs.RootKinds.{name_same as name_sound}
-use Rattle.ms_valid.specs.Paths.{insts_of, successors, Leads, Path, block_results, IsSet}
-use Rattle.ms_valid.specs.NamesOnce.{repeats}
-use Rattle.ms_valid.specs.Valid.{Valid}
-use Rattle.ms_good_laws.specs.GoodStates.{GoodFrames, PoisonedBelow}
-use Rattle.ms_valid.proofs.NameTests.{name_same, within_name}
-use Rattle.ms_valid.proofs.TypedValues.{names_stand_once}
-use Rattle.ms_valid.proofs.SetValues.{operand_set}
-use Rattle.ms_good_laws.proofs.Frames.{top_good, due_first, same_insts}
-use Rattle.ms_tasks.specs.Known.{Apart, AllApart}
+use Rattle.ms_check_valid.specs.Paths.{insts_of, successors, Leads, Path, block_results, IsSet}
+use Rattle.ms_check_valid.specs.NamesOnce.{repeats}
+use Rattle.ms_check_valid.specs.Valid.{Valid}
+use Rattle.ms_runs_good_laws.specs.GoodStates.{GoodFrames, PoisonedBelow}
+use Rattle.ms_check_valid.proofs.NameTests.{name_same, within_name}
+use Rattle.ms_check_valid.proofs.TypedValues.{names_stand_once}
+use Rattle.ms_check_valid.proofs.SetValues.{operand_set}
+use Rattle.ms_runs_good_laws.proofs.Frames.{top_good, due_first, same_insts}
+use Rattle.ms_pass_tasks.specs.Known.{Apart, AllApart}
 use Rattle.ms_pass_laws.specs.Known.{ApartFrames}
 use Rattle.ms_pass_laws.proofs.Places.{insts_in}
 

@@ -23,7 +23,7 @@ use Rattle.ms_runs.specs.Act.{act}
 use Rattle.ms_runs.specs.Threads.{fiber_limit, thread_at, has_ended, join_answer}
 use Rattle.ms_pass_laws.specs.Known.{GoesTo}
 
--- an effect of an instruction that goes on behind itself, or ends the run
+-- an effect of an instruction that goes on after itself, or ends the run
 abbrev pub IsPlain : Effect → Type 0
 IsPlain (Gives v w) = Unit {0}
 IsPlain (Does w) = Unit {0}

@@ -18,16 +18,16 @@ use Rattle.ms_runs.specs.Control.{Frame, here, rest_of, block_name, count_phis, 
 use Rattle.ms_runs.specs.Act.{plain_reading}
 use Rattle.ms_runs.specs.Poisoned.{Poisoned}
 use Rattle.ms_runs.specs.Shadow.{shadow_reading}
-use Rattle.ms_tasks.specs.Tasks.{tasks_code}
-use Rattle.ms_tasks.specs.Meaning.{AllMarked}
-use Rattle.ms_tasks.specs.Environments.{Env, Given}
-use Rattle.ms_tasks.specs.Emit.{before_tasks, after_tasks, start}
-use Rattle.ms_tasks.specs.Known.{OneName, KnownPhis, PhiRoots}
-use Rattle.ms_tasks.specs.PassLists.{emit_op, phi_code, phi_pair, next_here, pass_insts, here_past}
-use Rattle.ms_tasks.specs.Match.{Matches, RangedValues}
-use Rattle.ms_tasks.specs.InstructionLaw.{given_of}
-use Rattle.ms_tasks.proofs.Marked.{tasks_more, tasks_marked}
-use Rattle.ms_tasks.proofs.Phis.{Raw, raw_of, raw_matches, jump_raw, jump_rest}
+use Rattle.ms_pass_tasks.specs.Tasks.{tasks_code}
+use Rattle.ms_pass_tasks.specs.Meaning.{AllMarked}
+use Rattle.ms_pass_tasks.specs.Environments.{Env, Given}
+use Rattle.ms_pass_tasks.specs.Emit.{before_tasks, after_tasks, start}
+use Rattle.ms_pass_tasks.specs.Known.{OneName, KnownPhis, PhiRoots}
+use Rattle.ms_pass_tasks.specs.PassLists.{emit_op, phi_code, phi_pair, next_here, pass_insts, here_past}
+use Rattle.ms_pass_tasks.specs.Match.{Matches, RangedValues}
+use Rattle.ms_pass_tasks.specs.InstructionLaw.{given_of}
+use Rattle.ms_pass_tasks.proofs.Marked.{tasks_more, tasks_marked}
+use Rattle.ms_pass_tasks.proofs.Phis.{Raw, raw_of, raw_matches, jump_raw, jump_rest}
 use Rattle.ms_pass_laws.specs.Pass.{Numbering, here_after, pass_blocks, entry_code, enter_block, pass_funcs, pass}
 use Rattle.ms_pass_laws.specs.Law.{TopFollows}
 use Rattle.ms_pass_laws.proofs.Places.{frame_at, drop_step, here_step, insts_in, blocks_in, params_in, name_of, func_name_of}
@@ -262,7 +262,7 @@ module _ (s : Setting) (numbers : ℕ → Numbering) (m : Module) (strips : stri
       roots : (x y : ℕ) → 0 + x + y ≡ x + y + 0
       roots x y = omega arith
 
-  -- behind the phis
+  -- after the phis
   past_here : (l : List Inst) (f : Frame Poisoned) → rest_of m f ≡ l → here_past s.func (here s m f) l ≡ here s m (frame_at f (f.place + count_phis l) f.values)
   past_here [] f e = let p : f.place ≡ f.place + 0 = omega arith in ap (λ n. here s m (frame_at f n f.values)) p
   past_here (i ∷ is) f e = by_op i.op i.result i.marked e (past_here is (frame_at f (f.place + 1) f.values) (drop_step _ f.place i is e))
@@ -337,8 +337,8 @@ module _ (s : Setting) (numbers : ℕ → Numbering) (m : Module) (strips : stri
       insts : insts_at (pass numbers m) f.func (block_index (blocks_at (pass numbers m) f.func) to) ≡ (pass_insts (given_of s) (numbers f.func).env is (here s m (at_block f b)) start.0).code
       insts = ap (insts_at (pass numbers m) f.func) same_block ∙ start.2
 
-      behind : rest_of (pass numbers m) g' ≡ (pass_insts (given_of s) (numbers f.func).env (drop (count_phis is) is) (here_past s.func (here s m (at_block f b)) is) start.0).code
-      behind = ap (λ l. drop (count_phis l) l) insts
+      beyond : rest_of (pass numbers m) g' ≡ (pass_insts (given_of s) (numbers f.func).env (drop (count_phis is) is) (here_past s.func (here s m (at_block f b)) is) start.0).code
+      beyond = ap (λ l. drop (count_phis l) l) insts
           ∙ jump_rest (given_of s) (numbers f.func).env (numbers f.func).size is known (here s m (at_block f b)) start.0
 
       stands_at : here_past s.func (here s m (at_block f b)) is ≡ here s m f'
@@ -348,7 +348,7 @@ module _ (s : Setting) (numbers : ℕ → Numbering) (m : Module) (strips : stri
           none c = omega arith
 
       rest : rest_of (pass numbers m) g' ≡ (pass_insts (given_of s) (numbers f.func).env (rest_of m f') (here s m f') start.0).code
-      rest = behind ∙ ap (λ h. (pass_insts (given_of s) (numbers f.func).env (drop (count_phis is) is) h start.0).code) stands_at
+      rest = beyond ∙ ap (λ h. (pass_insts (given_of s) (numbers f.func).env (drop (count_phis is) is) h start.0).code) stands_at
 
       left : filter is_unmarked (rest_of (pass numbers m) g') ≡ rest_of m f'
       left = ap (filter is_unmarked) rest ∙ insts_strip (given_of s) (numbers f.func).env (rest_of m f') (here s m f') start.0

@@ -20,23 +20,23 @@ use Rattle.ms_runs.specs.Control.{params_at}
 use Rattle.ms_ir.specs.Equal.{has_name, result_type_eq}
 use Rattle.ms_ir.specs.Written.{targets, result_type}
 use Rattle.ms_ir.specs.Locals.{block_locals, parameter_names, locals, entry_name, values, typed_result, func_insts, global_names, declared_names, type_names}
-use Rattle.ms_valid.specs.NamesOnce.{repeats, at_sign, percent_sign, function_duplicates}
-use Rattle.ms_valid.specs.PhisFit.{edges_fit}
+use Rattle.ms_check_valid.specs.NamesOnce.{repeats, at_sign, percent_sign, function_duplicates}
+use Rattle.ms_check_valid.specs.PhisFit.{edges_fit}
 use Rattle.ms_ir.specs.Spots.{Spot}
 use Rattle.ms_ir.proofs.RootKinds.{name_same as name_sound}
-use Rattle.ms_valid.specs.Formed.{Formed, func_formed}
-use Rattle.ms_valid.specs.FormedNames.{is_local_name, are_numbered}
-use Rattle.ms_valid.specs.FormedCode.{is_value_type, name_formed}
-use Rattle.ms_valid.specs.Valid.{Valid}
-use Rattle.ms_valid.proofs.Finding.{both_empty}
-use Rattle.ms_valid.proofs.NameTests.{name_same}
-use Rattle.ms_good_laws.proofs.Starts.{all_get, main_found, not_to_entry}
-use Rattle.ms_valid.proofs.TypedValues.{names_stand_once, param_listed}
-use Rattle.ms_valid.proofs.SmallNumbers.{blocks_of}
-use Rattle.ms_good_laws.proofs.OpEffects.{value_width}
-use Rattle.ms_good_laws.proofs.InstructionEffects.{case_target}
-use Rattle.ms_tasks.specs.Environments.{Env}
-use Rattle.ms_tasks.specs.Known.{KnownOperands, KnownResult, KnownEdges, KnownPhi, KnownPhis, KnownParams}
+use Rattle.ms_check_valid.specs.Formed.{Formed, func_formed}
+use Rattle.ms_check_valid.specs.FormedNames.{is_local_name, are_numbered}
+use Rattle.ms_check_valid.specs.FormedCode.{is_value_type, name_formed}
+use Rattle.ms_check_valid.specs.Valid.{Valid}
+use Rattle.ms_check_valid.proofs.Finding.{both_empty}
+use Rattle.ms_check_valid.proofs.NameTests.{name_same}
+use Rattle.ms_runs_good_laws.proofs.Starts.{all_get, main_found, not_to_entry}
+use Rattle.ms_check_valid.proofs.TypedValues.{names_stand_once, param_listed}
+use Rattle.ms_check_valid.proofs.SmallNumbers.{blocks_of}
+use Rattle.ms_runs_good_laws.proofs.OpEffects.{value_width}
+use Rattle.ms_runs_good_laws.proofs.InstructionEffects.{case_target}
+use Rattle.ms_pass_tasks.specs.Environments.{Env}
+use Rattle.ms_pass_tasks.specs.Known.{KnownOperands, KnownResult, KnownEdges, KnownPhi, KnownPhis, KnownParams}
 use Rattle.ms_pass_laws.specs.Known.{GoesTo}
 use Rattle.ms_pass_laws.specs.Numbers.{value_index, values_at, numbering}
 use Rattle.ms_pass_laws.proofs.NumberedValues.{few_index}

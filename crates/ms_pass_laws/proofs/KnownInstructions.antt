@@ -26,23 +26,23 @@ use Rattle.ms_runs.specs.Control.{params_at}
 use Rattle.ms_ir.specs.Equal.{type_eq, result_type_eq}
 use Rattle.ms_ir.specs.Written.{result_type}
 use Rattle.ms_ir.specs.Locals.{value_type}
-use Rattle.ms_valid.specs.Paths.{insts_of}
-use Rattle.ms_valid.specs.Formed.{Formed}
-use Rattle.ms_valid.specs.FormedNames.{is_global_name}
-use Rattle.ms_valid.specs.FormedCode.{is_int_type, is_value_type, result_formed, shape_formed, operand_formed, name_formed, binary_flags, cast_flags, are_among}
+use Rattle.ms_check_valid.specs.Paths.{insts_of}
+use Rattle.ms_check_valid.specs.Formed.{Formed}
+use Rattle.ms_check_valid.specs.FormedNames.{is_global_name}
+use Rattle.ms_check_valid.specs.FormedCode.{is_int_type, is_value_type, result_formed, shape_formed, operand_formed, name_formed, binary_flags, cast_flags, are_among}
 use Rattle.ms_ir.specs.Signatures.{Signature, external_signature, signature_of}
-use Rattle.ms_valid.specs.TypesAgree.{first_misfit, fault_unless, first_misstep, leads_into, number_or_zero, is_type, operand_fits, cast_allows, returns_fit, argument_fault, is_start, is_create, fits_call, is_printable, printf_fault, is_printf, call_fault, op_fault}
-use Rattle.ms_valid.specs.Uninstrumented.{CanInstrument}
-use Rattle.ms_valid.specs.Valid.{Valid}
-use Rattle.ms_valid.proofs.AtInstructions.{fits_at}
-use Rattle.ms_good_laws.proofs.NextFrames.{block_there}
-use Rattle.ms_good_laws.proofs.Starts.{all_get}
-use Rattle.ms_valid.proofs.TypedValues.{result_typed}
-use Rattle.ms_good_laws.proofs.CallTypes.{same_width, both_none, holds_unless, func_found, external_call, defined_call, defined_answer, known_external, fitted_call, no_fault_at}
-use Rattle.ms_good_laws.proofs.WordCallTypes.{IsWord, word_call}
-use Rattle.ms_good_laws.proofs.InstructionEffects.{formed_at}
-use Rattle.ms_good_laws.proofs.OpEffects.{value_width, cast_allowed}
-use Rattle.ms_tasks.specs.Known.{KnownName, KnownOperand, KnownOperands, KnownResult, KnownInst, IsBuilt, AnswersWord, FitsCallee, HasResult, is_void, ArgsFit}
+use Rattle.ms_check_valid.specs.TypesAgree.{first_misfit, fault_unless, first_misstep, leads_into, number_or_zero, is_type, operand_fits, cast_allows, returns_fit, argument_fault, is_start, is_create, fits_call, is_printable, printf_fault, is_printf, call_fault, op_fault}
+use Rattle.ms_check_valid.specs.Uninstrumented.{CanInstrument}
+use Rattle.ms_check_valid.specs.Valid.{Valid}
+use Rattle.ms_check_valid.proofs.AtInstructions.{fits_at}
+use Rattle.ms_runs_good_laws.proofs.NextFrames.{block_there}
+use Rattle.ms_runs_good_laws.proofs.Starts.{all_get}
+use Rattle.ms_check_valid.proofs.TypedValues.{result_typed}
+use Rattle.ms_runs_good_laws.proofs.CallTypes.{same_width, both_none, holds_unless, func_found, external_call, defined_call, defined_answer, known_external, fitted_call, no_fault_at}
+use Rattle.ms_runs_good_laws.proofs.WordCallTypes.{IsWord, word_call}
+use Rattle.ms_runs_good_laws.proofs.InstructionEffects.{formed_at}
+use Rattle.ms_runs_good_laws.proofs.OpEffects.{value_width, cast_allowed}
+use Rattle.ms_pass_tasks.specs.Known.{KnownName, KnownOperand, KnownOperands, KnownResult, KnownInst, IsBuilt, AnswersWord, FitsCallee, HasResult, is_void, ArgsFit}
 use Rattle.ms_pass_laws.specs.Known.{FitsCalled, AnswerFits, ReturnsAs, ret_at}
 use Rattle.ms_pass_laws.specs.Numbers.{numbering}
 use Rattle.ms_pass_laws.proofs.NumberedValues.{known_value}

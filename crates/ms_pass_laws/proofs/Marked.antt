@@ -25,10 +25,10 @@ use Rattle.ms_runs.specs.Act.{act, operand_word, plain_reading}
 use Rattle.ms_runs.specs.Runtime.{runtime}
 use Rattle.ms_runs.specs.Control.{Frame, here, rest_of, read_all, local_block, keeping, after_effect}
 use Rattle.ms_runs.specs.Plain.{PlainState, Stepped, More, Stop, and_then, plain_state, shadow_bits, in_slots, slots_after, act_marked, through}
-use Rattle.ms_tasks.specs.Tasks.{Expr, Leaf, Two, Turn, Test, Pick, Task, Sets, Tries, Fetches, Puts, Calls, Last, Is, By, close, half, set_op, flatten, flatten_all, parts, task_code, tasks_code}
-use Rattle.ms_tasks.specs.Meaning.{Values, Reach, Went, Over, set_result, marked_next, words_of, run_marked, AllMarked}
-use Rattle.ms_tasks.specs.InstructionLaw.{given_of}
-use Rattle.ms_tasks.specs.PassLists.{next_here}
+use Rattle.ms_pass_tasks.specs.Tasks.{Expr, Leaf, Two, Turn, Test, Pick, Task, Sets, Tries, Fetches, Puts, Calls, Last, Is, By, close, half, set_op, flatten, flatten_all, parts, task_code, tasks_code}
+use Rattle.ms_pass_tasks.specs.Meaning.{Values, Reach, Went, Over, set_result, marked_next, words_of, run_marked, AllMarked}
+use Rattle.ms_pass_tasks.specs.InstructionLaw.{given_of}
+use Rattle.ms_pass_tasks.specs.PassLists.{next_here}
 use Rattle.ms_runs.proofs.HeapBlocks.{keeps_none}
 use Rattle.ms_pass_laws.specs.Law.{MakesNoBlock}
 use Rattle.ms_pass_laws.proofs.Places.{frame_at, drop_step, put_plain, here_step, marked_here}
@@ -251,7 +251,7 @@ through_inst s j i is h g gs cells w k e f =
     ap₂ (λ x y. inst_at s j i is (here s j g) x g gs cells w y) (read_words s g.values (operands i.op) (here s j g).root) e
     ∙ ap (λ x. inst_at s j i is x (words_of s g.values (operands i.op)) g gs cells w k) f
 
--- from the first of the marked instructions on: more is what holds of those behind it
+-- from the first of the marked instructions on: more is what holds of those after it
 marked_first : (s : Setting) (j : Module) (site : ℕ) (x : Option Name) (words : List ℕ) (g : Frame ℕ) (gs : List (Frame ℕ)) (cells : ℕ → ℕ) (e : Effect)
     (go : PlainState → Stepped PlainState) (k : Values → World → Reach) (f : Values → World → Stepped PlainState) (rest : Type 0)
     → (IsQuiet e × rest) ⊎ GetsThrough (marked_next x g.values cells e k)

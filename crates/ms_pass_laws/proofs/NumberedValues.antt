@@ -16,13 +16,13 @@ use Rattle.ms_ir.specs.Equal.{has_name}
 use Rattle.ms_ir.specs.Written.{result_type, mentions, type_mentions}
 use Rattle.ms_ir.specs.Locals.{results, block_locals, parameter_names, locals, func_insts, typed_result, values, value_type, type_names, symbols}
 use Rattle.ms_ir.proofs.RootKinds.{name_same}
-use Rattle.ms_valid.specs.ReadLimits.{mentioned, func_names}
-use Rattle.ms_valid.specs.Uninstrumented.{names_are_free}
-use Rattle.ms_valid.specs.NamesKnown.{global_mentions}
-use Rattle.ms_tasks.specs.Known.{KnownName, OneName, FewNumbers}
+use Rattle.ms_check_valid.specs.ReadLimits.{mentioned, func_names}
+use Rattle.ms_check_valid.specs.Uninstrumented.{names_are_free}
+use Rattle.ms_check_valid.specs.NamesKnown.{global_mentions}
+use Rattle.ms_pass_tasks.specs.Known.{KnownName, OneName, FewNumbers}
 use Rattle.ms_pass_laws.specs.Numbers.{value_index, values_at, numbering}
-use Rattle.ms_good_laws.proofs.CallTypes.{not_true}
-use Rattle.ms_good_laws.proofs.JumpFrames.{passes_too}
+use Rattle.ms_runs_good_laws.proofs.CallTypes.{not_true}
+use Rattle.ms_runs_good_laws.proofs.JumpFrames.{passes_too}
 
 -- ---- tests of all
 

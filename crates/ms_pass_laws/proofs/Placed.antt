@@ -16,14 +16,14 @@ use Rattle.ms_runs.specs.Memory.{used, next_base, make}
 use Rattle.ms_runs.specs.Globals.{address_of, write_init, write_items, write_fields, make_globals}
 use Rattle.ms_runs.specs.Plain.{start_world}
 use Rattle.ms_ir.specs.Written.{init_types}
-use Rattle.ms_valid.specs.SizesFit.{sized, spelled_unless, taken_with, passes_limit, unsized_globals, func_types}
-use Rattle.ms_valid.specs.Valid.{Valid}
-use Rattle.ms_valid.specs.Formed.{Formed}
-use Rattle.ms_valid.proofs.Finding.{both_empty}
-use Rattle.ms_good_laws.specs.GoodWorlds.{GivesBytes, FitsCell}
-use Rattle.ms_good_laws.proofs.Starting.{start_world_good, unless}
-use Rattle.ms_good_laws.proofs.ExternalEffects.{room_above}
-use Rattle.ms_tasks.specs.Match.{IsPlaced, ArePlaced, RangedWorld}
+use Rattle.ms_check_valid.specs.SizesFit.{sized, spelled_unless, taken_with, passes_limit, unsized_globals, func_types}
+use Rattle.ms_check_valid.specs.Valid.{Valid}
+use Rattle.ms_check_valid.specs.Formed.{Formed}
+use Rattle.ms_check_valid.proofs.Finding.{both_empty}
+use Rattle.ms_runs_good_laws.specs.GoodWorlds.{GivesBytes, FitsCell}
+use Rattle.ms_runs_good_laws.proofs.Starting.{start_world_good, unless}
+use Rattle.ms_runs_good_laws.proofs.ExternalEffects.{room_above}
+use Rattle.ms_pass_tasks.specs.Match.{IsPlaced, ArePlaced, RangedWorld}
 
 module _ (types : Types) (address : Name → ℕ) where
   mutual

@@ -13,9 +13,9 @@ use Rattle.ms_runs.specs.World.{Setting, Here}
 use Rattle.ms_ir.specs.Instructions.{insts_at, over_insts, before, one_unmarked, roots_in}
 use Rattle.ms_runs.specs.Control.{Frame, here, rest_of, put}
 use Rattle.ms_runs.specs.Poisoned.{Poisoned}
-use Rattle.ms_tasks.specs.Meaning.{set_result}
-use Rattle.ms_tasks.specs.InstructionLaw.{given_of, after_result}
-use Rattle.ms_tasks.specs.PassLists.{next_here}
+use Rattle.ms_pass_tasks.specs.Meaning.{set_result}
+use Rattle.ms_pass_tasks.specs.InstructionLaw.{given_of, after_result}
+use Rattle.ms_pass_tasks.specs.PassLists.{next_here}
 use Rattle.ms_runs_laws.proofs.Stripped.{sites_skip, roots_skip}
 use Rattle.ms_runs_laws.proofs.Numbering.{insts_split}
 

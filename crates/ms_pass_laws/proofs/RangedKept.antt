@@ -29,13 +29,13 @@ use Rattle.ms_runs.specs.Act.{act, alloca, load, store}
 use Rattle.ms_runs.specs.Plain.{Stepped, More, Stop}
 use Rattle.ms_runs.specs.Poisoned.{Poisoned, clean}
 use Rattle.ms_bits.specs.Conversions.{select_of}
-use Rattle.ms_tasks.proofs.OriginRanges.{AreRanged, operand_ranged, words_ranged, at_ranged, last_ranged}
+use Rattle.ms_pass_tasks.proofs.OriginRanges.{AreRanged, operand_ranged, words_ranged, at_ranged, last_ranged}
 use Rattle.ms_runs.specs.Masks.{by_formulas, word_at, answer_origin, result_origin, union}
 use Rattle.ms_runs.specs.Uses.{CheckedUse, Word, Bytes, Line, blinded, uses, check_use, check_uses, Asked}
 use Rattle.ms_runs.specs.Shadow.{ShadowState, read_poisoned, external_planes, callee_planes, planes, poisoned_result, shadow_moved, after_checks, shadow_inst, shadow_first, shadow_frames, shadow_step, shadow_reading}
-use Rattle.ms_tasks.specs.Environments.{Env}
-use Rattle.ms_tasks.specs.Known.{IsBuilt, KnownInst, edge_roots, PhiRoot, PhiRoots}
-use Rattle.ms_tasks.specs.Match.{IsPlaced, ArePlaced, RangedWorld, RangedValues, RangedHere}
+use Rattle.ms_pass_tasks.specs.Environments.{Env}
+use Rattle.ms_pass_tasks.specs.Known.{IsBuilt, KnownInst, edge_roots, PhiRoot, PhiRoots}
+use Rattle.ms_pass_tasks.specs.Match.{IsPlaced, ArePlaced, RangedWorld, RangedValues, RangedHere}
 use Rattle.ms_pass_laws.specs.Pass.{Numbering}
 use Rattle.ms_pass_laws.specs.Law.{RangedFrames, Ranged}
 use Rattle.ms_pass_laws.specs.Known.{KnownModule}
@@ -45,8 +45,8 @@ use Rattle.ms_ir.specs.declared.calls.External.TheVariants as called
 use Rattle.ms_ir.specs.Names.{lookup, externals}
 use Rattle.ms_runs.specs.Externals.{malloc, calloc, reallocated, where_good, string_at, printed, taken, next_byte, external, output_limit, formatted, prints, joined}
 use Rattle.ms_runs.specs.Threads.{fiber_limit, thread_at, has_ended, join_answer}
-use Rattle.ms_good_laws.proofs.ExternalEffects.{room_above}
-use Rattle.ms_good_laws.proofs.WorldChanges.{pair_found}
+use Rattle.ms_runs_good_laws.proofs.ExternalEffects.{room_above}
+use Rattle.ms_runs_good_laws.proofs.WorldChanges.{pair_found}
 use Rattle.ms_pass_laws.proofs.Placed.{placed_more}
 
 -- ---- checks leave allocations and cells

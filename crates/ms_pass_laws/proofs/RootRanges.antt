@@ -12,11 +12,11 @@ use Rattle.ms_ir.specs.declared.syntax.Block.{Block}
 use Rattle.ms_ir.specs.declared.syntax.Func.{Func}
 use Rattle.ms_ir.specs.declared.syntax.Module.{Module}
 use Rattle.ms_ir.specs.Instructions.{operands, insts_at, blocks_at, over_insts, over_blocks, over_funcs, before, one_unmarked, one_undef, roots_in, root_at}
-use Rattle.ms_valid.specs.Formed.{Formed, count_written}
+use Rattle.ms_check_valid.specs.Formed.{Formed, count_written}
 use Rattle.ms_runs_laws.proofs.Numbering.{insts_split}
-use Rattle.ms_tasks.specs.Known.{edge_roots, PhiRoot, PhiRoots}
+use Rattle.ms_pass_tasks.specs.Known.{edge_roots, PhiRoot, PhiRoots}
 use Rattle.ms_runs.specs.Origins.{pair_limit}
-use Rattle.ms_good_laws.proofs.Starting.{roots_few}
+use Rattle.ms_runs_good_laws.proofs.Starting.{roots_few}
 
 -- ---- counts
 

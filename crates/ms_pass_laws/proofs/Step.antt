@@ -18,29 +18,29 @@ use Rattle.ms_runs.specs.Poisoned.{Poisoned, clean}
 use Rattle.ms_runs.specs.Masks.{by_completions, by_formulas}
 use Rattle.ms_runs.specs.Uses.{uses}
 use Rattle.ms_runs.specs.Shadow.{read_poisoned, ShadowState, shadow_reading, shadow_moved, poisoned_result, planes, after_checks, shadow_inst, shadow_first, shadow_frames, shadow_step}
-use Rattle.ms_tasks.specs.Meaning.{Values, Reach, Reaches, Went, Over as Done, run_marked, do_tasks, set_result, AllMarked}
-use Rattle.ms_tasks.specs.Tasks.{tasks_code}
-use Rattle.ms_tasks.specs.Environments.{Env, Given, tracked}
-use Rattle.ms_tasks.specs.Emit.{Emitted, before_tasks, after_tasks, start, emit_tasks}
-use Rattle.ms_tasks.specs.PlaneTasks.{plane_tasks, callee_tasks, saves}
-use Rattle.ms_tasks.specs.SlotTasks.{take_parameters, take_result}
-use Rattle.ms_tasks.specs.Known.{IsBuilt, ArgsFit, AllApart, KnownPhis}
+use Rattle.ms_pass_tasks.specs.Meaning.{Values, Reach, Reaches, Went, Over as Done, run_marked, do_tasks, set_result, AllMarked}
+use Rattle.ms_pass_tasks.specs.Tasks.{tasks_code}
+use Rattle.ms_pass_tasks.specs.Environments.{Env, Given, tracked}
+use Rattle.ms_pass_tasks.specs.Emit.{Emitted, before_tasks, after_tasks, start, emit_tasks}
+use Rattle.ms_pass_tasks.specs.PlaneTasks.{plane_tasks, callee_tasks, saves}
+use Rattle.ms_pass_tasks.specs.SlotTasks.{take_parameters, take_result}
+use Rattle.ms_pass_tasks.specs.Known.{IsBuilt, ArgsFit, AllApart, KnownPhis}
 use Rattle.ms_ir.specs.declared.syntax.Ty.{Ty}
 use Rattle.ms_ir.specs.declared.syntax.Operand.{Operand}
 use Rattle.ms_ir.specs.declared.syntax.Func.{Func}
 use Rattle.ms_runs.specs.declared.runs.End.{End}
 use Rattle.ms_bits.specs.declared.traps.Trap.TheVariants as trap
-use Rattle.ms_tasks.specs.SlotLaw.{SameLength, ReturnFits}
-use Rattle.ms_tasks.proofs.Slots.{result_taken, params_low, function_entered}
-use Rattle.ms_tasks.proofs.MatchedNames.{matches_same}
-use Rattle.ms_tasks.proofs.Flatten.{same_refl, went_inv, tasks_run}
-use Rattle.ms_tasks.proofs.OperandWords.{ap₃}
-use Rattle.ms_tasks.proofs.TaskNames.{after_low}
+use Rattle.ms_pass_tasks.specs.SlotLaw.{SameLength, ReturnFits}
+use Rattle.ms_pass_tasks.proofs.Slots.{result_taken, params_low, function_entered}
+use Rattle.ms_pass_tasks.proofs.MatchedNames.{matches_same}
+use Rattle.ms_pass_tasks.proofs.Flatten.{same_refl, went_inv, tasks_run}
+use Rattle.ms_pass_tasks.proofs.OperandWords.{ap₃}
+use Rattle.ms_pass_tasks.proofs.TaskNames.{after_low}
 use Rattle.ms_runs_laws.proofs.Numbering.{here_agrees}
 use Rattle.ms_runs.proofs.HeapBlocks.{gives_same}
-use Rattle.ms_tasks.specs.PassLists.{emit_op, next_here, pass_insts}
-use Rattle.ms_tasks.specs.Match.{Handed, CallHeld, ArgsHeld, ResultHeld, SlotsHold, Saved, Matches, RangedWorld, RangedValues}
-use Rattle.ms_tasks.specs.InstructionLaw.{GoesOn, Stands, given_of, words_at, checked_at, counted_at, acted_at, after_result, before_code, BeforeLaw, Checked, Failed, Due, AfterLaw}
+use Rattle.ms_pass_tasks.specs.PassLists.{emit_op, next_here, pass_insts}
+use Rattle.ms_pass_tasks.specs.Match.{Handed, CallHeld, ArgsHeld, ResultHeld, SlotsHold, Saved, Matches, RangedWorld, RangedValues}
+use Rattle.ms_pass_tasks.specs.InstructionLaw.{GoesOn, Stands, given_of, words_at, checked_at, counted_at, acted_at, after_result, before_code, BeforeLaw, Checked, Failed, Due, AfterLaw}
 use Rattle.ms_pass_laws.proofs.Marked.{AllInserted, inserted_marked, inserted_no_block, tasks_inserted, GetsThrough as RunsOn, reach_step, state_of, through_inst, through_marked}
 use Rattle.ms_pass_laws.specs.Pass.{Numbering, entry_code, pass_funcs, pass}
 use Rattle.ms_pass_laws.specs.Law.{AtCall, FramesFollow, TopFollows, FollowsBy, Follows, Steps, CleanFrames, Sound, RangedFrames, Ranged}
@@ -48,14 +48,14 @@ use Rattle.ms_pass_laws.specs.Known.{KnownModule, AnswerFits, ReturnsAs, ret_at,
 use Rattle.ms_pass_laws.proofs.Places.{frame_at, drop_step, drop_many, put_plain, put_shadow, here_step, marked_here, params_in}
 use Rattle.ms_pass_laws.proofs.Built.{Tells, act_tells}
 use Rattle.ms_pass_laws.proofs.Jumps.{gone, gone_tasks, insts_strip, all_kept, entry_start, jump_follows, known_drop}
-use Rattle.ms_tasks.proofs.InsertedNames.{with_other, with_here}
+use Rattle.ms_pass_tasks.proofs.InsertedNames.{with_other, with_here}
 use Rattle.ms_pass_laws.proofs.RangedKept.{checks_ranged, ranged_kept, phi_shadow}
-use Rattle.ms_tasks.proofs.Marked.{tasks_more, tasks_marked}
-use Rattle.ms_tasks.proofs.Before.{before_law}
-use Rattle.ms_tasks.proofs.After.{numbers_low, after_gives, after_does}
+use Rattle.ms_pass_tasks.proofs.Marked.{tasks_more, tasks_marked}
+use Rattle.ms_pass_tasks.proofs.Before.{before_law}
+use Rattle.ms_pass_tasks.proofs.After.{numbers_low, after_gives, after_does}
 use Rattle.ms_runs_laws.proofs.SameRuns.{same_step}
 use Rattle.ms_runs_laws.proofs.ExactRules.{formulas_exact}
-use Rattle.ms_good_laws.proofs.Frames.{drop_first}
+use Rattle.ms_runs_good_laws.proofs.Frames.{drop_first}
 
 -- the lists round an instruction that is no phi
 abbrev pub task_lists : Given → Env → Here → Inst → ℕ → Emitted
@@ -74,7 +74,7 @@ params_of_kept given (g ∷ fs) (suc f) numbers site root = params_of_kept given
 params_kept : (numbers : ℕ → Numbering) (m : Module) (f : ℕ) → params_at (pass numbers m) f ≡ params_at m f
 params_kept numbers m f = params_of_kept _ m.funcs f numbers 1 0
 
--- the same place behind marked instructions
+-- the same place after marked instructions
 pub here_marked : {V : Type 0} (s : Setting) (j : Module) (a b : List Inst) → AllMarked a → (g : Frame V) (values : Name → V) → rest_of j g ≡ a ++ b
     → here s j (frame_at g (g.place + length a) values) ≡ here s j g
 here_marked s j [] b k g values r = let p : g.place + 0 ≡ g.place = omega arith in ap (λ n. here s j (frame_at g n g.values)) p
@@ -311,7 +311,7 @@ module _ (s : Setting) (numbers : ℕ → Numbering) (m : Module) (known : Known
         (subst (λ b. ResultHeld b cells (v ∷ []) (p ∷ ps)) outside (subst (λ o. Handed s.func main o (p ∷ ps) cells) e h)),
   )
 
-  -- the caller goes on behind its call
+  -- the caller goes on after its call
   return_follows : (called : ℕ) (f : Frame Poisoned) (fs : List (Frame Poisoned)) (g : Frame ℕ) (gs : List (Frame ℕ)) (a : AtCall s numbers m called f g) → FramesFollow s numbers m f.func fs gs
       → (p : Poisoned) (cells : ℕ → ℕ) (w : World) → ReturnFits a.call.result a.ret cells p
       → ((x : Name) → (numbers f.func).env.clean x ≡ true → (after_result f.values a.call.result p x).mask ≡ 0)
@@ -477,14 +477,14 @@ module _ (s : Setting) (numbers : ℕ → Numbering) (m : Module) (known : Known
           (subst (λ o. SameLength (operands o) words) tells.is (read_length f.values (operands i.op) (here s m f).root)) handed fit.answer (known.returned f i is z.rest_m tells.value tells.is))
           (λ x c. clean_sound.masks _ refl x c))
 
-  -- where the list before an instruction stands, and the instruction behind it
+  -- where the list before an instruction stands, and the instruction after it
   abbrev round : Frame Poisoned → Inst → List Inst → ℕ → List Inst
   round f i is next =
       i
       ∷ ((task_lists (given_of s) (numbers f.func).env (here s m f) i next).after
       ++ (pass_insts (given_of s) (numbers f.func).env is (next_here (given_of s) (here s m f) i) (task_lists (given_of s) (numbers f.func).env (here s m f) i next).next).code)
 
-  -- where the shadow run goes on behind its checks
+  -- where the shadow run goes on after its checks
   checks_by : (f : Frame Poisoned) (fs : List (Frame Poisoned)) (i : Inst) (w : World) (e : Effect) → checked_at s f.values (here s m f) i w ≡ e
       → shadow_moved (shadow_inst by_formulas s m i f fs w) ≡ shadow_moved (after_checks by_formulas s m i (here s m f) (words_at s f.values (here s m f) i) f fs e)
   checks_by f fs i w e h = ap (λ x. shadow_moved (after_checks by_formulas s m i (here s m f) (words_at s f.values (here s m f) i) f fs x)) h

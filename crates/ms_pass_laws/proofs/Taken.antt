@@ -17,20 +17,20 @@ use Rattle.ms_runs.specs.Poisoned.{Poisoned}
 use Rattle.ms_runs.specs.Masks.{by_formulas}
 use Rattle.ms_runs.specs.Shadow.{ShadowState, shadow_step, shadow_start}
 use Rattle.ms_runs.specs.Faithful.{Fair, Faithful}
-use Rattle.ms_valid.specs.Paths.{insts_of}
-use Rattle.ms_valid.specs.Formed.{Formed, func_formed}
+use Rattle.ms_check_valid.specs.Paths.{insts_of}
+use Rattle.ms_check_valid.specs.Formed.{Formed, func_formed}
 use Rattle.ms_ir.specs.Spots.{spot}
-use Rattle.ms_valid.specs.Uninstrumented.{CanInstrument}
-use Rattle.ms_valid.specs.Valid.{Valid}
-use Rattle.ms_valid.proofs.AtInstructions.{fits_at}
-use Rattle.ms_valid.proofs.SmallNumbers.{blocks_of}
-use Rattle.ms_good_laws.proofs.Starts.{all_get}
-use Rattle.ms_good_laws.specs.GoodWorlds.{GoodWorld, GivesBytes, AnyOrigin}
-use Rattle.ms_good_laws.specs.GoodRuns.{SoundShadow, LeadsTo}
-use Rattle.ms_good_laws.proofs.MaskRanges.{formulas_keep}
-use Rattle.ms_good_laws.proofs.Sound.{shadow_sound, shadow_keeps}
-use Rattle.ms_good_laws.proofs.Frames.{same_insts, drop_first, unmarked_at}
-use Rattle.ms_tasks.specs.Known.{KnownPhi}
+use Rattle.ms_check_valid.specs.Uninstrumented.{CanInstrument}
+use Rattle.ms_check_valid.specs.Valid.{Valid}
+use Rattle.ms_check_valid.proofs.AtInstructions.{fits_at}
+use Rattle.ms_check_valid.proofs.SmallNumbers.{blocks_of}
+use Rattle.ms_runs_good_laws.proofs.Starts.{all_get}
+use Rattle.ms_runs_good_laws.specs.GoodWorlds.{GoodWorld, GivesBytes, AnyOrigin}
+use Rattle.ms_runs_good_laws.specs.GoodRuns.{SoundShadow, LeadsTo}
+use Rattle.ms_runs_good_laws.proofs.MaskRanges.{formulas_keep}
+use Rattle.ms_runs_good_laws.proofs.Sound.{shadow_sound, shadow_keeps}
+use Rattle.ms_runs_good_laws.proofs.Frames.{same_insts, drop_first, unmarked_at}
+use Rattle.ms_pass_tasks.specs.Known.{KnownPhi}
 use Rattle.ms_pass_laws.specs.Pass.{pass}
 use Rattle.ms_pass_laws.specs.Law.{CleanFrames}
 use Rattle.ms_pass_laws.specs.Known.{KnownModule, IsTaken}

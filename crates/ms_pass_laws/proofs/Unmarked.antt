@@ -14,7 +14,7 @@ use Rattle.ms_ir.specs.declared.syntax.Module.{Module}
 use Rattle.ms_ir.specs.Names.{is_reserved}
 use Rattle.ms_ir.specs.Instructions.{is_unmarked, strip_block, strip_func, strip, HeadUnmarked}
 use Rattle.ms_ir.specs.Locals.{symbols, type_names, global_names, declared_names, function_names}
-use Rattle.ms_valid.specs.Uninstrumented.{CanInstrument}
+use Rattle.ms_check_valid.specs.Uninstrumented.{CanInstrument}
 use Rattle.ms_pass_laws.proofs.NumberedValues.{all_append}
 
 insts_same : (is : List Inst) → ((p : ℕ) → HeadUnmarked (drop p is)) → filter is_unmarked is ≡ is

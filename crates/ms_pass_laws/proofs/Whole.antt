@@ -18,19 +18,19 @@ use Rattle.ms_runs.specs.Act.{plain_reading}
 use Rattle.ms_runs.specs.Plain.{plain_start, plain_step, run, setting_of, start_world, start_frame, plain}
 use Rattle.ms_runs.specs.Shadow.{shadow_reading, shadow, shadow_start}
 use Rattle.ms_runs.specs.Faithful.{Fair, Faithful}
-use Rattle.ms_tasks.specs.Tasks.{mask_name, origin_name}
-use Rattle.ms_tasks.specs.Environments.{Env, Given, local_mask, local_origin}
-use Rattle.ms_tasks.specs.SlotTasks.{take_parameters}
-use Rattle.ms_tasks.specs.Match.{held}
-use Rattle.ms_tasks.specs.InstructionLaw.{given_of}
+use Rattle.ms_pass_tasks.specs.Tasks.{mask_name, origin_name}
+use Rattle.ms_pass_tasks.specs.Environments.{Env, Given, local_mask, local_origin}
+use Rattle.ms_pass_tasks.specs.SlotTasks.{take_parameters}
+use Rattle.ms_pass_tasks.specs.Match.{held}
+use Rattle.ms_pass_tasks.specs.InstructionLaw.{given_of}
 use Rattle.ms_pass_laws.specs.Pass.{Numbering, here_after, pass_blocks, entry_code, enter_block, pass_funcs, pass}
-use Rattle.ms_tasks.specs.PassLists.{pass_insts}
+use Rattle.ms_pass_tasks.specs.PassLists.{pass_insts}
 use Rattle.ms_ir.specs.Signatures.{slot_globals, runtime_declarations}
 use Rattle.ms_pass_laws.specs.Law.{TopFollows, Follows}
 use Rattle.ms_pass_laws.specs.Known.{IsTaken}
 use Rattle.ms_pass_laws.proofs.Places.{insts_in, params_in, blocks_in, func_name_of}
 use Rattle.ms_pass_laws.proofs.Jumps.{AllGone, gone, gone_tasks, enter_first, insts_strip}
-use Rattle.ms_tasks.proofs.Marked.{tasks_marked}
+use Rattle.ms_pass_tasks.proofs.Marked.{tasks_marked}
 use Rattle.ms_pass_laws.proofs.Step.{clean_runs_agree}
 use Rattle.ms_runs_laws.proofs.ExactRules.{computed}
 use Rattle.ms_runs_laws.proofs.Stripped.{setting_same, start_same, frame_same, insts_stripped}

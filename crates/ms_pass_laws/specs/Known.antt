@@ -7,7 +7,7 @@ use Rattle.ms_ir.specs.declared.syntax.Op.{Op}
 use Rattle.ms_ir.specs.declared.syntax.Op.TheVariants as op
 use Rattle.ms_ir.specs.Layout.{width_of}
 use Rattle.ms_runs.specs.Act.{case_of}
-use Rattle.ms_tasks.specs.Known.{KnownParams, ArgsFit, AllApart, KnownInst, OneName, FewNumbers, KnownPhis, PhiRoots}
+use Rattle.ms_pass_tasks.specs.Known.{KnownParams, ArgsFit, AllApart, KnownInst, OneName, FewNumbers, KnownPhis, PhiRoots}
 use Rattle.ms_ir.specs.declared.syntax.Inst.{Inst}
 use Rattle.ms_ir.specs.declared.syntax.Module.{Module}
 use Rattle.ms_runs.specs.declared.runs.Setup.{Setup}
@@ -20,9 +20,9 @@ use Rattle.ms_runs.specs.Poisoned.{Poisoned}
 use Rattle.ms_runs.specs.Masks.{by_formulas}
 use Rattle.ms_runs.specs.Shadow.{ShadowState, shadow_start, shadow_step}
 use Rattle.ms_runs.specs.Faithful.{Fair}
-use Rattle.ms_tasks.specs.Environments.{Given}
-use Rattle.ms_tasks.specs.Match.{RangedWorld, RangedHere, SlotAddresses}
-use Rattle.ms_tasks.specs.InstructionLaw.{given_of}
+use Rattle.ms_pass_tasks.specs.Environments.{Given}
+use Rattle.ms_pass_tasks.specs.Match.{RangedWorld, RangedHere, SlotAddresses}
+use Rattle.ms_pass_tasks.specs.InstructionLaw.{given_of}
 use Rattle.ms_pass_laws.specs.Pass.{Numbering, pass}
 use Rattle.ms_pass_laws.specs.Law.{CleanFrames}
 use Rattle.ms_runs.specs.Origins.{pair_limit}

@@ -12,11 +12,11 @@ use Rattle.ms_runs.specs.Control.{Frame, here, rest_of, local_block}
 use Rattle.ms_runs.specs.Plain.{PlainState, Stepped, More, Stop}
 use Rattle.ms_runs.specs.Poisoned.{Poisoned}
 use Rattle.ms_runs.specs.Shadow.{ShadowState}
-use Rattle.ms_tasks.specs.Meaning.{AllMarked, Values, Went, run_marked}
-use Rattle.ms_tasks.specs.Match.{Matches, RangedWorld, RangedValues}
-use Rattle.ms_tasks.specs.InstructionLaw.{given_of}
+use Rattle.ms_pass_tasks.specs.Meaning.{AllMarked, Values, Went, run_marked}
+use Rattle.ms_pass_tasks.specs.Match.{Matches, RangedWorld, RangedValues}
+use Rattle.ms_pass_tasks.specs.InstructionLaw.{given_of}
 use Rattle.ms_pass_laws.specs.Pass.{Numbering, pass}
-use Rattle.ms_tasks.specs.PassLists.{emit_lists, next_here, pass_insts}
+use Rattle.ms_pass_tasks.specs.PassLists.{emit_lists, next_here, pass_insts}
 
 -- code that makes no heap block for its frame
 abbrev pub MakesNoBlock : List Inst → Type 0

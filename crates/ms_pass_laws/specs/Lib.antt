@@ -2,4 +2,3 @@ pub mod Law
 pub mod Numbers
 pub mod Pass
 pub mod Known
-pub mod Examples

@@ -8,12 +8,12 @@ use Rattle.ms_ir.specs.declared.syntax.Module.{Module}
 use Rattle.ms_ir.specs.Names.{name_eq, main_name}
 use Rattle.ms_runs.specs.World.{Here}
 use Rattle.ms_ir.specs.Instructions.{func_index, one_unmarked, roots_in, over_blocks, over_insts}
-use Rattle.ms_tasks.specs.Tasks.{tasks_code}
+use Rattle.ms_pass_tasks.specs.Tasks.{tasks_code}
 use Rattle.ms_ir.specs.declared.syntax.Name.{Name}
 use Rattle.ms_ir.specs.declared.syntax.Ty.{Ty}
-use Rattle.ms_tasks.specs.Environments.{Given, Env}
-use Rattle.ms_tasks.specs.SlotTasks.{take_parameters}
-use Rattle.ms_tasks.specs.PassLists.{pass_insts}
+use Rattle.ms_pass_tasks.specs.Environments.{Given, Env}
+use Rattle.ms_pass_tasks.specs.SlotTasks.{take_parameters}
+use Rattle.ms_pass_tasks.specs.PassLists.{pass_insts}
 use Rattle.ms_ir.specs.Signatures.{slot_globals, runtime_declarations}
 
 -- how the values of a function are numbered, and how many they are

@@ -2,7 +2,7 @@
 ghost use Rattle.std.specs.Prelude.{◌≡◌, ℕ};
 ghost use Rattle.ms_ir.specs.{declared.syntax.Module.{Module}, Instructions.{strip}};
 ghost use Rattle.ms_runs.specs.{declared.runs.Setup.{Setup}, Faithful.{Faithful}, Plain.{setting_of}};
-ghost use Rattle.ms_valid.specs.{Formed.{Formed}, Uninstrumented.{CanInstrument}, Valid.{Valid}};
+ghost use Rattle.ms_check_valid.specs.{Formed.{Formed}, Uninstrumented.{CanInstrument}, Valid.{Valid}};
 ghost use Rattle.ms_pass_laws.specs.{Pass.{Numbering, pass}, Numbers.{numbering}, Known.{KnownModule, IsTaken}};
 
 /// Without its marked instructions, reserved globals and reserved declarations the instrumented form is what the module

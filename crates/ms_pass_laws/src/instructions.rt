@@ -3,7 +3,7 @@ ghost use Rattle.std.specs.Prelude.{◌≡◌};
 ghost use Rattle.ms_ir.specs.{declared.syntax.Name.{Name}, declared.syntax.Inst.{Inst}};
 ghost use Rattle.ms_runs.specs.{World.{Setting, Here}, Poisoned.{Poisoned}, Masks.{by_completions, by_formulas}};
 ghost use Rattle.ms_runs.specs.Shadow.{poisoned_result};
-ghost use Rattle.ms_tasks.specs.InstructionLaw.{words_at};
+ghost use Rattle.ms_pass_tasks.specs.InstructionLaw.{words_at};
 
 /// The masks and origins that the inserted code computes by formulas are those that completions of the operands' poisoned
 /// bits give, for every instruction and all words of its operands.

@@ -4,7 +4,6 @@
 //! empty body, and what it promises is the law; the lemmas in `proofs/` are there for crates above.
 #![tactic(auto)]
 
-pub mod examples;
 pub mod faithful;
 pub mod instructions;
 pub mod steps;

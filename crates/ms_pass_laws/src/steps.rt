@@ -5,8 +5,8 @@ ghost use Rattle.ms_runs.specs.{declared.runs.Setup.{Setup}, World.{Setting}, Co
 ghost use Rattle.ms_runs.specs.Masks.{by_completions, by_formulas};
 ghost use Rattle.ms_runs.specs.Plain.{PlainState, More, plain_start, plain_step, run, setting_of};
 ghost use Rattle.ms_runs.specs.Shadow.{ShadowState, shadow_start, shadow_step};
-ghost use Rattle.ms_valid.specs.Valid.{Valid};
-ghost use Rattle.ms_good_laws.specs.GoodRuns.{SoundShadow};
+ghost use Rattle.ms_check_valid.specs.Valid.{Valid};
+ghost use Rattle.ms_runs_good_laws.specs.GoodRuns.{SoundShadow};
 ghost use Rattle.ms_pass_laws.specs.{Pass.{Numbering, pass}, Law.{Follows, Steps, Sound, Ranged}};
 ghost use Rattle.ms_pass_laws.specs.Known.{KnownModule, ApartFrames, CleanRun};
 

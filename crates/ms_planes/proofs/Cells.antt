@@ -97,7 +97,7 @@ module _ (shadow old : ℕ → ℕ) where
       ∙ ap (λ (x : ℕ). copied_cells shadow old ((t + (i + 1)) * 4) x left done) {x = (s + i) * 4 + 4} {y = (s + (i + 1)) * 4} (omega arith)
       ∙ ap (copied_cells shadow old ((t + (i + 1)) * 4) ((s + (i + 1)) * 4) left) is)
 
-  -- whole cells, and what stands before and behind them
+  -- whole cells, and what stands before and after them
   pub whole-between : (f g h r : ℕ → ℕ) (t s n head whole c d : ℕ) → c ≡ (t + head) / 4 → d ≡ (s + head) / 4 → head + whole * 4 ≤ n → (whole ≡ 0) ⊎ ((t + head) % 4 ≡ 0) → t % 4 ≡ s % 4 →
       g ≡ copied_cells shadow old t s head f → h ≡ copied_cells shadow old (c * 4) (d * 4) (whole * 4) g →
       r ≡ copied_cells shadow old (t + (head + whole * 4)) (s + (head + whole * 4)) (n - (head + whole * 4)) h → r ≡ copied_cells shadow old t s n f

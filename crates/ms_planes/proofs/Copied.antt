@@ -12,8 +12,8 @@ use Rattle.ms_alloc.specs.Places.{IsPlace}
 use Rattle.ms_bits.specs.Maps.{with_range, with_cell, copied_cells}
 use Rattle.ms_raw.specs.Blocks.{Lists, IsLists}
 use Rattle.ms_raw.specs.Copies.{copied as list_copied, copied_cells as cells_copied}
-use Rattle.ms_planes.specs.declared.parts.Part.{Part}
-use Rattle.ms_planes.specs.declared.parts.Part.TheVariants.{Bytes, Shadow}
+use Rattle.ms_planes.specs.declared.parts.Plane.{Plane}
+use Rattle.ms_planes.specs.declared.parts.Plane.TheVariants.{Bytes, Shadow}
 use Rattle.ms_planes.specs.Areas.{held}
 use Rattle.ms_planes.specs.Blocks.{bytes_in, other, OriginsCopied, IsCopied, IsCopiedInto, IsFilled, IsFilledInto}
 use Rattle.ms_planes.specs.Memory.{Memory, IsMemory, IsBlockOf, area_index, part_of, shadow_of, origins_of, MapsCopied, CellsCopied}
@@ -109,11 +109,11 @@ copied-shift sh old sh' old' b b' to from (suc n) f f' c even shadows cells same
 
 -- ---- a copy, as memory shows it
 
-pub copied-whole : (part : Part) (was src l : Lists) (to from n size : ℕ) → IsCopied part was src l to from n → IsLists size was → IsLists size l
+pub copied-whole : (part : Plane) (was src l : Lists) (to from n size : ℕ) → IsCopied part was src l to from n → IsLists size was → IsLists size l
 copied-whole Bytes was src l to from n size c whole = record { bytes = c.len ∙ whole.bytes; shadow = ap (λ (xs : List ℕ). length xs) c.rest ∙ whole.shadow; origins = c.cells ∙ whole.origins }
 copied-whole Shadow was src l to from n size c whole = record { bytes = ap (λ (xs : List ℕ). length xs) c.rest ∙ whole.bytes; shadow = c.len ∙ whole.shadow; origins = c.cells ∙ whole.origins }
 
-cells-moved : (part : Part) (m : Memory) (to from n : ℕ) (p q : TablePlace) (was src : Lists) (s : Stands m to n p was) (r : Stands m from n q src) (l : Lists) → IsMemory m → 0 < n → IsLists s.entry.size l →
+cells-moved : (part : Plane) (m : Memory) (to from n : ℕ) (p q : TablePlace) (was src : Lists) (s : Stands m to n p was) (r : Stands m from n q src) (l : Lists) → IsMemory m → 0 < n → IsLists s.entry.size l →
     OriginsCopied part was src l (to - p.base) (from - q.base) n → CellsCopied part m (with_block m p.kind p.index (Some l)) to from n
 cells-moved Bytes m to from n p q was src s r l is some whole change =
     fun_ext (λ c. shown-same (λ w o. held w.origins (o / 4)) m to n p was s l (4 * c) is whole (λ o. ap (λ (xs : List ℕ). held xs (o / 4)) change))
@@ -155,11 +155,11 @@ cells-moved Shadow m to from n p q was src s r l is some whole change =
         (cases_lt ((to + n - 1) / 4) c))
         (cases_lt c (to / 4))
 
-pub record CopyDone (part : Part) (m m' : Memory) (to from n : ℕ) : Type 0 where
+pub record CopyDone (part : Plane) (m m' : Memory) (to from n : ℕ) : Type 0 where
   pub memory : IsMemory m'
   pub maps : MapsCopied part m m' to from n
 
-pub copy-done : (part : Part) (m : Memory) (to from n : ℕ) (p q : TablePlace) (was src : Lists) (s : Stands m to n p was) (r : Stands m from n q src) (l : Lists) → IsMemory m → 0 < n →
+pub copy-done : (part : Plane) (m : Memory) (to from n : ℕ) (p q : TablePlace) (was src : Lists) (s : Stands m to n p was) (r : Stands m from n q src) (l : Lists) → IsMemory m → 0 < n →
     IsCopied part was src l (to - p.base) (from - q.base) n → CopyDone part m (with_block m p.kind p.index (Some l)) to from n
 copy-done part m to from n p q was src s r l is some c =
     let whole : IsLists s.entry.size l = copied-whole part was src l (to - p.base) (from - q.base) n s.entry.size c s.whole in
@@ -244,12 +244,12 @@ put-back bs a b i j y la lb lj apart = ⊎_elim
         ∙ set-back bs a b (set (get_or bs a []) i y) (set (get_or bs b []) j None) [] ne lb
 
 -- a copy into a block that is there leaves one there
-pub into-some : (part : Part) (was src : Lists) (x : Option Lists) (to from n : ℕ) → IsCopiedInto part (Some was) (Some src) x to from n → (l : Lists) × (x ≡ Some l) × IsCopied part was src l to from n
+pub into-some : (part : Plane) (was src : Lists) (x : Option Lists) (to from n : ℕ) → IsCopiedInto part (Some was) (Some src) x to from n → (l : Lists) × (x ≡ Some l) × IsCopied part was src l to from n
 into-some part was src None to from n h = absurd h
 into-some part was src (Some l) to from n h = (l, refl, h)
 
 -- a fill of a block that is there leaves one there
-pub filled-some : (part : Part) (was : Lists) (x : Option Lists) (at n v : ℕ) → IsFilledInto part (Some was) x at n v → (l : Lists) × (x ≡ Some l) × IsFilled part was l at n v
+pub filled-some : (part : Plane) (was : Lists) (x : Option Lists) (at n v : ℕ) → IsFilledInto part (Some was) x at n v → (l : Lists) × (x ≡ Some l) × IsFilled part was l at n v
 filled-some part was None at n v h = absurd h
 filled-some part was (Some l) at n v h = (l, refl, h)
 

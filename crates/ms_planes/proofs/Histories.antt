@@ -16,8 +16,8 @@ use Rattle.ms_alloc.specs.Only.{IsOnly}
 use Rattle.ms_alloc.proofs.Places.{covers-after, covers-before, listed-fixed, listed-heap, listed-stack, ended-set}
 use Rattle.ms_bits.specs.Maps.{with_range, with_cells}
 use Rattle.ms_raw.specs.Blocks.{Lists, IsLists, blank, cells}
-use Rattle.ms_planes.specs.declared.parts.Part.{Part}
-use Rattle.ms_planes.specs.declared.parts.Part.TheVariants.{Bytes, Shadow}
+use Rattle.ms_planes.specs.declared.parts.Plane.{Plane}
+use Rattle.ms_planes.specs.declared.parts.Plane.TheVariants.{Bytes, Shadow}
 use Rattle.ms_planes.specs.Areas.{held}
 use Rattle.ms_planes.specs.Blocks.{bytes_in}
 use Rattle.ms_planes.specs.Memory.{Memory, IsMemory, IsBlockOf, AreBlocksOf, KeepsLive, IsSame, lists, area_index, kind_of, read, found, shown, part_of, bytes_of, shadow_of, origins_of}
@@ -130,7 +130,7 @@ made-out f m k n x is has = ⊎_elim
     (λ (e : area_index (kind_of x) ≢ area_index k). shown-apart f (with_made k n m.table) m k (get_or m.blocks (area_index k) [] ++ Some (blank n) ∷ []) x (made-others k n m.table) e)
     (cases_eq (area_index (kind_of x)) (area_index k))
 
-pub made-part : (part : Part) (m : Memory) (k : AllocKind) (n : ℕ) → IsMemory m → IsLaidOut (with_made k n m.table) → part_of part (made_memory m k n) ≡ with_range (part_of part m) (next_base k m.table) n (λ j. 0)
+pub made-part : (part : Plane) (m : Memory) (k : AllocKind) (n : ℕ) → IsMemory m → IsLaidOut (with_made k n m.table) → part_of part (made_memory m k n) ≡ with_range (part_of part m) (next_base k m.table) n (λ j. 0)
 made-part part m k n is laid =
     let f : Lists → ℕ → ℕ = λ l o. held (bytes_in part l) o in
     range-is (part_of part m) (λ j. 0) (part_of part (made_memory m k n)) (next_base k m.table) n
@@ -138,7 +138,7 @@ made-part part m k n is laid =
     (λ x high. made-out f m k n x is (covers-before x 1 (next k n m.table) (omega (arith, high))))
     (λ x low high. made-in f m k n x is laid (zeros part) (covers-one (next k n m.table) x refl low high))
   where
-    zeros : (q : Part) (o : ℕ) → held (bytes_in q (blank n)) o ≡ 0
+    zeros : (q : Plane) (o : ℕ) → held (bytes_in q (blank n)) o ≡ 0
     zeros Bytes o = zeros-held n o
     zeros Shadow o = zeros-held n o
 

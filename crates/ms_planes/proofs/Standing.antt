@@ -16,7 +16,7 @@ use Rattle.ms_alloc.specs.Places.{IsPlace}
 use Rattle.ms_alloc.proofs.Rows.{row-from, row-to, size-le, limit-le}
 use Rattle.ms_bits.specs.Maps.{with_range, with_cells}
 use Rattle.ms_raw.specs.Blocks.{Lists, IsLists}
-use Rattle.ms_planes.specs.declared.parts.Part.{Part}
+use Rattle.ms_planes.specs.declared.parts.Plane.{Plane}
 use Rattle.ms_planes.specs.Areas.{held}
 use Rattle.ms_planes.specs.Blocks.{bytes_in, other, KeepsOthers}
 use Rattle.ms_planes.specs.Memory.{Memory, IsMemory, IsBlockOf, AreBlocksOf, lists, area_index, kind_of, read, found, shown, part_of, bytes_of, shadow_of, origins_of}
@@ -237,13 +237,13 @@ block-read vs j i a d x at low lt is =
     is ∙ ap (λ (k : ℕ). get_or (get_or vs k d).items i x) at ∙ ap (λ (bs : List (Option Lists)). get_or bs i x) (vector-at vs a d low) ∙ get_or_default (get_or (lists vs) a []) i x None lt
 
 -- a part that is written in a range
-pub record PartWritten (part : Part) (m m' : Memory) (addr n : ℕ) (g : ℕ → ℕ) : Type 0 where
+pub record PartWritten (part : Plane) (m m' : Memory) (addr n : ℕ) (g : ℕ → ℕ) : Type 0 where
   pub memory : IsMemory m'
   pub shown_is : part_of part m' ≡ with_range (part_of part m) addr n g
   pub rest_is : part_of (other part) m' ≡ part_of (other part) m
   pub origins_is : origins_of m' ≡ origins_of m
 
-pub part-written : (part : Part) (m : Memory) (addr n : ℕ) (g : ℕ → ℕ) (p : TablePlace) (was : Lists) (s : Stands m addr n p was) (l : Lists) → IsMemory m → KeepsOthers part was l →
+pub part-written : (part : Plane) (m : Memory) (addr n : ℕ) (g : ℕ → ℕ) (p : TablePlace) (was : Lists) (s : Stands m addr n p was) (l : Lists) → IsMemory m → KeepsOthers part was l →
     held (bytes_in part l) ≡ with_range (held (bytes_in part was)) (addr - p.base) n g → PartWritten part m (with_block m p.kind p.index (Some l)) addr n g
 part-written part m addr n g p was s l is kept change =
     let whole : IsLists s.entry.size l = kept-whole part was l s.entry.size kept s.whole in

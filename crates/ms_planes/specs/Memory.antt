@@ -7,8 +7,8 @@ use Rattle.ms_alloc.specs.declared.allocations.Allocation.{Allocation}
 use Rattle.ms_alloc.specs.Layout.{area_base}
 use Rattle.ms_alloc.specs.Allocations.{Allocations, IsLaidOut, of_kind, covers, is_good}
 use Rattle.ms_raw.specs.Blocks.{Lists, IsLists}
-use Rattle.ms_planes.specs.declared.parts.Part.{Part}
-use Rattle.ms_planes.specs.declared.parts.Part.TheVariants.{Bytes, Shadow}
+use Rattle.ms_planes.specs.declared.parts.Plane.{Plane}
+use Rattle.ms_planes.specs.declared.parts.Plane.TheVariants.{Bytes, Shadow}
 use Rattle.ms_planes.specs.Areas.{held}
 use Rattle.ms_planes.specs.Blocks.{bytes_in, other}
 use Rattle.ms_bits.specs.Maps.{copied, copied_cells}
@@ -46,7 +46,7 @@ abbrev pub shown : (Lists → ℕ → ℕ) → Memory → ℕ → ℕ
 shown f m addr = found f (of_kind (kind_of addr) m.table) (get_or m.blocks (area_index (kind_of addr)) []) addr
 
 -- the byte at an address, or its shadow byte
-abbrev pub part_of : Part → Memory → ℕ → ℕ
+abbrev pub part_of : Plane → Memory → ℕ → ℕ
 part_of part m = shown (λ l o. held (bytes_in part l) o) m
 
 -- the byte at an address
@@ -62,12 +62,12 @@ abbrev pub origins_of : Memory → ℕ → ℕ
 origins_of m cell = shown (λ l o. held l.origins (o / 4)) m (4 * cell)
 
 -- what a copy does to origins: one of bytes leaves them, and one of shadow bytes takes them along
-abbrev pub CellsCopied : Part → (old new : Memory) → ℕ → ℕ → ℕ → Type 0
+abbrev pub CellsCopied : Plane → (old new : Memory) → ℕ → ℕ → ℕ → Type 0
 CellsCopied Bytes old new to from n = origins_of new ≡ origins_of old
 CellsCopied Shadow old new to from n = origins_of new ≡ copied_cells (shadow_of old) (origins_of old) to from n (origins_of old)
 
 -- a copy of bytes, or of shadow bytes with their origins
-pub record MapsCopied (part : Part) (old new : Memory) (to from n : ℕ) : Type 0 where
+pub record MapsCopied (part : Plane) (old new : Memory) (to from n : ℕ) : Type 0 where
   pub shown : part_of part new ≡ copied (part_of part old) to from n
   pub rest : part_of (other part) new ≡ part_of (other part) old
   pub origins : CellsCopied part old new to from n

@@ -4,25 +4,25 @@ ghost use Rattle.ms_raw.specs.Blocks.{IsLists};
 ghost use Rattle.ms_planes.specs.Blocks.{IsCopied, IsCopiedInto};
 
 use crate::origins::take_origins;
-use crate::parts::{Part, copy};
+use crate::parts::{Plane, copy};
 use ms_raw::Block;
 
 /// Copies `n` bytes of a block, or shadow bytes with their origins, from place `from` on to place `to` on, as they were
 /// before.
-pub(crate) fn copy_within(block: &mut Block, part: Part, to: u64, from: u64, n: u64)
+pub(crate) fn copy_within(block: &mut Block, part: Plane, to: u64, from: u64, n: u64)
     requires to { to + n ≤ length block.old.bytes }
     requires from { from + n ≤ length block.old.bytes }
     requires whole { IsLists (length block.old.bytes) block.old }
     ensures { IsCopied part block.old block.old block.new to from n }
 {
     match part {
-        Part::Bytes => block.copy_within(to, from, n),
-        Part::Shadow => block.copy_shadow_within(to, from, n),
+        Plane::Bytes => block.copy_within(to, from, n),
+        Plane::Shadow => block.copy_shadow_within(to, from, n),
     }
 }
 
 /// Copies `n` bytes of another block, or shadow bytes with their origins, from place `from` on to place `to` on.
-fn copy_from(block: Block, part: Part, to: u64, source: &Block, from: u64, n: u64) -> Block
+fn copy_from(block: Block, part: Plane, to: u64, source: &Block, from: u64, n: u64) -> Block
     requires to { to + n ≤ length block.bytes }
     requires from { from + n ≤ length source.now.bytes }
     requires whole { IsLists (length block.bytes) block }
@@ -30,18 +30,18 @@ fn copy_from(block: Block, part: Part, to: u64, source: &Block, from: u64, n: u6
     ensures { IsCopied part block source.now result to from n }
 {
     match part {
-        Part::Bytes => copy(block, part, to, source, from, n),
-        Part::Shadow => {
+        Plane::Bytes => copy(block, part, to, source, from, n),
+        Plane::Shadow => {
             let marked = take_origins(block, to, source, from, n);
             copy(marked, part, to, source, from, n)
         }
     }
 }
 
-/// The same for blocks that there may be.
+/// `copy_from` between blocks that may be missing.
 pub(crate) fn copy_into(
     slot: &mut Option<Block>,
-    part: Part,
+    part: Plane,
     to: u64,
     source: &Option<Block>,
     from: u64,

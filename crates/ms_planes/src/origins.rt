@@ -4,7 +4,7 @@ ghost use Rattle.ms_bits.specs.Maps.{with_range, copied_cells};
 ghost use Rattle.ms_raw.specs.Blocks.{cells};
 ghost use Rattle.ms_planes.specs.Areas.{held};
 
-use crate::parts::{Part, four_at, is_clean};
+use crate::parts::{Plane, four_at, is_clean};
 use ms_raw::Block;
 
 /// Puts an origin into the `n` cells from `first` on.
@@ -53,7 +53,7 @@ fn cell_of(place: u64) -> u64
     place / 4
 }
 
-/// The same for all bytes of `n` cells, from cell `from` on to cell `at` on. Each cell is written, so that the compiler
+/// `copy_by_bytes` for all bytes of `n` cells, from cell `from` on to cell `at` on. Each cell is written, so that the compiler
 /// can copy many at a time.
 fn copy_by_cells(block: Block, at: u64, source: &Block, from: u64, n: u64) -> Block
     requires within { at * 4 + n * 4 ≤ length block.bytes }
@@ -67,7 +67,7 @@ fn copy_by_cells(block: Block, at: u64, source: &Block, from: u64, n: u64) -> Bl
 {
     let mut copied = block;
     for i in 0..n {
-        let marked = four_at(source, Part::Shadow, (from + i) * 4) != 0;
+        let marked = four_at(source, Plane::Shadow, (from + i) * 4) != 0;
         let brought = source.origin(from + i);
         let kept = copied.origin(at + i);
         let origin = if marked { brought } else { kept };
@@ -76,7 +76,7 @@ fn copy_by_cells(block: Block, at: u64, source: &Block, from: u64, n: u64) -> Bl
     copied
 }
 
-/// The same as `copy_by_bytes`. Where both places stand equally far after the start of a cell, whole cells are copied at
+/// Does what `copy_by_bytes` does. Where both places stand equally far after the start of a cell, whole cells are copied at
 /// once, and only those at the ends byte by byte.
 fn copy_origins(block: Block, at: u64, source: &Block, from: u64, n: u64) -> Block
     requires within { at + n ≤ length block.bytes }
@@ -105,7 +105,7 @@ fn copy_origins(block: Block, at: u64, source: &Block, from: u64, n: u64) -> Blo
     copy_by_bytes(copied, at + done, source, from + done, n - done)
 }
 
-/// The same, at once where all of those bytes are clean.
+/// `copy_origins`, which returns at once where all of those bytes are clean.
 pub(crate) fn take_origins(block: Block, at: u64, source: &Block, from: u64, n: u64) -> Block
     requires within { at + n ≤ length block.bytes }
     requires from { from + n ≤ length source.now.bytes }

@@ -9,7 +9,7 @@ use ms_raw::Block;
 
 /// One of the two lists of bytes that a block has.
 #[derive(Clone, Copy)]
-pub(crate) enum Part {
+pub(crate) enum Plane {
     /// The bytes of the program.
     Bytes,
     /// Their shadow bytes.
@@ -17,30 +17,30 @@ pub(crate) enum Part {
 }
 
 /// The byte at a place of a block.
-fn get(block: &Block, part: Part, at: u64) -> u8
+fn get(block: &Block, part: Plane, at: u64) -> u8
     requires { at < length block.now.bytes }
     ensures { result ≡ held (bytes_in part block.now) at }
 {
     match part {
-        Part::Bytes => block.byte(at),
-        Part::Shadow => block.shadow(at),
+        Plane::Bytes => block.byte(at),
+        Plane::Shadow => block.shadow(at),
     }
 }
 
 /// Puts a byte at a place of a block.
-fn set(block: &mut Block, part: Part, at: u64, v: u8)
+fn set(block: &mut Block, part: Plane, at: u64, v: u8)
     requires { at < length block.old.bytes }
     ensures shown { bytes_in part block.new ≡ set (bytes_in part block.old) at v }
     ensures others { KeepsOthers part block.old block.new }
 {
     match part {
-        Part::Bytes => block.set_byte(at, v),
-        Part::Shadow => block.set_shadow(at, v),
+        Plane::Bytes => block.set_byte(at, v),
+        Plane::Shadow => block.set_shadow(at, v),
     }
 }
 
 /// The number that the `n` bytes from place `at` on are, the least first, byte by byte.
-fn number_by_bytes(block: &Block, part: Part, at: u64, n: u8) -> u64
+fn number_by_bytes(block: &Block, part: Plane, at: u64, n: u8) -> u64
     requires within { at + n ≤ length block.now.bytes }
     requires short { n ≤ 8 }
     requires small { at < 2 ^ 40 }
@@ -56,7 +56,7 @@ fn number_by_bytes(block: &Block, part: Part, at: u64, n: u8) -> u64
 }
 
 /// The number that the two bytes from place `at` on are, the least first.
-fn two_at(block: &Block, part: Part, at: u64) -> u16
+fn two_at(block: &Block, part: Plane, at: u64) -> u16
     requires within { at + 2 ≤ length block.now.bytes }
     requires small { at < 2 ^ 40 }
     ensures { result ≡ number_at (held (bytes_in part block.now)) at 2 }
@@ -65,7 +65,7 @@ fn two_at(block: &Block, part: Part, at: u64) -> u16
 }
 
 /// The number that the four bytes from place `at` on are, the least first.
-pub(crate) fn four_at(block: &Block, part: Part, at: u64) -> u32
+pub(crate) fn four_at(block: &Block, part: Plane, at: u64) -> u32
     requires within { at + 4 ≤ length block.now.bytes }
     requires small { at < 2 ^ 40 }
     ensures { result ≡ number_at (held (bytes_in part block.now)) at 4 }
@@ -79,7 +79,7 @@ pub(crate) fn four_at(block: &Block, part: Part, at: u64) -> u32
 }
 
 /// The number that the eight bytes from place `at` on are, the least first.
-fn eight_at(block: &Block, part: Part, at: u64) -> u64
+fn eight_at(block: &Block, part: Plane, at: u64) -> u64
     requires within { at + 8 ≤ length block.now.bytes }
     requires small { at < 2 ^ 40 }
     ensures { result ≡ number_at (held (bytes_in part block.now)) at 8 }
@@ -100,7 +100,7 @@ fn eight_at(block: &Block, part: Part, at: u64) -> u64
 /// inlined, so that the usual ones don't save registers for its loop.
 #[cold]
 #[inline(never)]
-fn rare_number(block: &Block, part: Part, at: u64, n: u8) -> u64
+fn rare_number(block: &Block, part: Plane, at: u64, n: u8) -> u64
     requires within { at + n ≤ length block.now.bytes }
     requires short { n ≤ 8 }
     requires small { at < 2 ^ 40 }
@@ -114,7 +114,7 @@ fn rare_number(block: &Block, part: Part, at: u64, n: u8) -> u64
 
 /// The number that the `n` bytes from place `at` on are, the least first.
 #[inline(always)]
-pub(crate) fn number(block: &Block, part: Part, at: u64, n: u8) -> u64
+pub(crate) fn number(block: &Block, part: Plane, at: u64, n: u8) -> u64
     requires within { at + n ≤ length block.now.bytes }
     requires short { n ≤ 8 }
     requires small { at < 2 ^ 40 }
@@ -138,15 +138,15 @@ pub(crate) fn both(block: &Block, at: u64, n: u8) -> (u64, u64)
     ensures bytes { result.1 ≡ number_at (held block.now.bytes) at n }
 {
     (
-        number(block, Part::Shadow, at, n),
-        number(block, Part::Bytes, at, n),
+        number(block, Plane::Shadow, at, n),
+        number(block, Plane::Bytes, at, n),
     )
 }
 
 /// Puts the `n` low bytes of `v` at the places from `at` on, the least first. Where `n` is known the compiler makes no loop
 /// of it.
 #[inline(always)]
-fn put_bytes(block: &mut Block, part: Part, at: u64, n: u8, v: u64)
+fn put_bytes(block: &mut Block, part: Plane, at: u64, n: u8, v: u64)
     requires within { at + n ≤ length block.old.bytes }
     requires small { at < 2 ^ 40 }
     requires whole { IsLists (length block.old.bytes) block.old }
@@ -162,7 +162,7 @@ fn put_bytes(block: &mut Block, part: Part, at: u64, n: u8, v: u64)
 
 /// Puts the four low bytes of `v` at the places from `at` on, the least first.
 #[inline(always)]
-fn set_four(block: &mut Block, part: Part, at: u64, v: u64)
+fn set_four(block: &mut Block, part: Plane, at: u64, v: u64)
     requires { at + 3 < length block.old.bytes }
     ensures shown { bytes_in part block.new ≡ with_four (bytes_in part block.old) at v }
     ensures others { KeepsOthers part block.old block.new }
@@ -172,14 +172,14 @@ fn set_four(block: &mut Block, part: Part, at: u64, v: u64)
     let c = (v / 256 / 256 % 256) as u8;
     let d = (v / 256 / 256 / 256 % 256) as u8;
     match part {
-        Part::Bytes => block.set_four(at, a, b, c, d),
-        Part::Shadow => block.set_four_shadow(at, a, b, c, d),
+        Plane::Bytes => block.set_four(at, a, b, c, d),
+        Plane::Shadow => block.set_four_shadow(at, a, b, c, d),
     }
 }
 
 /// Puts the eight bytes of `v` at the places from `at` on, the least first.
 #[inline(always)]
-fn set_eight(block: &mut Block, part: Part, at: u64, v: u64)
+fn set_eight(block: &mut Block, part: Plane, at: u64, v: u64)
     requires { at + 7 < length block.old.bytes }
     ensures shown { bytes_in part block.new ≡ with_eight (bytes_in part block.old) at v }
     ensures others { KeepsOthers part block.old block.new }
@@ -194,14 +194,14 @@ fn set_eight(block: &mut Block, part: Part, at: u64, v: u64)
     let g = (high / 256 / 256 % 256) as u8;
     let h = (high / 256 / 256 / 256 % 256) as u8;
     match part {
-        Part::Bytes => block.set_eight(at, a, b, c, d, e, f, g, h),
-        Part::Shadow => block.set_eight_shadow(at, a, b, c, d, e, f, g, h),
+        Plane::Bytes => block.set_eight(at, a, b, c, d, e, f, g, h),
+        Plane::Shadow => block.set_eight_shadow(at, a, b, c, d, e, f, g, h),
     }
 }
 
 /// Puts the four low bytes of `v` at the places from `at` on, as contracts of larger memory see it.
 #[inline(always)]
-fn put_four(block: &mut Block, part: Part, at: u64, v: u64)
+fn put_four(block: &mut Block, part: Plane, at: u64, v: u64)
     requires within { at + 4 ≤ length block.old.bytes }
     requires whole { IsLists (length block.old.bytes) block.old }
     ensures shown { held (bytes_in part block.new) ≡ with_range (held (bytes_in part block.old)) at 4 (byte_of v) }
@@ -212,7 +212,7 @@ fn put_four(block: &mut Block, part: Part, at: u64, v: u64)
 
 /// Puts the eight bytes of `v`, in the same way.
 #[inline(always)]
-fn put_eight(block: &mut Block, part: Part, at: u64, v: u64)
+fn put_eight(block: &mut Block, part: Plane, at: u64, v: u64)
     requires within { at + 8 ≤ length block.old.bytes }
     requires whole { IsLists (length block.old.bytes) block.old }
     ensures shown { held (bytes_in part block.new) ≡ with_range (held (bytes_in part block.old)) at 8 (byte_of v) }
@@ -221,10 +221,10 @@ fn put_eight(block: &mut Block, part: Part, at: u64, v: u64)
     set_eight(block, part, at, v);
 }
 
-/// The same where `n` is no usual one. Cold, and never inlined, as `rare_number`.
+/// Puts `n` low bytes where `n` is no usual one. Cold, and never inlined, as `rare_number`.
 #[cold]
 #[inline(never)]
-fn put_rare(block: &mut Block, part: Part, at: u64, n: u8, v: u64)
+fn put_rare(block: &mut Block, part: Plane, at: u64, n: u8, v: u64)
     requires within { at + n ≤ length block.old.bytes }
     requires small { at < 2 ^ 40 }
     requires whole { IsLists (length block.old.bytes) block.old }
@@ -239,7 +239,7 @@ fn put_rare(block: &mut Block, part: Part, at: u64, n: u8, v: u64)
 
 /// Puts the `n` low bytes of `v` at the places from `at` on, the least first.
 #[inline(always)]
-pub(crate) fn put_number(block: &mut Block, part: Part, at: u64, n: u8, v: u64)
+pub(crate) fn put_number(block: &mut Block, part: Plane, at: u64, n: u8, v: u64)
     requires within { at + n ≤ length block.old.bytes }
     requires small { at < 2 ^ 40 }
     requires whole { IsLists (length block.old.bytes) block.old }
@@ -255,7 +255,7 @@ pub(crate) fn put_number(block: &mut Block, part: Part, at: u64, n: u8, v: u64)
 }
 
 /// Writes the bytes of `source` from place `at` on.
-pub(crate) fn paste(block: &mut Block, part: Part, at: u64, source: &[u8])
+pub(crate) fn paste(block: &mut Block, part: Plane, at: u64, source: &[u8])
     requires within { at + length source.now ≤ length block.old.bytes }
     requires small { at < 2 ^ 40 }
     requires whole { IsLists (length block.old.bytes) block.old }
@@ -271,7 +271,7 @@ pub(crate) fn paste(block: &mut Block, part: Part, at: u64, source: &[u8])
 ///
 /// Takes the block by value: through a reference the compiler has to assume that a byte that is written changes the
 /// block's own pointers, and loads them again in each round.
-fn fill(block: Block, part: Part, at: u64, n: u64, v: u8) -> Block
+fn fill(block: Block, part: Plane, at: u64, n: u64, v: u8) -> Block
     requires within { at + n ≤ length block.bytes }
     requires small { at + n < 2 ^ 40 }
     requires whole { IsLists (length block.bytes) block }
@@ -284,8 +284,8 @@ fn fill(block: Block, part: Part, at: u64, n: u64, v: u8) -> Block
     filled
 }
 
-/// The same for a block that there may be.
-pub(crate) fn fill_into(slot: &mut Option<Block>, part: Part, at: u64, n: u64, v: u8)
+/// `fill` for a block that may be missing.
+pub(crate) fn fill_into(slot: &mut Option<Block>, part: Plane, at: u64, n: u64, v: u8)
     requires within { IfSome slot.old (λ l. at + n ≤ length l.bytes) }
     requires small { at + n < 2 ^ 40 }
     requires whole { IfSome slot.old (λ l. IsLists (length l.bytes) l) }
@@ -298,7 +298,7 @@ pub(crate) fn fill_into(slot: &mut Option<Block>, part: Part, at: u64, n: u64, v
 }
 
 /// Copies `n` bytes of another block, from place `from` on, to place `at` on. Takes the block by value, as `fill` does.
-pub(crate) fn copy(block: Block, part: Part, at: u64, source: &Block, from: u64, n: u64) -> Block
+pub(crate) fn copy(block: Block, part: Plane, at: u64, source: &Block, from: u64, n: u64) -> Block
     requires within { at + n ≤ length block.bytes }
     requires from { from + n ≤ length source.now.bytes }
     requires small { (at + n < 2 ^ 40) × (from + n < 2 ^ 40) }
@@ -320,7 +320,7 @@ pub(crate) fn put_made(block: &mut Block, at: u64, n: u64, fill: &[u8], made: u6
     requires filled { 0 < length fill.now }
     requires small { at + n < 2 ^ 40 }
     ensures shown { held block.new.bytes ≡ with_range (held block.old.bytes) at n (λ k. made_byte fill.now (made + k)) }
-    ensures others { KeepsOthers Part.Bytes block.old block.new }
+    ensures others { KeepsOthers Plane.Bytes block.old block.new }
 {
     let count = fill.len();
     let mut next = (made % count as u64) as usize;

@@ -1,4 +1,4 @@
-//! The planes.
+//! The memory of a run: bytes, shadow and origins of each allocation.
 ghost use Rattle.std.specs.Prelude.{◌≡◌, ◌≢◌, ◌≤◌, ◌<◌, ◌+◌, ◌/◌, Some, None, IsTrue, IsErr, ◌↔◌, OnOk, OnErr, IfOk, IsErrOf, option_map, eqb, length, get_or, if◌then◌else◌, [], option_copied, MatchOption, true, false};
 ghost use Rattle.ms_bits.specs.Fill.{made_byte};
 ghost use Rattle.ms_bits.specs.Maps.{with_range, byte_of, number_at, first_nonzero, copied, with_cells, with_cell, copied_cells};
@@ -8,7 +8,7 @@ ghost use Rattle.ms_planes.specs.Memory.{area_index as index_of};
 
 use crate::copies::{copy_into, copy_within};
 use crate::origins::fill_origins;
-use crate::parts::{Part, both, fill_into, first_marked, number, paste, put_made, put_number};
+use crate::parts::{Plane, both, fill_into, first_marked, number, paste, put_made, put_number};
 use ms_alloc::{AllocError, AllocKind, BadFree, Table, TablePlace};
 use ms_bits::NoMemory;
 use ms_raw::Block;
@@ -152,10 +152,10 @@ impl Planes {
     }
 
     /// What every table of allocations has.
-    pub fn is_laid_out(&self)
+    pub fn law_laid_out(&self)
         ensures { IsLaidOut self.now.table }
     {
-        self.table.is_laid_out();
+        self.table.law_laid_out();
     }
 
     /// Whether a range is good.
@@ -201,10 +201,10 @@ impl Planes {
         ensures { MatchOption result (is_good addr n self.now.table ≡ false) (λ v. (is_good addr n self.now.table ≡ true) × (v ≡ number_at (bytes_of self.now) addr n)) }
     {
         match n {
-            1 => self.number(Part::Bytes, addr, 1),
-            4 => self.number(Part::Bytes, addr, 4),
-            8 => self.number(Part::Bytes, addr, 8),
-            _ => self.number(Part::Bytes, addr, n),
+            1 => self.number(Plane::Bytes, addr, 1),
+            4 => self.number(Plane::Bytes, addr, 4),
+            8 => self.number(Plane::Bytes, addr, 8),
+            _ => self.number(Plane::Bytes, addr, n),
         }
     }
 
@@ -214,7 +214,7 @@ impl Planes {
         requires short { n ≤ 8 }
         ensures { result ≡ number_at (bytes_of self.now) addr n }
     {
-        self.number(Part::Bytes, addr, n).unwrap()
+        self.number(Plane::Bytes, addr, n).unwrap()
     }
 
     /// Writes the `n` low bytes of `v`, the least first, and returns whether they are good; else nothing changes. The usual
@@ -229,10 +229,10 @@ impl Planes {
         ensures origins { origins_of self.new ≡ origins_of self.old }
     {
         match n {
-            1 => self.put(Part::Bytes, addr, 1, v),
-            4 => self.put(Part::Bytes, addr, 4, v),
-            8 => self.put(Part::Bytes, addr, 8, v),
-            _ => self.put(Part::Bytes, addr, n, v),
+            1 => self.put(Plane::Bytes, addr, 1, v),
+            4 => self.put(Plane::Bytes, addr, 4, v),
+            8 => self.put(Plane::Bytes, addr, 8, v),
+            _ => self.put(Plane::Bytes, addr, n, v),
         }
     }
 
@@ -245,7 +245,7 @@ impl Planes {
         ensures shadow { shadow_of self.new ≡ shadow_of self.old }
         ensures origins { origins_of self.new ≡ origins_of self.old }
     {
-        self.put(Part::Bytes, addr, n, v);
+        self.put(Plane::Bytes, addr, n, v);
     }
 
     /// Writes the bytes of `source` from `addr` on.
@@ -256,7 +256,7 @@ impl Planes {
         ensures shadow { shadow_of self.new ≡ shadow_of self.old }
         ensures origins { origins_of self.new ≡ origins_of self.old }
     {
-        self.paste(Part::Bytes, addr, source);
+        self.paste(Plane::Bytes, addr, source);
     }
 
     /// Makes each of `n` bytes `v`.
@@ -267,7 +267,7 @@ impl Planes {
         ensures shadow { shadow_of self.new ≡ shadow_of self.old }
         ensures origins { origins_of self.new ≡ origins_of self.old }
     {
-        self.fill(Part::Bytes, addr, n, v);
+        self.fill(Plane::Bytes, addr, n, v);
     }
 
     /// Makes `n` bytes uninitialised: they are the bytes that a run makes of `fill`, which isn't empty, after it has made
@@ -298,7 +298,7 @@ impl Planes {
         requires { n ≤ 8 }
         ensures { MatchOption result (is_good addr n self.now.table ≡ false) (λ v. (is_good addr n self.now.table ≡ true) × (v ≡ number_at (shadow_of self.now) addr n)) }
     {
-        self.number(Part::Shadow, addr, n)
+        self.number(Plane::Shadow, addr, n)
     }
 
     /// The numbers that `n` shadow bytes and the bytes themselves are, the least first, found by one search; `None` where the
@@ -326,7 +326,7 @@ impl Planes {
         requires short { n ≤ 8 }
         ensures { result ≡ number_at (shadow_of self.now) addr n }
     {
-        self.number(Part::Shadow, addr, n).unwrap()
+        self.number(Plane::Shadow, addr, n).unwrap()
     }
 
     /// Writes the `n` low bytes of `v` as shadow, the least first, and returns whether the bytes are good; else nothing
@@ -339,7 +339,7 @@ impl Planes {
         ensures shadow { shadow_of self.new ≡ (if result then with_range (shadow_of self.old) addr n (byte_of v) else shadow_of self.old) }
         ensures origins { origins_of self.new ≡ origins_of self.old }
     {
-        self.put(Part::Shadow, addr, n, v)
+        self.put(Plane::Shadow, addr, n, v)
     }
 
     /// Writes the `n` low bytes of `v` as shadow, the least first.
@@ -351,7 +351,7 @@ impl Planes {
         ensures shadow { shadow_of self.new ≡ with_range (shadow_of self.old) addr n (byte_of v) }
         ensures origins { origins_of self.new ≡ origins_of self.old }
     {
-        self.put(Part::Shadow, addr, n, v);
+        self.put(Plane::Shadow, addr, n, v);
     }
 
     /// The origin of the cell of a byte.
@@ -388,7 +388,7 @@ impl Planes {
         ensures shadow { shadow_of self.new ≡ with_range (shadow_of self.old) addr n (λ k. mask) }
         ensures origins { origins_of self.new ≡ (if eqb mask 0 then origins_of self.old else with_cells (origins_of self.old) addr n origin) }
     {
-        self.fill(Part::Shadow, addr, n, mask);
+        self.fill(Plane::Shadow, addr, n, mask);
         if mask != 0 {
             self.fill_origins(addr, n, origin);
         }
@@ -402,7 +402,7 @@ impl Planes {
         ensures shadow { shadow_of self.new ≡ with_range (shadow_of self.old) addr n (λ k. 0) }
         ensures origins { origins_of self.new ≡ origins_of self.old }
     {
-        self.fill(Part::Shadow, addr, n, 0);
+        self.fill(Plane::Shadow, addr, n, 0);
     }
 
     /// Copies `n` bytes, as they were before. The planes are as they were where memory runs out.
@@ -416,7 +416,7 @@ impl Planes {
         ensures unchanged { OnErr result (IsSame self.old self.new) }
     {
         if n != 0 {
-            self.copy(Part::Bytes, to, from, n);
+            self.copy(Plane::Bytes, to, from, n);
         }
         Ok(())
     }
@@ -434,7 +434,7 @@ impl Planes {
         ensures unchanged { OnErr result (IsSame self.old self.new) }
     {
         if n != 0 {
-            self.copy(Part::Shadow, to, from, n);
+            self.copy(Plane::Shadow, to, from, n);
         }
         Ok(())
     }
@@ -466,7 +466,7 @@ impl Planes {
 
     /// The number that `n` bytes or shadow bytes are, the least first; `None` where the bytes aren't good.
     #[inline(always)]
-    fn number(&self, part: Part, addr: u64, n: u8) -> Option<u64>
+    fn number(&self, part: Plane, addr: u64, n: u8) -> Option<u64>
         requires { n ≤ 8 }
         ensures { MatchOption result (is_good addr n self.now.table ≡ false) (λ v. (is_good addr n self.now.table ≡ true) × (v ≡ number_at (part_of part self.now) addr n)) }
     {
@@ -485,7 +485,7 @@ impl Planes {
     /// Writes the `n` low bytes of `v` as bytes or shadow bytes, the least first, and returns whether the bytes are good;
     /// else nothing changes.
     #[inline(always)]
-    fn put(&mut self, part: Part, addr: u64, n: u8, v: u64) -> bool
+    fn put(&mut self, part: Plane, addr: u64, n: u8, v: u64) -> bool
         ensures good { result ≡ is_good addr n self.old.table }
         ensures table { self.new.table ≡ self.old.table }
         ensures shown { part_of part self.new ≡ (if result then with_range (part_of part self.old) addr n (byte_of v) else part_of part self.old) }
@@ -507,7 +507,7 @@ impl Planes {
     }
 
     /// Writes the bytes of `source` from `addr` on.
-    fn paste(&mut self, part: Part, addr: u64, source: &[u8])
+    fn paste(&mut self, part: Plane, addr: u64, source: &[u8])
         requires { IsTrue (is_good addr (length source.now) self.old.table) }
         ensures table { self.new.table ≡ self.old.table }
         ensures shown { part_of part self.new ≡ with_range (part_of part self.old) addr (length source.now) (λ k. get_or source.now k 0) }
@@ -528,7 +528,7 @@ impl Planes {
     }
 
     /// Makes each of `n` bytes or shadow bytes `v`.
-    fn fill(&mut self, part: Part, addr: u64, n: u64, v: u8)
+    fn fill(&mut self, part: Plane, addr: u64, n: u64, v: u8)
         requires { IsTrue (is_good addr n self.old.table) }
         ensures table { self.new.table ≡ self.old.table }
         ensures shown { part_of part self.new ≡ with_range (part_of part self.old) addr n (λ k. v) }
@@ -568,7 +568,7 @@ impl Planes {
     }
 
     /// Copies bytes, or shadow bytes with their origins, as they were before.
-    fn copy(&mut self, part: Part, to: u64, from: u64, n: u64)
+    fn copy(&mut self, part: Plane, to: u64, from: u64, n: u64)
         requires to { IsTrue (is_good to n self.old.table) }
         requires from { IsTrue (is_good from n self.old.table) }
         requires some { 0 < n }
@@ -589,7 +589,7 @@ impl Planes {
     }
 
     /// Copies from one place of an allocation to another.
-    fn copy_in(&mut self, part: Part, place: TablePlace, to: u64, from: u64, n: u64)
+    fn copy_in(&mut self, part: Plane, place: TablePlace, to: u64, from: u64, n: u64)
         requires to { IsPlace place.kind (of_kind place.kind self.old.table) to n place }
         requires from { IsPlace place.kind (of_kind place.kind self.old.table) from n place }
         requires some { 0 < n }
@@ -606,7 +606,7 @@ impl Planes {
     /// Copies from one allocation to another.
     fn copy_over(
         &mut self,
-        part: Part,
+        part: Plane,
         target: TablePlace,
         to: u64,
         source: TablePlace,

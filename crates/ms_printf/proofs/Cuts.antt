@@ -75,23 +75,23 @@ first_text b bs e =
     ∙ ap (λ t. with_piece (Text (take (if t then 0 else suc (plain_bytes bs)) (b ∷ bs))) (cut_of (drop (if t then 0 else suc (plain_bytes bs)) (b ∷ bs)))) (sym e)
 
 -- the same of a directive of so many bytes
-pub by_directive : (format behind : List ℕ) (first : ℕ) (p : Piece) (n : ℕ) → format ≡ first ∷ behind → first ≡ 37 → directive behind ≡ Some (p, drop n behind)
+pub by_directive : (format later : List ℕ) (first : ℕ) (p : Piece) (n : ℕ) → format ≡ first ∷ later → first ≡ 37 → directive later ≡ Some (p, drop n later)
     → cut_of format ≡ with_piece p (cut_of (drop (1 + n) format))
-by_directive format behind first p n e f d =
-    subst (λ l. cut_of l ≡ with_piece p (cut_of (drop (1 + n) l))) (sym (e ∙ ap (λ b. b ∷ behind) f))
-    (first_directive behind p (drop n behind) d ∙ ap (λ k. with_piece p (cut_of (drop k (37 ∷ behind)))) (next n))
+by_directive format later first p n e f d =
+    subst (λ l. cut_of l ≡ with_piece p (cut_of (drop (1 + n) l))) (sym (e ∙ ap (λ b. b ∷ later) f))
+    (first_directive later p (drop n later) d ∙ ap (λ k. with_piece p (cut_of (drop k (37 ∷ later)))) (next n))
   where
     next : (m : ℕ) → suc m ≡ 1 + m
     next m = omega arith
 
-pub by_none : (format behind : List ℕ) (first : ℕ) → format ≡ first ∷ behind → first ≡ 37 → directive behind ≡ None → cut_of format ≡ no_pieces true
-by_none format behind first e f d = subst (λ l. cut_of l ≡ no_pieces true) (sym (e ∙ ap (λ b. b ∷ behind) f)) (no_directive behind d)
+pub by_none : (format later : List ℕ) (first : ℕ) → format ≡ first ∷ later → first ≡ 37 → directive later ≡ None → cut_of format ≡ no_pieces true
+by_none format later first e f d = subst (λ l. cut_of l ≡ no_pieces true) (sym (e ∙ ap (λ b. b ∷ later) f)) (no_directive later d)
 
 -- and of a run of text
-pub by_text : (format behind : List ℕ) (first : ℕ) (p : Piece) (n : ℕ) → format ≡ first ∷ behind → (first ≡ 37 → ⊥) → n ≡ plain_bytes format → p ≡ Text (take n format)
+pub by_text : (format later : List ℕ) (first : ℕ) (p : Piece) (n : ℕ) → format ≡ first ∷ later → (first ≡ 37 → ⊥) → n ≡ plain_bytes format → p ≡ Text (take n format)
     → cut_of format ≡ with_piece p (cut_of (drop n format))
-by_text format behind first p n e f k t =
-    subst (λ l. cut_of l ≡ with_piece (Text (take (plain_bytes l) l)) (cut_of (drop (plain_bytes l) l))) (sym e) (first_text first behind (ne_eqb first 37 f))
+by_text format later first p n e f k t =
+    subst (λ l. cut_of l ≡ with_piece (Text (take (plain_bytes l) l)) (cut_of (drop (plain_bytes l) l))) (sym e) (first_text first later (ne_eqb first 37 f))
     ∙ ap (λ m. with_piece (Text (take m format)) (cut_of (drop m format))) (sym k) ∙ ap (λ q. with_piece q (cut_of (drop n format))) (sym t)
 
 -- ---- pieces so far

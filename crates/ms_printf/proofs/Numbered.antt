@@ -7,8 +7,8 @@ use Rattle.ms_runs.specs.declared.formats.Piece.TheVariants.{Text}
 use Rattle.ms_runs.specs.declared.formats.Cut.{Cut}
 use Rattle.ms_runs.specs.Formats.{takes_argument, is_string, asks_string, no_pieces, with_piece, cut_of}
 use Rattle.ms_runs.specs.World.{World}
-use Rattle.ms_printf.specs.declared.parts.Part.{Part}
-use Rattle.ms_printf.specs.declared.parts.Part.TheVariants.{Plain, Directive}
+use Rattle.ms_printf.specs.declared.parts.FormatPart.{FormatPart}
+use Rattle.ms_printf.specs.declared.parts.FormatPart.TheVariants.{Plain, Directive}
 use Rattle.ms_printf.specs.Walks.{IsPart, piece_of, arguments_taken, asks_for_string}
 
 abbrev asks_in : Cut → ℕ → Bool
@@ -40,14 +40,14 @@ text_is : (bs : List ℕ) (c : Cut) (k : ℕ) → asks_in (with_piece (Text bs) 
 text_is bs c zero = refl
 text_is bs c (suc k) = refl
 
-pub asked_here : (t : Allocations) (world : World) (part : Part) (format rest : List ℕ) (k after : ℕ) → IsPart t part → cut_of format ≡ with_piece (piece_of world part) (cut_of rest)
+pub asked_here : (t : Allocations) (world : World) (part : FormatPart) (format rest : List ℕ) (k after : ℕ) → IsPart t part → cut_of format ≡ with_piece (piece_of world part) (cut_of rest)
     → 0 < k → after ≡ k - arguments_taken part → after ≡ 0 → asks_string format k ≡ asks_for_string part
 asked_here t world (Plain addr len) format rest k after is e some taken none = absurd (omega (arith, some, taken, none))
 asked_here t world (Directive p) format rest k after is e some taken none =
     let one : k ≡ 1 = omega (arith, some, taken, none) in
     by_cut format k ∙ ap (λ (c : Cut). asks_in c k) e ∙ ap (asks_in (with_piece p (cut_of rest))) one ∙ first_is p (cut_of rest) is
 
-pub asked_later : (t : Allocations) (world : World) (part : Part) (format rest : List ℕ) (k after : ℕ) → IsPart t part → cut_of format ≡ with_piece (piece_of world part) (cut_of rest)
+pub asked_later : (t : Allocations) (world : World) (part : FormatPart) (format rest : List ℕ) (k after : ℕ) → IsPart t part → cut_of format ≡ with_piece (piece_of world part) (cut_of rest)
     → after ≡ k - arguments_taken part → 0 < after → asks_string format k ≡ asks_string rest after
 asked_later t world (Plain addr len) format rest k after is e taken some =
     let same : k ≡ after = omega (arith, taken) in

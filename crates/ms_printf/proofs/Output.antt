@@ -14,8 +14,8 @@ use Rattle.ms_host.specs.State.{WorldState, Beside}
 use Rattle.ms_host.specs.Shows.{Shows}
 use Rattle.ms_host.specs.Answers.{Answered}
 use Rattle.ms_host.proofs.Effects.{printed-then, printed-full}
-use Rattle.ms_printf.specs.declared.shown.Fault.{Fault}
-use Rattle.ms_printf.specs.declared.shown.Fault.TheVariants as fault
+use Rattle.ms_printf.specs.declared.shown.FormatFault.{FormatFault}
+use Rattle.ms_printf.specs.declared.shown.FormatFault.TheVariants as fault
 use Rattle.ms_printf.specs.declared.shown.Shown.{Shown}
 use Rattle.ms_printf.specs.declared.shown.Shown.TheVariants as shown
 use Rattle.ms_printf.specs.Walks.{shown_of, Measures}

@@ -13,11 +13,11 @@ use Rattle.ms_runs.specs.declared.formats.Piece.TheVariants.{Text, Str}
 use Rattle.ms_runs.specs.Formats.{takes_argument, is_string, cut_of, no_pieces, with_piece, both_shown}
 use Rattle.ms_runs.specs.Externals.{cut_shown}
 use Rattle.ms_runs.specs.World.{World}
-use Rattle.ms_printf.specs.declared.parts.Part.{Part}
-use Rattle.ms_printf.specs.declared.parts.Part.TheVariants.{Plain, Directive}
+use Rattle.ms_printf.specs.declared.parts.FormatPart.{FormatPart}
+use Rattle.ms_printf.specs.declared.parts.FormatPart.TheVariants.{Plain, Directive}
 use Rattle.ms_printf.specs.declared.arguments.Argument.{Argument}
-use Rattle.ms_printf.specs.declared.shown.Fault.{Fault}
-use Rattle.ms_printf.specs.declared.shown.Fault.TheVariants as fault
+use Rattle.ms_printf.specs.declared.shown.FormatFault.{FormatFault}
+use Rattle.ms_printf.specs.declared.shown.FormatFault.TheVariants as fault
 use Rattle.ms_printf.specs.declared.shown.Shown.{Shown}
 use Rattle.ms_printf.specs.declared.shown.Shown.TheVariants as shown
 use Rattle.ms_printf.specs.declared.walks.Walk.{Walk}
@@ -36,32 +36,32 @@ pub record IsRest (t : Allocations) (addr left : ℕ) : Type 0 where
   pub low : addr + left < 2 ^ 64
 
 -- a part as a piece
-abbrev pub piece_of : World → Part → Piece
+abbrev pub piece_of : World → FormatPart → Piece
 piece_of world (Plain addr len) = Text (bytes_at world.bytes addr len)
 piece_of world (Directive p) = p
 
 -- a rest of a format begins with a part of so many bytes, or it is bad there
-abbrev pub BeginsWith : World → (addr left : ℕ) → Option (Part × ℕ) → Type 0
+abbrev pub BeginsWith : World → (addr left : ℕ) → Option (FormatPart × ℕ) → Type 0
 BeginsWith world addr left None = cut_of (bytes_at world.bytes addr left) ≡ no_pieces true
 BeginsWith world addr left (Some d) = cut_of (bytes_at world.bytes addr left) ≡ with_piece (piece_of world d.0) (cut_of (bytes_at world.bytes (addr + d.1) (left - d.1)))
 
 -- the bytes of a part are live; a directive takes an argument
-abbrev pub IsPart : Allocations → Part → Type 0
+abbrev pub IsPart : Allocations → FormatPart → Type 0
 IsPart t (Plain addr len) = IsTrue (is_live addr len t)
 IsPart t (Directive p) = takes_argument p ≡ true
 
 -- a part is some of the bytes that are left
-abbrev pub FitsRest : Allocations → ℕ → Option (Part × ℕ) → Type 0
+abbrev pub FitsRest : Allocations → ℕ → Option (FormatPart × ℕ) → Type 0
 FitsRest t left None = Unit {0}
 FitsRest t left (Some d) = (0 < d.1) × (d.1 ≤ left) × IsPart t d.0
 
 -- how many arguments a part takes
-abbrev pub arguments_taken : Part → ℕ
+abbrev pub arguments_taken : FormatPart → ℕ
 arguments_taken (Plain addr len) = 0
 arguments_taken (Directive p) = 1
 
 -- a part is `%s`
-abbrev pub asks_for_string : Part → Bool
+abbrev pub asks_for_string : FormatPart → Bool
 asks_for_string (Plain addr len) = false
 asks_for_string (Directive p) = is_string p
 
@@ -76,7 +76,7 @@ abbrev pub given : Argument → Ty × ℕ
 given a = (type_of a.ty, a.word)
 
 -- the trap by which a fault ends the run
-abbrev pub trap_of : Fault → Trap
+abbrev pub trap_of : FormatFault → Trap
 trap_of fault.Address = trap.BadAddress
 trap_of fault.Format = trap.Format
 
@@ -110,7 +110,7 @@ GoesOn world types words from to (Some s) = rest_shown world types words from �
 -- ---- sums
 
 -- the number of bytes, as far as 64 bits hold it, or the fault
-abbrev pub Measures : Result ℕ Fault → Result (List ℕ) Trap → Type 0
+abbrev pub Measures : Result ℕ FormatFault → Result (List ℕ) Trap → Type 0
 Measures (Ok n) (Ok bs) = n ≡ min (length bs) (2 ^ 64 - 1)
 Measures (Ok n) (Err t) = ⊥
 Measures (Err f) r = r ≡ Err (trap_of f)

@@ -86,9 +86,9 @@ fn answer_at(
 /// site.
 ///
 /// The traps are `bad-address` where the format, or a string for which it asks, has no zero byte in its allocation; else
-/// `format` where the format is bad or an argument is missing or of another type; else `output` where the bytes would
-/// pass the limit of the output. The one error is that memory runs out, and the run is over then. Linear in the module,
-/// the format and the strings; what is printed is measured first and never collected.
+/// `format` where the format is bad or an argument is missing or of another type; else `output` where the bytes would pass
+/// the limit of the output. Where memory runs out the run is over. Linear in the module, the format and the strings; what is
+/// printed is measured first and never collected.
 pub fn answer_printf(
     alloc: Global,
     m: &Module,

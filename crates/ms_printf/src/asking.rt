@@ -5,28 +5,28 @@ ghost use Rattle.ms_runs.specs.{World.{World as Meant}, Formats.{asks_string as 
 ghost use Rattle.ms_host.specs.{State.{Beside}, Shows.{Shows}};
 ghost use Rattle.ms_printf.specs.Walks.{IsRest, asks_for_string, arguments_taken};
 
-use crate::parts::{Part, part_at};
+use crate::parts::{FormatPart, part_at};
 use ms_host::World;
 use ms_runs::Piece;
 
 /// Whether a part is `%s`.
-fn is_string(part: &Part) -> bool
+fn is_string(part: &FormatPart) -> bool
     ensures { result ≡ asks_for_string part.now }
 {
     match part {
-        Part::Directive(Piece::Str) => true,
+        FormatPart::Directive(Piece::Str) => true,
         _ => false,
     }
 }
 
 /// The number of a directive, counted from 1, among those after a part; 0 where it is the part itself.
-fn number_after(part: &Part, number: u64) -> u64
+fn number_after(part: &FormatPart, number: u64) -> u64
     requires { 0 < number }
     ensures { result ≡ number - arguments_taken part.now }
 {
     match part {
-        Part::Plain { .. } => number,
-        Part::Directive(_) => number - 1,
+        FormatPart::Plain { .. } => number,
+        FormatPart::Directive(_) => number - 1,
     }
 }
 

@@ -53,7 +53,7 @@ fn plain_length(bytes: &[u8]) -> usize
 }
 
 /// What stands after so many bytes.
-fn behind(bytes: &[u8], n: usize) -> &[u8]
+fn bytes_after(bytes: &[u8], n: usize) -> &[u8]
     requires { n ≤ length bytes.now }
     ensures { result.now ≡ drop n bytes.now }
 {
@@ -92,7 +92,7 @@ fn first_piece(
 }
 
 /// Cuts a format, which are the bytes before a zero byte, into its pieces, up to the first place where no directive stands
-/// after a `%`. The one error is running out of memory.
+/// after a `%`.
 #[tactic(auto, using(crate::proofs::Cuts::began, crate::proofs::Cuts::more, crate::proofs::Cuts::ended, crate::proofs::Cuts::stopped))]
 pub fn cut(alloc: Global, format: &[u8]) -> Result<Cut, NoMemory>
     ensures { IfOk result (λ c. c ≡ cut_of format.now) }
@@ -107,7 +107,7 @@ pub fn cut(alloc: Global, format: &[u8]) -> Result<Cut, NoMemory>
             });
         };
         pieces.push(piece)?;
-        rest = behind(rest, n);
+        rest = bytes_after(rest, n);
     }
     Ok(Cut {
         pieces: List::from_vec(pieces),

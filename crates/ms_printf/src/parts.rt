@@ -11,7 +11,7 @@ use ms_runs::Piece;
 
 /// A part of a format that stands in memory.
 #[derive(Drop)]
-pub(crate) enum Part {
+pub(crate) enum FormatPart {
     /// Bytes that are printed as they stand: so many from an address on.
     Plain { addr: u64, len: u64 },
     /// A directive that takes an argument.
@@ -34,7 +34,7 @@ fn plain_length(world: &World, addr: u64, left: u64) -> u64
 
 /// The part with which a rest of a format begins whose first byte is `%`, and its length; none where no directive stands
 /// there.
-fn directive_at(world: &World, addr: u64, left: u64) -> Option<(Part, u64)>
+fn directive_at(world: &World, addr: u64, left: u64) -> Option<(FormatPart, u64)>
     requires some { 0 < left }
     requires rest { IsRest world.now.planes.table addr left }
     ensures value { (beside : Beside) (meant : Meant) → Shows world.now beside meant → meant.bytes addr ≡ 37 → BeginsWith meant addr left result }
@@ -46,11 +46,11 @@ fn directive_at(world: &World, addr: u64, left: u64) -> Option<(Part, u64)>
     let letter = world.byte(addr + 1);
     if letter == b'%' {
         let addr = addr + 1;
-        return Some((Part::Plain { addr, len: 1 }, 2));
+        return Some((FormatPart::Plain { addr, len: 1 }, 2));
     }
     if letter != b'l' {
         return match short(letter) {
-            Some(piece) => Some((Part::Directive(piece), 2)),
+            Some(piece) => Some((FormatPart::Directive(piece), 2)),
             None => None,
         };
     }
@@ -58,13 +58,13 @@ fn directive_at(world: &World, addr: u64, left: u64) -> Option<(Part, u64)>
         return None;
     }
     match long(world.byte(addr + 2)) {
-        Some(piece) => Some((Part::Directive(piece), 3)),
+        Some(piece) => Some((FormatPart::Directive(piece), 3)),
         None => None,
     }
 }
 
 /// The part with which a rest of a format begins, and its length; none where the format is bad there.
-pub(crate) fn part_at(world: &World, addr: u64, left: u64) -> Option<(Part, u64)>
+pub(crate) fn part_at(world: &World, addr: u64, left: u64) -> Option<(FormatPart, u64)>
     requires some { 0 < left }
     requires rest { IsRest world.now.planes.table addr left }
     ensures value { (beside : Beside) (meant : Meant) → Shows world.now beside meant → BeginsWith meant addr left result }
@@ -74,5 +74,5 @@ pub(crate) fn part_at(world: &World, addr: u64, left: u64) -> Option<(Part, u64)
         return directive_at(world, addr, left);
     }
     let len = 1 + plain_length(world, addr + 1, left - 1);
-    Some((Part::Plain { addr, len }, len))
+    Some((FormatPart::Plain { addr, len }, len))
 }

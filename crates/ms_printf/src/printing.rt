@@ -5,7 +5,7 @@ ghost use Rattle.ms_runs.specs.{World.{World as Meant}, Formats.{both_shown}};
 ghost use Rattle.ms_host.specs.{State.{Beside, Keeps}, Shows.{Shows}};
 ghost use Rattle.ms_printf.specs.Walks.{types_of, shown_of, rest_shown, IsWalk, IsReadable, Measures};
 
-use crate::shown::{Fault, Shown};
+use crate::shown::{FormatFault, Shown};
 use crate::walks::Walk;
 use ms_bits::NoMemory;
 use ms_host::World;
@@ -14,14 +14,14 @@ use std::alloc::Global;
 
 /// The sum with one part more: the number of bytes, or the fault. A string that doesn't end within its allocation comes
 /// before any fault of the format.
-fn joined(sum: Result<u64, Fault>, part: &Shown) -> Result<u64, Fault>
+fn joined(sum: Result<u64, FormatFault>, part: &Shown) -> Result<u64, FormatFault>
     ensures { (meant : Meant) (came : Result (List ℕ) TrapOf) → Measures sum came → Measures result (both_shown came (shown_of meant part.now)) }
 {
     match (sum, part) {
         (Ok(n), Shown::Memory { len, .. }) => Ok(n.saturating_add(*len)),
         (Ok(n), Shown::Text(text)) => Ok(n.saturating_add(text.len() as u64)),
         (Ok(_), Shown::Fault(fault)) => Err(*fault),
-        (Err(Fault::Format), Shown::Fault(fault)) => Err(*fault),
+        (Err(FormatFault::Format), Shown::Fault(fault)) => Err(*fault),
         (Err(fault), _) => Err(fault),
     }
 }
@@ -33,7 +33,7 @@ pub(crate) fn measured(
     format: Walk,
     op: &Op,
     words: &[u64],
-) -> Result<Result<u64, Fault>, NoMemory>
+) -> Result<Result<u64, FormatFault>, NoMemory>
     requires { IsWalk world.now.planes.table format }
     ensures { (beside : Beside) (meant : Meant) → Shows world.now beside meant → IfOk result (λ sum. Measures sum (rest_shown meant (types_of op.now) words.now format)) }
 {

@@ -17,21 +17,21 @@ use std::alloc::Global;
 
 /// Why a format prints nothing.
 #[derive(Clone, Copy)]
-pub(crate) enum Fault {
+pub(crate) enum FormatFault {
     /// A string doesn't end within its allocation.
     Address,
     /// The format is bad, or an argument is missing or has another type.
     Format,
 }
 
-impl Fault {
+impl FormatFault {
     /// The trap by which the run ends.
     pub fn trap(self) -> Trap
         ensures { result ≡ trap_of self }
     {
         match self {
-            Fault::Address => Trap::BadAddress,
-            Fault::Format => Trap::Format,
+            FormatFault::Address => Trap::BadAddress,
+            FormatFault::Format => Trap::Format,
         }
     }
 }
@@ -44,7 +44,7 @@ pub(crate) enum Shown {
     /// It prints these bytes.
     Text(Vec<u8>),
     /// Nothing is printed, and the run ends.
-    Fault(Fault),
+    Fault(FormatFault),
 }
 
 /// Whether an argument has the type for which a piece asks.
@@ -65,7 +65,7 @@ fn string_shown(world: &World, addr: u64) -> Shown
 {
     match world.string_length(addr) {
         Some(len) => Shown::Memory { addr, len },
-        None => Shown::Fault(Fault::Address),
+        None => Shown::Fault(FormatFault::Address),
     }
 }
 
@@ -94,11 +94,11 @@ pub(crate) fn directive_shown(
     ensures readable { IfOk result (IsReadable world.now.planes.table) }
 {
     let Some(argument) = argument else {
-        return Ok(Shown::Fault(Fault::Format));
+        return Ok(Shown::Fault(FormatFault::Format));
     };
     if has_type_of(piece, &argument.ty) {
         word_shown(alloc, world, piece, argument.word)
     } else {
-        Ok(Shown::Fault(Fault::Format))
+        Ok(Shown::Fault(FormatFault::Format))
     }
 }

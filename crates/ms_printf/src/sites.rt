@@ -113,7 +113,7 @@ fn push_funcs(calls: &mut Vec<CallSite>, funcs: &[Func]) -> Result<(), NoMemory>
 
 impl CallSites {
     /// The calls in a module. Takes no walk over the code where `printf` isn't declared, and is linear in the module
-    /// elsewhere. The one error is that memory runs out.
+    /// elsewhere.
     pub fn of(alloc: Global, m: &Module) -> Result<CallSites, NoMemory>
         requires small { HasSmallNumbers m.now }
         ensures { IfOk result (λ sites. AreCallSites m.now sites.calls) }

@@ -5,8 +5,8 @@ ghost use Rattle.ms_host.specs.{State.{Beside}, Shows.{Shows}};
 ghost use Rattle.ms_printf.specs.Walks.{types_of, IsWalk, IsReadable, GoesOn};
 
 use crate::arguments::argument_at;
-use crate::parts::{Part, part_at};
-use crate::shown::{Fault, Shown, directive_shown};
+use crate::parts::{FormatPart, part_at};
+use crate::shown::{FormatFault, Shown, directive_shown};
 use ms_bits::NoMemory;
 use ms_host::World;
 use ms_ir::Op;
@@ -43,13 +43,13 @@ impl Walk {
         }
         let Some((part, len)) = part_at(world, self.addr, self.left) else {
             self.left = 0;
-            return Ok(Some(Shown::Fault(Fault::Format)));
+            return Ok(Some(Shown::Fault(FormatFault::Format)));
         };
         self.addr += len;
         self.left -= len;
         match part {
-            Part::Plain { addr, len } => Ok(Some(Shown::Memory { addr, len })),
-            Part::Directive(piece) => {
+            FormatPart::Plain { addr, len } => Ok(Some(Shown::Memory { addr, len })),
+            FormatPart::Directive(piece) => {
                 let argument = argument_at(op, words, self.next);
                 self.next += 1;
                 Ok(Some(directive_shown(alloc, world, &piece, argument)?))

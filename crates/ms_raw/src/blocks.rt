@@ -2,7 +2,7 @@
 ghost use Rattle.std.specs.Prelude.{◌≡◌, ◌≤◌, ◌<◌, ◌+◌, ◌^◌, ◌%◌, length, get_or, set, IfOk};
 ghost use Rattle.ms_raw.specs.{Blocks.{blank, distance, cells}, Copies.{copied, copied_cells}};
 
-use crate::bytes::Bytes;
+use crate::bytes::RawBytes;
 use crate::cells::Cells;
 use crate::memory::{Lease, Memory};
 use std::alloc::{AllocError, Global};
@@ -28,8 +28,8 @@ fn distance(n: u64) -> usize
 /// All three lie in one region of raw memory, which is freed with the block. After `new` no call takes memory.
 pub struct Block {
     len: u64,
-    bytes: Bytes,
-    shadow: Bytes,
+    bytes: RawBytes,
+    shadow: RawBytes,
     origins: Cells,
     lease: Lease<Global>,
     alloc: Global,
@@ -61,8 +61,8 @@ impl Block {
         let (first, rest) = memory.cut(size);
         let (second, third) = rest.cut(size);
         let len = n as usize;
-        let bytes = Bytes::zeros(first, len);
-        let shadow = Bytes::zeros(second, len);
+        let bytes = RawBytes::zeros(first, len);
+        let shadow = RawBytes::zeros(second, len);
         let origins = Cells::zeros(third, (len + 3) / 4);
         Ok(Block {
             len: n,

@@ -6,7 +6,7 @@ use crate::memory::Memory;
 use std::marker::Model;
 
 /// Bytes that lie at a pointer, side by side, where there is room for `len`.
-pub(crate) struct Bytes {
+pub(crate) struct RawBytes {
     at: *mut u8,
     len: usize,
     ghost items: { List ℕ },
@@ -15,13 +15,13 @@ pub(crate) struct Bytes {
     ghost small: { len < 2 ^ 40 },
 }
 
-impl Model for Bytes {
+impl Model for RawBytes {
     ghost also_owns = { λ b. bytes_own b.at b.len b.size b.items };
 
     ghost also_shares = { λ b _ κ. bytes_lent b.at b.items κ };
 }
 
-impl Bytes {
+impl RawBytes {
     /// The byte at a place.
     pub(crate) fn get(&self, i: usize) -> u8
         requires { i < length self.now.items }
@@ -91,12 +91,12 @@ impl Bytes {
     }
 
     /// No bytes yet, with room for `len` in the memory.
-    pub(crate) fn over(memory: Memory, len: usize) -> Bytes
+    pub(crate) fn over(memory: Memory, len: usize) -> RawBytes
         requires { len ≤ memory.size }
         ensures { (result.items ≡ []) × (result.at ≡ memory.at) × (result.len ≡ len) × (result.size ≡ memory.size) }
     {
         let Memory { at, size: _ } = memory;
-        Bytes { at, len }
+        RawBytes { at, len }
     }
 
     /// The memory that the bytes lie in, `size` bytes with what stands after them.
@@ -104,16 +104,16 @@ impl Bytes {
         requires { (size ≡ self.size) × IsSize size }
         ensures { (result.at ≡ self.at) × (result.size ≡ size) }
     {
-        let Bytes { at, len: _ } = self;
+        let RawBytes { at, len: _ } = self;
         Memory { at, size }
     }
 
     /// So many zeros.
-    pub(crate) fn zeros(memory: Memory, len: usize) -> Bytes
+    pub(crate) fn zeros(memory: Memory, len: usize) -> RawBytes
         requires { len ≤ memory.size }
         ensures { (result.items ≡ replicate len 0) × (result.at ≡ memory.at) × (result.size ≡ memory.size) }
     {
-        let mut zeros = Bytes::over(memory, len);
+        let mut zeros = RawBytes::over(memory, len);
         for i in 0..len {
             zeros.push(i, 0);
         }

@@ -2,7 +2,7 @@
 ghost use Rattle.std.specs.Prelude.{replicate, ◌≡◌, ◌≤◌, ◌<◌, ◌^◌, ◌∷◌, [], ◌++◌, ◌*◌, ◌+◌, ℕ, List, length, get_or, set};
 ghost use Rattle.ms_raw.specs.{Copies.{copied_cells, origin_after}, Ownership.{words_own, words_lent, IsSize}};
 
-use crate::bytes::Bytes;
+use crate::bytes::RawBytes;
 use crate::memory::Memory;
 use std::marker::Model;
 
@@ -84,7 +84,7 @@ impl Cells {
     }
 
     /// The origin of a cell after a copy of `n` bytes: that of the source of its last byte whose source has shadow.
-    fn origin_after(&self, shadow: &Bytes, to: usize, from: usize, n: usize, cell: usize) -> u32
+    fn origin_after(&self, shadow: &RawBytes, to: usize, from: usize, n: usize, cell: usize) -> u32
         requires to { to + n ≤ length shadow.now.items }
         requires from { from + n ≤ length shadow.now.items }
         requires cells { length shadow.now.items ≤ length self.now.items * 4 }
@@ -103,7 +103,7 @@ impl Cells {
     }
 
     /// Copies the origins of `n` bytes, each of them whose source has shadow, in rising order.
-    pub(crate) fn copy_within(&mut self, shadow: &Bytes, to: usize, from: usize, n: usize)
+    pub(crate) fn copy_within(&mut self, shadow: &RawBytes, to: usize, from: usize, n: usize)
         requires to { to + n ≤ length shadow.now.items }
         requires from { from + n ≤ length shadow.now.items }
         requires cells { length shadow.now.items ≤ length self.old.items * 4 }

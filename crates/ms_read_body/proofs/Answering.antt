@@ -20,7 +20,7 @@ use Rattle.ms_text_grammar.specs.Texts.{ReadsUpTo, StopsAt}
 use Rattle.ms_read_cursor.specs.Reading.{Gives, run}
 use Rattle.ms_read_body.specs.declared.errors.ReadError.{ReadError}
 use Rattle.ms_read_body.specs.Calls.{AreTokens, lexemes_from, ReadsAt, StopsFor, error_in, ReadsExactly, answer_of}
-use Rattle.ms_read_body.proofs.Suffixes.{IsEnd, reads_end, stops_end, by_length, behind}
+use Rattle.ms_read_body.proofs.Suffixes.{IsEnd, reads_end, stops_end, by_length, after}
 
 -- ---- the number of tokens
 
@@ -59,7 +59,7 @@ module _ {A : Type 0} (rule : Rule A) (text : Text) (tokens : List Token) (at : 
 
   -- the rest of the lexemes by their number
   rest_is : (rest : List Lexeme) → IsEnd rest (lexemes_from text tokens at) → rest ≡ lexemes_from text tokens (length tokens - length rest)
-  rest_is rest p = by_length (lexemes_of text tokens) rest (behind at (lexemes_of text tokens) rest p) ∙ ap (λ n. drop (n - length rest) (lexemes_of text tokens)) count
+  rest_is rest p = by_length (lexemes_of text tokens) rest (after at (lexemes_of text tokens) rest p) ∙ ap (λ n. drop (n - length rest) (lexemes_of text tokens)) count
 
   reads_at : (a : A) (rest : List Lexeme) → run rule (lexemes_from text tokens at) ≡ done a rest → ReadsAt rule text tokens at a (length tokens - length rest)
   reads_at a rest h =
@@ -73,7 +73,7 @@ module _ {A : Type 0} (rule : Rule A) (text : Text) (tokens : List Token) (at : 
       let is = rest_is rest (stops_end end_of_text rule (lexemes_from text tokens at) cause rest stops) in
       record { inside = omega arith; stopped = subst (λ l. StopsAt rule (lexemes_from text tokens at) cause l) is stops }
 
-  -- so many tokens are behind one
+  -- so many tokens are after one
   left_at : (k : ℕ) → k ≤ length tokens → length tokens - length (lexemes_from text tokens k) ≡ k
   left_at k inside =
       let lengths = length-drop k (lexemes_of text tokens) in

@@ -8,7 +8,7 @@ use Rattle.ms_text_grammar.specs.declared.symbols.Symbol.TheVariants as s
 use Rattle.ms_text_grammar.specs.declared.refusals.Cause.{Cause}
 use Rattle.ms_text_grammar.specs.declared.refusals.Cause.TheVariants as r
 use Rattle.ms_text_grammar.specs.declared.refusals.Limit.TheVariants as limit
-use Rattle.ms_text_grammar.specs.declared.states.Body.{Body}
+use Rattle.ms_text_grammar.specs.declared.states.BodySoFar.{BodySoFar}
 use Rattle.ms_text_grammar.specs.Lexemes.{Lexeme, name_in}
 use Rattle.ms_text_grammar.specs.Names.{reserved_local}
 use Rattle.ms_text_grammar.specs.Steps.{Verdict}
@@ -20,7 +20,7 @@ kept : (b : Bool) (verdict : Verdict Bool) (e : Cause) → cond b verdict (Err e
 kept true verdict e h = (refl, h)
 kept false verdict e h = absurd cc
 
--- a verdict that comes behind a refusal that doesn't stand
+-- a verdict that comes after a refusal that doesn't stand
 passed : (b : Bool) (verdict : Verdict Bool) (e : Cause) → cond b (Err e) verdict ≡ Ok true → verdict ≡ Ok true
 passed true verdict e h = absurd cc
 passed false verdict e h = h
@@ -34,13 +34,13 @@ unfolding max_instructions
 few Plain = omega arith
 few Instrumented = omega arith
 
-room : (form : Form) (body : Body) (verdict : Verdict Bool) → counted form body verdict ≡ Ok true → body.count + 1 < 2 ^ 32
+room : (form : Form) (body : BodySoFar) (verdict : Verdict Bool) → counted form body verdict ≡ Ok true → body.count + 1 < 2 ^ 32
 room form body verdict h =
     let less = ltb-true body.count (max_instructions form) (kept (ltb body.count (max_instructions form)) verdict (r.Limit limit.Instructions) h).0 in
     let most = few form in
     omega arith
 
-room_by : (form : Form) (body : Body) (x : Symbol) (t : Lexeme) → line_begins_by form body x t ≡ Ok true → HasRoom x body.count
+room_by : (form : Form) (body : BodySoFar) (x : Symbol) (t : Lexeme) → line_begins_by form body x t ≡ Ok true → HasRoom x body.count
 room_by form body s.Label t h = tt
 room_by form body s.NumberedLabel t h = tt
 room_by form body s.DebugGroup t h = tt
@@ -49,12 +49,12 @@ room_by form body s.NumberedLocal t h = room form body (Ok true) (kept _ (counte
 room_by form body s.Phi t h = room form body (Ok true) (chosen (opened body).phis (counted form body (Ok true)) h)
 room_by form body x t h = room form body (Ok true) (chosen (begins_instruction x) (counted form body (Ok true)) h)
 
-pub next_left : (form : Form) (body : Body) (t : Lexeme) → line_begins form body t ≡ Ok true → body.next + 2 < 2 ^ 32
+pub next_left : (form : Form) (body : BodySoFar) (t : Lexeme) → line_begins form body t ≡ Ok true → body.next + 2 < 2 ^ 32
 unfolding line_begins
 next_left form body t h =
     let less = ltb-true body.next (2 ^ 32 - 2) (kept (numbers_left body.next) (line_begins_by form body t.symbol t) r.Numbering h).0 in
     omega arith
 
-pub room_left : (form : Form) (body : Body) (t : Lexeme) → line_begins form body t ≡ Ok true → HasRoom t.symbol body.count
+pub room_left : (form : Form) (body : BodySoFar) (t : Lexeme) → line_begins form body t ≡ Ok true → HasRoom t.symbol body.count
 unfolding line_begins
 room_left form body t h = room_by form body t.symbol t (kept (numbers_left body.next) (line_begins_by form body t.symbol t) r.Numbering h).1

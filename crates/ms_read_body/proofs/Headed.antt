@@ -16,12 +16,12 @@ use Rattle.ms_text_grammar.specs.Lexemes.{Lexeme}
 use Rattle.ms_text_grammar.specs.Skipped.{attributes}
 use Rattle.ms_text_grammar.specs.Steps.{word}
 use Rattle.ms_read_cursor.specs.Reading.{run}
-use Rattle.ms_read_body.specs.Headed.{types_behind, declared, blocks_behind, bodied}
+use Rattle.ms_read_body.specs.Headed.{types_after, declared, blocks_after, bodied}
 
 abbrev Read : Type 0 → Type 0
 Read = Outcome Lexeme Cause
 
--- what comes behind two steps comes behind the second
+-- what comes after two steps comes after the second
 grouped : {A B C : Type 0} (o : Read A) (f : A → List Lexeme → Read B) (g : B → List Lexeme → Read C)
     → and_then (and_then o f) g ≡ and_then o (λ a ts. and_then (f a ts) g)
 grouped (done a ts) f g = refl
@@ -37,21 +37,21 @@ abbrev with_types : Option Ty → Name → List Ty → List Lexeme → Read Decl
 with_types result function types rest = done (record { name = function; ret = result; params = types }) rest
 
 declared_is : (form : Form) (result : Option Ty) (function : Name) (ts : List Lexeme)
-    → run (declared form result function) ts ≡ and_then (run (types_behind form function) ts) (with_types result function)
+    → run (declared form result function) ts ≡ and_then (run (types_after form function) ts) (with_types result function)
 unfolding declared
 declared_is form result function ts = sym
     (grouped (run (word s.OpenParen) ts) _ (with_types result function)
-    ∙ alike (run (word s.OpenParen) ts) _ _ (λ u behind.
-    grouped (run (parameters form (names_printf function)) behind) _ (with_types result function)
-    ∙ alike (run (parameters form (names_printf function)) behind) _ _ (λ ps further. grouped (run (attributes form) further) _ (with_types result function))))
+    ∙ alike (run (word s.OpenParen) ts) _ _ (λ u after.
+    grouped (run (parameters form (names_printf function)) after) _ (with_types result function)
+    ∙ alike (run (parameters form (names_printf function)) after) _ _ (λ ps further. grouped (run (attributes form) further) _ (with_types result function))))
 
 pub declared_reads : (form : Form) (result : Option Ty) (function : Name) (types : List Ty) (ts rest : List Lexeme)
-    → run (types_behind form function) ts ≡ done types rest
+    → run (types_after form function) ts ≡ done types rest
     → run (declared form result function) ts ≡ done (record { name = function; ret = result; params = types }) rest
 declared_reads form result function types ts rest h = declared_is form result function ts ∙ ap (λ o. and_then o (with_types result function)) h
 
 pub declared_stops : (form : Form) (result : Option Ty) (function : Name) (e : Cause) (ts rest : List Lexeme)
-    → run (types_behind form function) ts ≡ fails e rest → run (declared form result function) ts ≡ fails e rest
+    → run (types_after form function) ts ≡ fails e rest → run (declared form result function) ts ≡ fails e rest
 declared_stops form result function e ts rest h = declared_is form result function ts ∙ ap (λ o. and_then o (with_types result function)) h
 
 -- ---- functions
@@ -60,17 +60,17 @@ abbrev with_blocks : Option Ty → Name → Parameters → List Block → List L
 with_blocks result n ps all rest = done (record { name = n; ret = result; params = ps.found; blocks = all }) rest
 
 bodied_is : (form : Form) (before : ℕ) (result : Option Ty) (n : Name) (ps : Parameters) (ts : List Lexeme)
-    → run (bodied form before result n ps) ts ≡ and_then (run (blocks_behind form before ps) ts) (with_blocks result n ps)
+    → run (bodied form before result n ps) ts ≡ and_then (run (blocks_after form before ps) ts) (with_blocks result n ps)
 unfolding bodied
 bodied_is form before result n ps ts = sym
     (grouped (run (function_tail form) ts) _ (with_blocks result n ps)
-    ∙ alike (run (function_tail form) ts) _ _ (λ u behind. grouped (run (word s.OpenBrace) behind) _ (with_blocks result n ps)))
+    ∙ alike (run (function_tail form) ts) _ _ (λ u after. grouped (run (word s.OpenBrace) after) _ (with_blocks result n ps)))
 
 pub bodied_reads : (form : Form) (before : ℕ) (result : Option Ty) (n : Name) (ps : Parameters) (all : List Block) (ts rest : List Lexeme)
-    → run (blocks_behind form before ps) ts ≡ done all rest
+    → run (blocks_after form before ps) ts ≡ done all rest
     → run (bodied form before result n ps) ts ≡ done (record { name = n; ret = result; params = ps.found; blocks = all }) rest
 bodied_reads form before result n ps all ts rest h = bodied_is form before result n ps ts ∙ ap (λ o. and_then o (with_blocks result n ps)) h
 
 pub bodied_stops : (form : Form) (before : ℕ) (result : Option Ty) (n : Name) (ps : Parameters) (e : Cause) (ts rest : List Lexeme)
-    → run (blocks_behind form before ps) ts ≡ fails e rest → run (bodied form before result n ps) ts ≡ fails e rest
+    → run (blocks_after form before ps) ts ≡ fails e rest → run (bodied form before result n ps) ts ≡ fails e rest
 bodied_stops form before result n ps e ts rest h = bodied_is form before result n ps ts ∙ ap (λ o. and_then o (with_blocks result n ps)) h

@@ -10,7 +10,7 @@ begins text [] k d h = absurd (omega arith)
 begins text (t ∷ rest) zero d h = refl
 begins text (t ∷ rest) (suc k) d h = begins text rest k d (omega arith)
 
--- behind the last one it is the text's length
+-- after the last one it is the text's length
 pub place_at_end : (text : Text) (tokens : List Token) (k : ℕ) → length tokens ≤ k → place_in text tokens k ≡ length text
 place_at_end text [] k h = refl
 place_at_end text (t ∷ rest) zero h = absurd (omega arith)

@@ -37,8 +37,8 @@ module _ {T : Type 0} where
       omega arith
 
   -- the end of a list from one of its items on is an end of the list
-  pub behind : (at : ℕ) (ls rest : List T) → IsEnd rest (drop at ls) → IsEnd rest ls
-  behind at ls rest p = joined rest (drop at ls) ls p (take at ls, sym (take-append-drop at ls))
+  pub after : (at : ℕ) (ls rest : List T) → IsEnd rest (drop at ls) → IsEnd rest ls
+  after at ls rest p = joined rest (drop at ls) ls p (take at ls, sym (take-append-drop at ls))
 
 module _ {T E : Type 0} (end : T) where
   module _ {S : Type 0} (begins : S → T → Result Bool E) (R : S → T → List T → S → List T → Type 0)

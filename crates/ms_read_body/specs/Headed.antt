@@ -7,10 +7,10 @@ use Rattle.ms_ir.specs.declared.syntax.Block.{Block}
 use Rattle.ms_ir.specs.declared.syntax.Func.{Func}
 use Rattle.ms_ir.specs.declared.syntax.Decl.{Decl}
 use Rattle.ms_ir.specs.declared.forms.Form.{Form}
-use Rattle.ms_text_grammar.specs.declared.states.Body.{Body}
+use Rattle.ms_text_grammar.specs.declared.states.BodySoFar.{BodySoFar}
 use Rattle.ms_text_grammar.specs.declared.states.Parameters.{Parameters}
 use Rattle.ms_text_grammar.specs.declared.symbols.Symbol.TheVariants as s
-use Rattle.ms_text_grammar.specs.Functions.{body_behind, function_tail, linkage, parameter_name, parameters, with_parameter}
+use Rattle.ms_text_grammar.specs.Functions.{body_after, function_tail, linkage, parameter_name, parameters, with_parameter}
 use Rattle.ms_text_grammar.specs.Insts.{names_printf}
 use Rattle.ms_text_grammar.specs.Lines.{blocks}
 use Rattle.ms_text_grammar.specs.Names.{global}
@@ -27,8 +27,8 @@ abbrev pub types_of : Form → Parameters → Rule (List Ty)
 types_of form ps = attributes form >> give (map (λ p. p.0) ps.found)
 
 -- the types of the parameters of a declaration, after its name
-abbrev pub types_behind : Form → Name → Rule (List Ty)
-types_behind form function = do
+abbrev pub types_after : Form → Name → Rule (List Ty)
+types_after form function = do
   word s.OpenParen
   ps ← parameters form (names_printf function)
   types_of form ps
@@ -42,18 +42,18 @@ declared form result function = do
   give (record { name = function; ret = result; params = map (λ p. p.0) ps.found })
 
 -- the blocks of a function after its parameters
-abbrev pub blocks_behind : Form → ℕ → Parameters → Rule (List Block)
-blocks_behind form before ps = do
+abbrev pub blocks_after : Form → ℕ → Parameters → Rule (List Block)
+blocks_after form before ps = do
   function_tail form
   word s.OpenBrace
-  blocks form (body_behind ps before)
+  blocks form (body_after ps before)
 
 -- a function after its parameters
 unfoldable pub bodied : Form → ℕ → Option Ty → Name → Parameters → Rule Func
 bodied form before result n ps = do
   function_tail form
   word s.OpenBrace
-  all ← blocks form (body_behind ps before)
+  all ← blocks form (body_after ps before)
   give (record { name = n; ret = result; params = ps.found; blocks = all })
 
 -- a function after its name
@@ -66,21 +66,21 @@ named form before result n = do
 -- ---- functions up to their blocks
 
 -- after the parameters, up to and with the brace in front of the blocks: a body in which no block has begun
-abbrev pub body_opened : Form → ℕ → Parameters → Rule Body
+abbrev pub body_opened : Form → ℕ → Parameters → Rule BodySoFar
 body_opened form before ps = do
   function_tail form
   word s.OpenBrace
-  give (body_behind ps before)
+  give (body_after ps before)
 
 -- after the name
-abbrev pub parameters_opened : Form → ℕ → Rule Body
+abbrev pub parameters_opened : Form → ℕ → Rule BodySoFar
 parameters_opened form before = do
   word s.OpenParen
   ps ← parameters form false
   body_opened form before ps
 
 -- after `define`
-abbrev pub heading : Form → ℕ → Rule Body
+abbrev pub heading : Form → ℕ → Rule BodySoFar
 heading form before = do
   linkage form
   result ← result_type

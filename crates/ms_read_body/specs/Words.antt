@@ -2,7 +2,7 @@
 use Rattle.std.specs.Prelude.{Option, Some, None}
 use Rattle.ms_ir.specs.declared.syntax.Name.{Name}
 use Rattle.ms_ir.specs.declared.forms.Form.{Form}
-use Rattle.ms_text_grammar.specs.declared.states.Body.{Body}
+use Rattle.ms_text_grammar.specs.declared.states.BodySoFar.{BodySoFar}
 use Rattle.ms_text_grammar.specs.declared.symbols.Symbol.{Symbol}
 use Rattle.ms_text_grammar.specs.declared.symbols.Symbol.TheVariants as s
 use Rattle.ms_text_grammar.specs.Insts.{alloca_rule, gep_rule, store_rule}
@@ -30,7 +30,7 @@ end_operation s.Unreachable = Some effect.Unreachable
 end_operation symbol = None
 
 -- after any other word
-abbrev pub further_instruction : Form → Body → Option Name → Symbol → Rule Body
+abbrev pub further_instruction : Form → BodySoFar → Option Name → Symbol → Rule BodySoFar
 further_instruction form body result s.Phi = phi_line form body result
 further_instruction form body result s.Alloca = marked_line body result (alloca_rule form)
 further_instruction form body result s.Store = effect_line form body (store_rule form)

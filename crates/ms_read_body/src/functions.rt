@@ -12,12 +12,12 @@ use ms_ir::{Block, Decl, Form, Func, Name, Ty};
 use ms_read_cursor::{Tokens, global};
 use ms_read_insts::names_printf;
 use ms_read_values::{
-    ValueType, attachments, attributes, function_tail, linkage, result_ty, result_type,
+    ScalarType, attachments, attributes, function_tail, linkage, result_ty, result_type,
 };
-use ms_text_grammar::{Body, Cause, Parameters, Symbol};
+use ms_text_grammar::{BodySoFar, Cause, Parameters, Symbol};
 use std::alloc::Global;
 
-/// The types of parameters. The one error is running out of memory.
+/// The types of parameters.
 fn types_of(alloc: Global, parameters: &List<(Ty, Name)>) -> Result<List<Ty>, NoMemory>
     ensures { IfOk result (λ types. types ≡ map (λ p. p.0) parameters.now) }
 {
@@ -42,8 +42,8 @@ fn types_of_read(
 }
 
 /// Reads the parameters of a declaration after its name, and the attributes after them. Gives the types of the parameters.
-fn types_behind(tokens: &mut Tokens<'_>, form: Form, name: &Name) -> Result<List<Ty>, Cause>
-    ensures { Gives (run (headed.types_behind form name.now) tokens.old) result tokens.new }
+fn types_after(tokens: &mut Tokens<'_>, form: Form, name: &Name) -> Result<List<Ty>, Cause>
+    ensures { Gives (run (headed.types_after form name.now) tokens.old) result tokens.new }
 {
     tokens.word(Symbol::OpenParen)?;
     let parameters = parameters(tokens, form, names_printf(name))?;
@@ -55,12 +55,12 @@ fn types_behind(tokens: &mut Tokens<'_>, form: Form, name: &Name) -> Result<List
 fn declared(
     tokens: &mut Tokens<'_>,
     form: Form,
-    ret: Option<ValueType>,
+    ret: Option<ScalarType>,
     name: Name,
 ) -> Result<Decl, Cause>
     ensures { Gives (run (headed.declared form ret name) tokens.old) result tokens.new }
 {
-    let params = types_behind(tokens, form, &name)?;
+    let params = types_after(tokens, form, &name)?;
     Ok(Decl {
         name,
         ret: result_ty(ret),
@@ -86,10 +86,10 @@ pub fn declaration(tokens: &mut Tokens<'_>, form: Form) -> Result<Decl, Cause>
 }
 
 /// The body of a function, in front of which the text has so many instructions.
-fn body_behind(alloc: Global, parameters: &Parameters, before: u32) -> Body
-    ensures { result ≡ spec.body_behind parameters.now before }
+fn body_after(alloc: Global, parameters: &Parameters, before: u32) -> BodySoFar
+    ensures { result ≡ spec.body_after parameters.now before }
 {
-    Body {
+    BodySoFar {
         blocks: List::from_vec(Vec::new(alloc)),
         name: None,
         insts: List::from_vec(Vec::new(alloc)),
@@ -100,17 +100,17 @@ fn body_behind(alloc: Global, parameters: &Parameters, before: u32) -> Body
 }
 
 /// Reads the blocks of a function after its parameters, with the braces round them.
-fn blocks_behind(
+fn blocks_after(
     tokens: &mut Tokens<'_>,
     form: Form,
     before: u32,
     parameters: &Parameters,
 ) -> Result<List<Block>, Cause>
-    ensures { Gives (run (headed.blocks_behind form before parameters.now) tokens.old) result tokens.new }
+    ensures { Gives (run (headed.blocks_after form before parameters.now) tokens.old) result tokens.new }
 {
     function_tail(tokens, form)?;
     tokens.word(Symbol::OpenBrace)?;
-    let start = body_behind(tokens.alloc(), parameters, before);
+    let start = body_after(tokens.alloc(), parameters, before);
     blocks(tokens, form, start)
 }
 
@@ -120,13 +120,13 @@ fn bodied(
     tokens: &mut Tokens<'_>,
     form: Form,
     before: u32,
-    ret: Option<ValueType>,
+    ret: Option<ScalarType>,
     name: Name,
     parameters: Parameters,
 ) -> Result<Func, Cause>
     ensures { Gives (run (headed.bodied form before ret name parameters) tokens.old) result tokens.new }
 {
-    let blocks = blocks_behind(tokens, form, before, &parameters)?;
+    let blocks = blocks_after(tokens, form, before, &parameters)?;
     Ok(Func {
         name,
         ret: result_ty(ret),
@@ -140,7 +140,7 @@ fn named(
     tokens: &mut Tokens<'_>,
     form: Form,
     before: u32,
-    ret: Option<ValueType>,
+    ret: Option<ScalarType>,
     name: Name,
 ) -> Result<Func, Cause>
     ensures { Gives (run (headed.named form before ret name) tokens.old) result tokens.new }
@@ -173,16 +173,16 @@ fn body_opened(
     form: Form,
     before: u32,
     parameters: &Parameters,
-) -> Result<Body, Cause>
+) -> Result<BodySoFar, Cause>
     ensures { Gives (run (headed.body_opened form before parameters.now) tokens.old) result tokens.new }
 {
     function_tail(tokens, form)?;
     tokens.word(Symbol::OpenBrace)?;
-    Ok(body_behind(tokens.alloc(), parameters, before))
+    Ok(body_after(tokens.alloc(), parameters, before))
 }
 
 /// Reads a function after its name up to its blocks.
-fn parameters_opened(tokens: &mut Tokens<'_>, form: Form, before: u32) -> Result<Body, Cause>
+fn parameters_opened(tokens: &mut Tokens<'_>, form: Form, before: u32) -> Result<BodySoFar, Cause>
     ensures { Gives (run (headed.parameters_opened form before) tokens.old) result tokens.new }
 {
     tokens.word(Symbol::OpenParen)?;
@@ -196,7 +196,7 @@ fn parameters_opened(tokens: &mut Tokens<'_>, form: Form, before: u32) -> Result
 /// # Errors
 ///
 /// Those of [`function`] up to there.
-pub fn heading(tokens: &mut Tokens<'_>, form: Form, before: u32) -> Result<Body, Cause>
+pub fn heading(tokens: &mut Tokens<'_>, form: Form, before: u32) -> Result<BodySoFar, Cause>
     ensures { Gives (run (headed.heading form before) tokens.old) result tokens.new }
 {
     linkage(tokens, form)?;

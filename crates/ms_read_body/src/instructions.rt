@@ -7,21 +7,21 @@ ghost use Rattle.ms_read_cursor.specs.Reading.{Leaves, run};
 ghost use Rattle.ms_read_body.specs.Operations.{effect_rule, value_rule};
 ghost use Rattle.ms_read_body.specs.Words as words;
 
-use crate::added::{add_call, add_effect, add_end, add_value};
+use crate::body_state::{add_call, add_effect, add_end, add_value};
 use crate::open_blocks::is_open;
 use crate::operation_rules::{EffectIn, EffectOperation, ValueIn, ValueOperation};
 use ms_ir::{Form, Name};
 use ms_read_cursor::Tokens;
 use ms_read_insts::{alloca_rule, call_rule, gep_rule, phi_rule, with_suffixes};
 use ms_read_values::{binary_op, cast_op};
-use ms_text_grammar::{Body, Cause, Symbol};
+use ms_text_grammar::{BodySoFar, Cause, Symbol};
 
 /// An instruction with a result.
 #[tactic(auto, unfolding(ms_text_grammar::specs::Lines::value_line))]
 fn value_line(
     tokens: &mut Tokens<'_>,
     form: Form,
-    body: &mut Body,
+    body: &mut BodySoFar,
     name: &mut Option<Name>,
     operation: ValueOperation,
 ) -> Result<(), Cause>
@@ -38,7 +38,7 @@ fn value_line(
 fn alloca_line(
     tokens: &mut Tokens<'_>,
     form: Form,
-    body: &mut Body,
+    body: &mut BodySoFar,
     name: &mut Option<Name>,
 ) -> Result<(), Cause>
     requires next { body.old.next + 1 < 2 ^ 32 }
@@ -54,7 +54,7 @@ fn alloca_line(
 fn gep_line(
     tokens: &mut Tokens<'_>,
     form: Form,
-    body: &mut Body,
+    body: &mut BodySoFar,
     name: &mut Option<Name>,
 ) -> Result<(), Cause>
     requires next { body.old.next + 1 < 2 ^ 32 }
@@ -70,7 +70,7 @@ fn gep_line(
 fn phi_line(
     tokens: &mut Tokens<'_>,
     form: Form,
-    body: &mut Body,
+    body: &mut BodySoFar,
     name: &mut Option<Name>,
 ) -> Result<(), Cause>
     requires next { body.old.next + 1 < 2 ^ 32 }
@@ -86,7 +86,7 @@ fn phi_line(
 fn call_line(
     tokens: &mut Tokens<'_>,
     form: Form,
-    body: &mut Body,
+    body: &mut BodySoFar,
     name: &mut Option<Name>,
     first: Symbol,
 ) -> Result<(), Cause>
@@ -104,7 +104,7 @@ fn call_line(
 fn effect_line(
     tokens: &mut Tokens<'_>,
     form: Form,
-    body: &mut Body,
+    body: &mut BodySoFar,
     operation: EffectOperation,
 ) -> Result<(), Cause>
     requires { body.old.count + 1 < 2 ^ 32 }
@@ -119,7 +119,7 @@ fn effect_line(
 fn end_line(
     tokens: &mut Tokens<'_>,
     form: Form,
-    body: &mut Body,
+    body: &mut BodySoFar,
     operation: EffectOperation,
 ) -> Result<(), Cause>
     requires { body.old.count + 1 < 2 ^ 32 }
@@ -159,7 +159,7 @@ fn end_operation(symbol: Symbol) -> Option<EffectOperation>
 fn further_instruction(
     tokens: &mut Tokens<'_>,
     form: Form,
-    body: &mut Body,
+    body: &mut BodySoFar,
     name: &mut Option<Name>,
     symbol: Symbol,
 ) -> Result<(), Cause>
@@ -184,7 +184,7 @@ fn further_instruction(
 fn instruction_by(
     tokens: &mut Tokens<'_>,
     form: Form,
-    body: &mut Body,
+    body: &mut BodySoFar,
     name: &mut Option<Name>,
     symbol: Symbol,
 ) -> Result<(), Cause>
@@ -210,7 +210,7 @@ fn instruction_by(
 pub fn instruction(
     tokens: &mut Tokens<'_>,
     form: Form,
-    body: &mut Body,
+    body: &mut BodySoFar,
     name: &mut Option<Name>,
     symbol: Symbol,
 ) -> Result<(), Cause>

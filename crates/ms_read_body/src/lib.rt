@@ -2,7 +2,7 @@
 //! the parts of a text.
 #![tactic(auto)]
 
-mod added;
+mod body_state;
 mod calls;
 mod errors;
 mod functions;

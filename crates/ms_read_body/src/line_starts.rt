@@ -9,7 +9,7 @@ use crate::open_blocks::{is_open, may_phi, next_value};
 use ms_ir::Form;
 use ms_read_cursor::{Lexeme, Tokens, name_fits, reserved_local};
 use ms_read_values::{binary_op, cast_op};
-use ms_text_grammar::{Body, Cause, Limit, Symbol};
+use ms_text_grammar::{BodySoFar, Cause, Limit, Symbol};
 use std::alloc::Global;
 
 /// How many instructions a text may have.
@@ -24,7 +24,7 @@ fn max_instructions(form: Form) -> u32
 }
 
 /// The verdict, where there is room for one more instruction.
-fn counted(form: Form, body: &Body, verdict: Result<bool, Cause>) -> Result<bool, Cause>
+fn counted(form: Form, body: &BodySoFar, verdict: Result<bool, Cause>) -> Result<bool, Cause>
     ensures { result ≡ spec.counted form body.now verdict }
 {
     if body.count < max_instructions(form) {
@@ -107,7 +107,12 @@ fn label_begins(alloc: Global, form: Form, token: &Lexeme<'_>) -> Result<bool, C
 }
 
 /// A result's name of text.
-fn name_begins(alloc: Global, form: Form, body: &Body, token: &Lexeme<'_>) -> Result<bool, Cause>
+fn name_begins(
+    alloc: Global,
+    form: Form,
+    body: &BodySoFar,
+    token: &Lexeme<'_>,
+) -> Result<bool, Cause>
     ensures { Judges (spec.unreserved form (name_in token.now) (spec.counted form body.now (spec.short (name_in token.now)))) result }
 {
     let name = token.small_name(alloc)?;
@@ -116,7 +121,7 @@ fn name_begins(alloc: Global, form: Form, body: &Body, token: &Lexeme<'_>) -> Re
 }
 
 /// A word begins an instruction, if there is room for one.
-fn word_begins(form: Form, body: &Body, symbol: Symbol) -> Result<bool, Cause>
+fn word_begins(form: Form, body: &BodySoFar, symbol: Symbol) -> Result<bool, Cause>
     ensures { result ≡ spec.word_begins form body.now symbol }
 {
     if begins_instruction(symbol) {
@@ -127,7 +132,12 @@ fn word_begins(form: Form, body: &Body, symbol: Symbol) -> Result<bool, Cause>
 }
 
 /// Whether a line begins with this token, as far as numbers go.
-fn line_begins_by(alloc: Global, form: Form, body: &Body, token: &Lexeme<'_>) -> Result<bool, Cause>
+fn line_begins_by(
+    alloc: Global,
+    form: Form,
+    body: &BodySoFar,
+    token: &Lexeme<'_>,
+) -> Result<bool, Cause>
     ensures { Judges (spec.line_begins_by form body.now token.now.symbol token.now) result }
 {
     match token.symbol() {
@@ -170,7 +180,7 @@ fn line_begins_by(alloc: Global, form: Form, body: &Body, token: &Lexeme<'_>) ->
 /// written number that isn't the next one `Numbering`. At the first token of the instruction that is one too many
 /// `Limit(Instructions)`. At any token `Numbering` where 2^32 numbers are used up.
 #[tactic(auto, unfolding(ms_text_grammar::specs::Bodies::line_begins))]
-pub fn line_begins(tokens: &Tokens<'_>, form: Form, body: &Body) -> Result<bool, Cause>
+pub fn line_begins(tokens: &Tokens<'_>, form: Form, body: &BodySoFar) -> Result<bool, Cause>
     ensures { Judges (spec.line_begins form body.now (front tokens.now)) result }
 {
     if body.next < u32::MAX - 1 {

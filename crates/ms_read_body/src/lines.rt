@@ -15,7 +15,7 @@ use ms_bits::{List, NoMemory};
 use ms_ir::{Block, Form, Name};
 use ms_read_cursor::{Lexeme, Tokens, Turn, repeat};
 use ms_read_values::balanced;
-use ms_text_grammar::{Body, Cause, Symbol};
+use ms_text_grammar::{BodySoFar, Cause, Symbol};
 use std::alloc::Global;
 use std::mem;
 
@@ -42,8 +42,8 @@ fn value_word_of(phis: bool, token: &Lexeme<'_>) -> Result<Symbol, Cause>
     }
 }
 
-/// Begins the block of a label: of a name, or of the next number. The one error is running out of memory.
-fn label_line(alloc: Global, body: &mut Body, label: &Lexeme<'_>) -> Result<(), NoMemory>
+/// Begins the block of a label: of a name, or of the next number.
+fn label_line(alloc: Global, body: &mut BodySoFar, label: &Lexeme<'_>) -> Result<(), NoMemory>
     requires { body.old.next + 1 < 2 ^ 32 }
     ensures { IfOk result (λ _. body.new ≡ beginnings.labelled body.old label.now.symbol label.now) }
 {
@@ -62,7 +62,7 @@ fn label_line(alloc: Global, body: &mut Body, label: &Lexeme<'_>) -> Result<(), 
 
 /// Reads a debug record after its group, which stands in a block.
 #[tactic(auto, unfolding(ms_text_grammar::specs::Lines::record_line))]
-fn record_line(tokens: &mut Tokens<'_>, form: Form, body: &mut Body) -> Result<(), Cause>
+fn record_line(tokens: &mut Tokens<'_>, form: Form, body: &mut BodySoFar) -> Result<(), Cause>
     requires { body.old.next + 1 < 2 ^ 32 }
     ensures { Leaves (run (spec.record_line form (bodies.opened body.old)) tokens.old) result body.new tokens.new }
 {
@@ -72,7 +72,7 @@ fn record_line(tokens: &mut Tokens<'_>, form: Form, body: &mut Body) -> Result<(
     Ok(())
 }
 
-/// The name of a result, which a token is: a name, or the next number. The one error is running out of memory.
+/// The name of a result, which a token is: a name, or the next number.
 fn result_name(alloc: Global, number: u32, token: &Lexeme<'_>) -> Result<Name, NoMemory>
     ensures { IfOk result (λ n. n ≡ beginnings.result_name number token.now.symbol token.now) }
 {
@@ -86,7 +86,7 @@ fn result_name(alloc: Global, number: u32, token: &Lexeme<'_>) -> Result<Name, N
 fn named_instruction(
     tokens: &mut Tokens<'_>,
     form: Form,
-    body: &mut Body,
+    body: &mut BodySoFar,
     name: &Lexeme<'_>,
     symbol: Symbol,
 ) -> Result<(), Cause>
@@ -103,7 +103,7 @@ fn named_instruction(
 fn named_line(
     tokens: &mut Tokens<'_>,
     form: Form,
-    body: &mut Body,
+    body: &mut BodySoFar,
     name: &Lexeme<'_>,
 ) -> Result<(), Cause>
     requires next { body.old.next + 2 < 2 ^ 32 }
@@ -121,7 +121,7 @@ fn named_line(
 fn unnamed_line(
     tokens: &mut Tokens<'_>,
     form: Form,
-    body: &mut Body,
+    body: &mut BodySoFar,
     symbol: Symbol,
 ) -> Result<(), Cause>
     requires next { body.old.next + 2 < 2 ^ 32 }
@@ -134,7 +134,7 @@ fn unnamed_line(
 
 /// Reads a line, which the next token begins, and adds it to the body.
 #[tactic(auto, unfolding(ms_text_grammar::specs::Lines::line))]
-pub fn line(tokens: &mut Tokens<'_>, form: Form, body: &mut Body) -> Result<(), Cause>
+pub fn line(tokens: &mut Tokens<'_>, form: Form, body: &mut BodySoFar) -> Result<(), Cause>
     requires next { body.old.next + 2 < 2 ^ 32 }
     requires count { HasRoom (front tokens.old).symbol body.old.count }
     ensures { Leaves (run (spec.line form body.old (front tokens.old)) (tail tokens.old)) result body.new tokens.new }
@@ -156,7 +156,7 @@ struct EachLine {
 }
 
 impl Turn for EachLine {
-    type State = Body;
+    type State = BodySoFar;
 
     ghost use Rattle.ms_text_grammar.specs.{Bodies.{line_begins}, Lines.{line}};
 
@@ -164,12 +164,12 @@ impl Turn for EachLine {
 
     ghost body = { λ rule. line rule.form };
 
-    fn goes_on(&self, state: &Body, tokens: &Tokens<'_>) -> Result<bool, Cause> {
+    fn goes_on(&self, state: &BodySoFar, tokens: &Tokens<'_>) -> Result<bool, Cause> {
         line_begins(tokens, self.form, state)
     }
 
     #[tactic(auto, using(crate::proofs::Begun::next_left, crate::proofs::Begun::room_left))]
-    fn turn(&self, state: Body, tokens: &mut Tokens<'_>) -> Result<Body, Cause> {
+    fn turn(&self, state: BodySoFar, tokens: &mut Tokens<'_>) -> Result<BodySoFar, Cause> {
         let mut body = state;
         line(tokens, self.form, &mut body)?;
         Ok(body)
@@ -177,7 +177,7 @@ impl Turn for EachLine {
 }
 
 /// Takes the brace after the blocks of a body, where one stands and none is open, and gives the blocks.
-fn closed(tokens: &mut Tokens<'_>, body: &mut Body) -> Result<List<Block>, Cause>
+fn closed(tokens: &mut Tokens<'_>, body: &mut BodySoFar) -> Result<List<Block>, Cause>
     ensures { Gives (run (closed_piece body.old) tokens.old) result tokens.new }
 {
     if is_open(&body.name) || body.blocks.as_slice().is_empty() {
@@ -194,7 +194,7 @@ fn closed(tokens: &mut Tokens<'_>, body: &mut Body) -> Result<List<Block>, Cause
 /// At the first token that can't stand: those of `line_begins` at the first token of a line, those of the lines, and
 /// `Syntax` or `Outside` where a block is open that no terminator has ended, or where no block stands.
 #[tactic(auto, unfolding(ms_text_grammar::specs::Lines::blocks))]
-pub fn blocks(tokens: &mut Tokens<'_>, form: Form, start: Body) -> Result<List<Block>, Cause>
+pub fn blocks(tokens: &mut Tokens<'_>, form: Form, start: BodySoFar) -> Result<List<Block>, Cause>
     ensures { Gives (run (spec.blocks form start) tokens.old) result tokens.new }
 {
     let mut body = repeat(tokens, &EachLine { form }, start)?;

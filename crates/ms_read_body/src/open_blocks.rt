@@ -5,7 +5,7 @@ ghost use Rattle.ms_text_grammar.specs.Bodies as spec;
 
 use ms_bits::List;
 use ms_ir::Name;
-use ms_text_grammar::Body;
+use ms_text_grammar::BodySoFar;
 use std::alloc::Global;
 
 /// Whether a block is open.
@@ -19,7 +19,7 @@ pub fn is_open(name: &Option<Name>) -> bool
 }
 
 /// Begins a block under this name, which took so many numbers.
-pub fn open_as(alloc: Global, body: &mut Body, name: Name, numbers: u32)
+pub fn open_as(alloc: Global, body: &mut BodySoFar, name: Name, numbers: u32)
     requires { body.old.next + numbers < 2 ^ 32 }
     ensures { body.new ≡ spec.opened_as body.old name numbers }
 {
@@ -31,7 +31,7 @@ pub fn open_as(alloc: Global, body: &mut Body, name: Name, numbers: u32)
 
 /// Begins a block without a label, unless one is open.
 #[tactic(auto, unfolding(ms_text_grammar::specs::Bodies::opened))]
-pub fn open(alloc: Global, body: &mut Body)
+pub fn open(alloc: Global, body: &mut BodySoFar)
     requires { body.old.next + 1 < 2 ^ 32 }
     ensures exact { body.new ≡ spec.opened body.old }
     ensures next { body.new.next ≤ body.old.next + 1 }
@@ -45,7 +45,7 @@ pub fn open(alloc: Global, body: &mut Body)
 
 /// The number of the next value, in whichever block it stands.
 #[tactic(auto, unfolding(ms_text_grammar::specs::Bodies::opened))]
-pub fn next_value(body: &Body) -> u64
+pub fn next_value(body: &BodySoFar) -> u64
     ensures { result ≡ (spec.opened body.now).next }
 {
     match &body.name {
@@ -56,7 +56,7 @@ pub fn next_value(body: &Body) -> u64
 
 /// Whether a phi may come.
 #[tactic(auto, unfolding(ms_text_grammar::specs::Bodies::opened))]
-pub fn may_phi(body: &Body) -> bool
+pub fn may_phi(body: &BodySoFar) -> bool
     ensures { result ≡ (spec.opened body.now).phis }
 {
     match &body.name {

@@ -13,7 +13,7 @@ use ms_read_insts::{
 use ms_text_grammar::Cause;
 use std::alloc::Global;
 
-/// `unreachable`, which has no parts. The one error is running out of memory.
+/// `unreachable`, which has no parts.
 fn unreachable(alloc: Global) -> Result<Boxed<Op>, NoMemory>
     ensures { IfOk result (λ o. o ≡ operation.Unreachable) }
 {

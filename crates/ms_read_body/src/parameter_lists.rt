@@ -10,7 +10,7 @@ ghost use Rattle.ms_read_body.specs.Headed.{named_parameter as named_piece};
 use ms_bits::{List, NoMemory};
 use ms_ir::{Form, Name, Ty};
 use ms_read_cursor::{Lexeme, Series, Tokens, listed, local_name, push};
-use ms_read_values::{ValueType, attributes, value_type_of};
+use ms_read_values::{ScalarType, attributes, value_type_of};
 use ms_text_grammar::{Cause, Limit, Parameters, Symbol};
 use std::alloc::Global;
 
@@ -25,7 +25,7 @@ fn has_room(parameters: &Parameters) -> bool
 }
 
 /// The type that begins a parameter, by its token. The 101st has no room.
-fn parameter_type_of(parameters: &Parameters, token: &Lexeme<'_>) -> Result<ValueType, Cause>
+fn parameter_type_of(parameters: &Parameters, token: &Lexeme<'_>) -> Result<ScalarType, Cause>
     ensures exact { Judges (spec.parameter_type_of parameters.now token.now) result }
     ensures room { OnOk result (parameters.now.next < 100) }
 {
@@ -79,9 +79,9 @@ fn parameter_name(tokens: &mut Tokens<'_>, form: Form, number: u32) -> Result<Na
 }
 
 /// The next number after a parameter.
-fn next_behind(name: &Name, next: u32) -> u32
+fn next_after(name: &Name, next: u32) -> u32
     requires { next < 100 }
-    ensures { result ≡ spec.next_behind name.now next }
+    ensures { result ≡ spec.next_after name.now next }
 {
     match name {
         Name::Number(_) => next + 1,
@@ -89,17 +89,17 @@ fn next_behind(name: &Name, next: u32) -> u32
     }
 }
 
-/// Adds a parameter. The one error is running out of memory.
+/// Adds a parameter.
 fn add(
     alloc: Global,
     parameters: &mut Parameters,
-    ty: ValueType,
+    ty: ScalarType,
     name: Name,
 ) -> Result<(), NoMemory>
     requires { parameters.old.next < 100 }
     ensures { IfOk result (λ _. parameters.new ≡ spec.with_parameter parameters.old ty name) }
 {
-    parameters.next = next_behind(&name, parameters.next);
+    parameters.next = next_after(&name, parameters.next);
     push(alloc, &mut parameters.found, (ty.ty(), name))
 }
 
@@ -108,7 +108,7 @@ fn add_named(
     tokens: &mut Tokens<'_>,
     form: Form,
     parameters: &mut Parameters,
-    ty: ValueType,
+    ty: ScalarType,
 ) -> Result<(), Cause>
     requires { parameters.old.next < 100 }
     ensures { Leaves (run (named_piece form parameters.old ty) tokens.old) result parameters.new tokens.new }

@@ -11,7 +11,7 @@ use Rattle.ms_text_grammar.specs.Steps.{Rule, Verdict, comma_begins, word, liste
 use Rattle.ms_read_cursor.specs.Reading.{front, run}
 use Rattle.ms_read_cursor.specs.Lists.{further}
 
--- the closing symbol, behind all items
+-- the closing symbol, after all items
 abbrev pub closed : {S : Type 0} → Symbol → S → List Lexeme → Outcome Lexeme Cause S
 closed closing all rest = and_then (run (word closing) rest) (λ _. done all)
 
@@ -62,14 +62,14 @@ module _ {S : Type 0} (more : S → Bool) (item : S → Rule S) where
   turn_shorter state ts x mid h e = let less = shorter end_of_text (item state) (tail ts) x mid e in let comes = comma_comes ts h in omega arith
 
   -- a list that was read up to its closing symbol, one in which a further item stops, and one without that symbol
-  pub listed_whole : (closing : Symbol) (start : S) (ts : List Lexeme) (x : S) (mid : List Lexeme) (all : S) (behind : List Lexeme) (u : Unit {0}) (left : List Lexeme) → is closing (front ts) ≡ false → run (item start) ts ≡ done x mid
-      → run (further more item x) mid ≡ done all behind → run (word closing) behind ≡ done u left → run (listed closing more item start) ts ≡ done all left
-  listed_whole closing start ts x mid all behind u left h e f w = listed_goes closing start ts x mid h e ∙ rw f (rw w refl)
+  pub listed_whole : (closing : Symbol) (start : S) (ts : List Lexeme) (x : S) (mid : List Lexeme) (all : S) (after : List Lexeme) (u : Unit {0}) (left : List Lexeme) → is closing (front ts) ≡ false → run (item start) ts ≡ done x mid
+      → run (further more item x) mid ≡ done all after → run (word closing) after ≡ done u left → run (listed closing more item start) ts ≡ done all left
+  listed_whole closing start ts x mid all after u left h e f w = listed_goes closing start ts x mid h e ∙ rw f (rw w refl)
 
   pub listed_cut : (closing : Symbol) (start : S) (ts : List Lexeme) (x : S) (mid : List Lexeme) (d : Cause) (k : List Lexeme) → is closing (front ts) ≡ false → run (item start) ts ≡ done x mid
       → run (further more item x) mid ≡ fails d k → run (listed closing more item start) ts ≡ fails d k
   listed_cut closing start ts x mid d k h e f = listed_goes closing start ts x mid h e ∙ rw f refl
 
-  pub listed_open : (closing : Symbol) (start : S) (ts : List Lexeme) (x : S) (mid : List Lexeme) (all : S) (behind : List Lexeme) (d : Cause) (k : List Lexeme) → is closing (front ts) ≡ false → run (item start) ts ≡ done x mid
-      → run (further more item x) mid ≡ done all behind → run (word closing) behind ≡ fails d k → run (listed closing more item start) ts ≡ fails d k
-  listed_open closing start ts x mid all behind d k h e f w = listed_goes closing start ts x mid h e ∙ rw f (rw w refl)
+  pub listed_open : (closing : Symbol) (start : S) (ts : List Lexeme) (x : S) (mid : List Lexeme) (all : S) (after : List Lexeme) (d : Cause) (k : List Lexeme) → is closing (front ts) ≡ false → run (item start) ts ≡ done x mid
+      → run (further more item x) mid ≡ done all after → run (word closing) after ≡ fails d k → run (listed closing more item start) ts ≡ fails d k
+  listed_open closing start ts x mid all after d k h e f w = listed_goes closing start ts x mid h e ∙ rw f (rw w refl)

@@ -38,22 +38,22 @@ module _ {A : Type 0} (item : Rule A) where
   items_stop closing ts d k h e = series.listed_stops (λ found. true) (with_item item) closing [] ts d k h (item_stops [] ts d k e)
 
   -- a list that was read up to its closing symbol, one in which a further item stops, and one without that symbol
-  pub items_whole : (closing : Symbol) (ts : List Lexeme) (x : A) (mid : List Lexeme) (all : List A) (behind : List Lexeme) (u : Unit {0}) (left : List Lexeme) → is closing (front ts) ≡ false → run item ts ≡ done x mid
-      → run (further_items item (x ∷ [])) mid ≡ done all behind → run (word closing) behind ≡ done u left → run (items closing item) ts ≡ done all left
+  pub items_whole : (closing : Symbol) (ts : List Lexeme) (x : A) (mid : List Lexeme) (all : List A) (after : List Lexeme) (u : Unit {0}) (left : List Lexeme) → is closing (front ts) ≡ false → run item ts ≡ done x mid
+      → run (further_items item (x ∷ [])) mid ≡ done all after → run (word closing) after ≡ done u left → run (items closing item) ts ≡ done all left
   unfolding items further_items
-  items_whole closing ts x mid all behind u left h e f w =
-      series.listed_whole (λ found. true) (with_item item) closing [] ts (x ∷ []) mid all behind u left h (item_goes [] ts x mid e) f w
+  items_whole closing ts x mid all after u left h e f w =
+      series.listed_whole (λ found. true) (with_item item) closing [] ts (x ∷ []) mid all after u left h (item_goes [] ts x mid e) f w
 
   pub items_cut : (closing : Symbol) (ts : List Lexeme) (x : A) (mid : List Lexeme) (d : Cause) (k : List Lexeme) → is closing (front ts) ≡ false → run item ts ≡ done x mid
       → run (further_items item (x ∷ [])) mid ≡ fails d k → run (items closing item) ts ≡ fails d k
   unfolding items further_items
   items_cut closing ts x mid d k h e f = series.listed_cut (λ found. true) (with_item item) closing [] ts (x ∷ []) mid d k h (item_goes [] ts x mid e) f
 
-  pub items_open : (closing : Symbol) (ts : List Lexeme) (x : A) (mid : List Lexeme) (all : List A) (behind : List Lexeme) (d : Cause) (k : List Lexeme) → is closing (front ts) ≡ false → run item ts ≡ done x mid
-      → run (further_items item (x ∷ [])) mid ≡ done all behind → run (word closing) behind ≡ fails d k → run (items closing item) ts ≡ fails d k
+  pub items_open : (closing : Symbol) (ts : List Lexeme) (x : A) (mid : List Lexeme) (all : List A) (after : List Lexeme) (d : Cause) (k : List Lexeme) → is closing (front ts) ≡ false → run item ts ≡ done x mid
+      → run (further_items item (x ∷ [])) mid ≡ done all after → run (word closing) after ≡ fails d k → run (items closing item) ts ≡ fails d k
   unfolding items further_items
-  items_open closing ts x mid all behind d k h e f w =
-      series.listed_open (λ found. true) (with_item item) closing [] ts (x ∷ []) mid all behind d k h (item_goes [] ts x mid e) f w
+  items_open closing ts x mid all after d k h e f w =
+      series.listed_open (λ found. true) (with_item item) closing [] ts (x ∷ []) mid all after d k h (item_goes [] ts x mid e) f w
 
   pub turn_shorter : (ts : List Lexeme) (x : A) (mid : List Lexeme) → is Comma (front ts) ≡ true → run item (tail ts) ≡ done x mid → length mid < length ts
   turn_shorter ts x mid h e = series.turn_shorter (λ found. true) (with_item item) [] ts (x ∷ []) mid h (item_goes [] (tail ts) x mid e)

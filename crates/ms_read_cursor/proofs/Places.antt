@@ -14,7 +14,7 @@ lie_in text tokens place h =
     let all = All-weaker (λ t. (t.start < t.end) × (t.end ≤ length text)) (Within (length text)) (λ t w. (omega (arith, w.0), w.1)) tokens h.within in
     recursion_from_All (Within (length text)) (drop place tokens) (All-drop (Within (length text)) place tokens all)
 
-pub behind : (text : Text) (tokens : List Token) (place : ℕ) → lexemes_of text (drop place tokens) ≡ drop place (lexemes_of text tokens)
-behind text tokens zero = refl
-behind text [] (suc place) = refl
-behind text (t ∷ tokens) (suc place) = behind text tokens place
+pub after : (text : Text) (tokens : List Token) (place : ℕ) → lexemes_of text (drop place tokens) ≡ drop place (lexemes_of text tokens)
+after text tokens zero = refl
+after text [] (suc place) = refl
+after text (t ∷ tokens) (suc place) = after text tokens place

@@ -49,7 +49,7 @@ fn first_symbol(text: &[u8], rest: &[Token]) -> Symbol
 }
 
 /// The tokens from this place on.
-fn behind(tokens: &[Token], place: usize) -> &[Token]
+fn tokens_after(tokens: &[Token], place: usize) -> &[Token]
     requires { place ≤ length tokens.now }
     ensures { result.now ≡ drop place tokens.now }
 {
@@ -58,13 +58,13 @@ fn behind(tokens: &[Token], place: usize) -> &[Token]
 
 impl<'a> Tokens<'a> {
     /// The tokens of a text from this place on, which is the number of those before it.
-    #[tactic(auto, using(crate::proofs::Places::lie_in, crate::proofs::Places::behind))]
+    #[tactic(auto, using(crate::proofs::Places::lie_in, crate::proofs::Places::after))]
     pub fn at(alloc: Global, text: &'a [u8], tokens: &'a [Token], place: usize) -> Tokens<'a>
         requires in_order { InOrder tokens.now (length text.now) }
         requires inside { place ≤ length tokens.now }
         ensures { result ≡ drop place (lexemes_of text.now tokens.now) }
     {
-        let rest = behind(tokens, place);
+        let rest = tokens_after(tokens, place);
         let symbol = first_symbol(text, rest);
         Tokens {
             alloc,
@@ -74,7 +74,7 @@ impl<'a> Tokens<'a> {
         }
     }
 
-    /// The same tokens once more.
+    /// These tokens once more, from the same place on.
     pub fn copy(&self) -> Tokens<'a>
         ensures { result ≡ self.now }
     {

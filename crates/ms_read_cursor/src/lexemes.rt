@@ -86,7 +86,7 @@ impl<'a> Lexeme<'a> {
         same_symbol(self.symbol, symbol)
     }
 
-    /// The name that it spells, decoded and without its sign. The one error is running out of memory.
+    /// The name that it spells, decoded and without its sign.
     #[tactic(auto, unfolding(ms_lex::specs::Names::name_of))]
     pub fn name(&self, alloc: Global) -> Result<Bytes, NoMemory>
         ensures { IfOk result (λ name. name ≡ spec.name_in self.now) }
@@ -94,8 +94,7 @@ impl<'a> Lexeme<'a> {
         Ok(List::from_vec(name_of(alloc, self.text, &self.token)?))
     }
 
-    /// The name that it spells, as the module keeps it: in no block of the heap where it is short. The one error is want
-    /// of memory.
+    /// The name that it spells, as the module keeps it: in no block of the heap where it is short.
     #[tactic(auto, unfolding(ms_lex::specs::Names::name_of))]
     pub fn small_name(&self, alloc: Global) -> Result<SmallBytes, NoMemory>
         ensures { IfOk result (λ name. name ≡ spec.name_in self.now) }
@@ -132,7 +131,7 @@ impl<'a> Lexeme<'a> {
     }
 
     /// Its bytes after the first one.
-    fn behind_sign(&self) -> &'a [u8]
+    fn after_sign(&self) -> &'a [u8]
         ensures { result.now ≡ drop 1 self.now.spelling }
     {
         match self.spelling() {
@@ -150,7 +149,7 @@ impl<'a> Lexeme<'a> {
                 let spelling = self.spelling();
                 &spelling[..spelling.len().saturating_sub(1)]
             }
-            _ => self.behind_sign(),
+            _ => self.after_sign(),
         }
     }
 
@@ -161,7 +160,7 @@ impl<'a> Lexeme<'a> {
         ensures narrow { (1 ≤ result) × (result ≤ 64) }
     {
         let _ = &self.text;
-        match decimal(self.behind_sign()) {
+        match decimal(self.after_sign()) {
             Some(width) => width as u8,
             None => 0,
         }

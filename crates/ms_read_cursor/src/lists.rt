@@ -21,7 +21,7 @@ pub trait Rule {
         ensures { Gives (run (piece self.now) tokens.old) result tokens.new };
 }
 
-/// A list with one item more after the others. The one error is running out of memory.
+/// A list with one item more after the others.
 pub fn with_last<T: Drop>(list: List<T>, item: T) -> Result<List<T>, NoMemory>
     ensures { IfOk result (λ l. l ≡ list ++ item ∷ []) }
 {
@@ -30,14 +30,14 @@ pub fn with_last<T: Drop>(list: List<T>, item: T) -> Result<List<T>, NoMemory>
     Ok(List::from_vec(items))
 }
 
-/// A list of one item. The one error is running out of memory.
+/// A list of one item.
 pub fn single<T: Drop>(alloc: Global, item: T) -> Result<List<T>, NoMemory>
     ensures { IfOk result (λ l. l ≡ item ∷ []) }
 {
     with_last(List::from_vec(Vec::new(alloc)), item)
 }
 
-/// Adds an item after the others. The one error is running out of memory.
+/// Adds an item after the others.
 pub fn push<T: Drop>(alloc: Global, list: &mut List<T>, item: T) -> Result<(), NoMemory>
     ensures { IfOk result (λ _. list.new ≡ list.old ++ item ∷ []) }
 {

@@ -7,7 +7,7 @@ ghost use Rattle.ms_text_grammar.specs.Lexemes as spec;
 ghost use Rattle.ms_read_cursor.specs.Words.{rows_of};
 
 use crate::decimals::{decimal, is_digits};
-use crate::words::{PUNCTUATION, Row, words_with};
+use crate::words::{Keyword, PUNCTUATION, words_with};
 use ms_lex::Kind;
 use ms_text_grammar::Symbol;
 
@@ -21,7 +21,7 @@ pub fn same_symbol(a: Symbol, b: Symbol) -> bool
 }
 
 /// The symbol beside a word in a table, or else another.
-fn lookup(mut table: &[Row], word: &[u8], other: Symbol) -> Symbol
+fn lookup(mut table: &[Keyword], word: &[u8], other: Symbol) -> Symbol
     ensures { result ≡ symbol_in (rows_of table.entry.now) other word.now }
 {
     while let [row, rest @ ..] = table {

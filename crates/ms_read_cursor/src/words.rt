@@ -7,7 +7,7 @@ ghost use Rattle.ms_read_cursor.specs.Words.{beginning, rows_of};
 use ms_text_grammar::Symbol;
 
 /// A word, and its symbol.
-pub type Row = (&'static [u8], Symbol);
+pub type Keyword = (&'static [u8], Symbol);
 
 const A_WORDS: [(&[u8], Symbol); 12] = [
     (b"alloca", Symbol::Alloca),
@@ -220,7 +220,7 @@ pub const PUNCTUATION: [(&[u8], Symbol); 13] = [
 ];
 
 /// The words that begin with a byte, in the order of the definition.
-pub fn words_with(first: u8) -> &'static [Row]
+pub fn words_with(first: u8) -> &'static [Keyword]
     ensures { rows_of result.now ≡ beginning first keywords }
 {
     match first {

@@ -11,7 +11,7 @@ use Rattle.ms_ir.specs.declared.syntax.Op.{Op}
 use Rattle.ms_ir.specs.declared.syntax.Op.TheVariants as op
 use Rattle.ms_ir.specs.declared.forms.Form.{Form}
 use Rattle.ms_text_grammar.specs.declared.symbols.Symbol.TheVariants as s
-use Rattle.ms_text_grammar.specs.declared.states.Edges.{Edges}
+use Rattle.ms_text_grammar.specs.declared.states.PhiEdges.{PhiEdges}
 use Rattle.ms_text_grammar.specs.declared.states.Indices.{Indices}
 use Rattle.ms_text_grammar.specs.Steps.{Rule, word}
 use Rattle.ms_text_grammar.specs.Names.{local}
@@ -115,7 +115,7 @@ edge_end form v = do
   give (v, from)
 
 -- more edges after commas, and suffixes
-abbrev pub phi_rest : Form → Ty → Edges → Rule Marked
+abbrev pub phi_rest : Form → Ty → PhiEdges → Rule Marked
 phi_rest form t first = do
   edges ← loop edge_begins (λ edges comma. edge_turn form t edges.found) first
   marked ← suffixes_from form edges.ended

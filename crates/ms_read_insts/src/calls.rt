@@ -13,7 +13,7 @@ use ms_bits::{Boxed, List, NoMemory};
 use ms_ir::{Form, Name, Op, Operand, Ty};
 use ms_read_cursor::{Lexeme, Series, Tokens, global_name, listed, with_last};
 use ms_read_values::{
-    ValueType, attributes, result_ty, result_type, value, value_type, value_type_of,
+    ScalarType, attributes, result_ty, result_type, value, value_type, value_type_of,
 };
 use ms_text_grammar::{Cause, Limit, Outside, Symbol};
 use std::alloc::Global;
@@ -22,7 +22,7 @@ use std::alloc::Global;
 const MAX_PARAMETERS: usize = 100;
 
 /// Takes the result's type of a call. A call whose result has a name isn't `void`.
-fn call_type(tokens: &mut Tokens<'_>, named: bool) -> Result<Option<ValueType>, Cause>
+fn call_type(tokens: &mut Tokens<'_>, named: bool) -> Result<Option<ScalarType>, Cause>
     ensures { Gives (run (spec.call_type named) tokens.old) result tokens.new }
 {
     if named {
@@ -34,7 +34,7 @@ fn call_type(tokens: &mut Tokens<'_>, named: bool) -> Result<Option<ValueType>, 
 }
 
 /// Whether a result's type is `i32`.
-fn is_i32(ty: Option<ValueType>) -> bool
+fn is_i32(ty: Option<ScalarType>) -> bool
     ensures { result ≡ spec.is_i32 ty }
 {
     match ty {
@@ -58,7 +58,7 @@ fn variadic_type(tokens: &mut Tokens<'_>) -> Result<bool, Cause>
 
 /// Takes the type of a callee, where it is written; that of `printf` alone may be.
 #[tactic(auto, unfolding(ms_text_grammar::specs::Insts::callee_type))]
-fn callee_type(tokens: &mut Tokens<'_>, ty: Option<ValueType>) -> Result<bool, Cause>
+fn callee_type(tokens: &mut Tokens<'_>, ty: Option<ScalarType>) -> Result<bool, Cause>
     ensures { Gives (run (spec.callee_type ty) tokens.old) result tokens.new }
 {
     if !tokens.sees(Symbol::OpenParen) {
@@ -130,7 +130,7 @@ pub fn names_printf(name: &Name) -> bool
 }
 
 /// The type of an argument in front of which so many stand. Only where they are counted is their number limited here.
-fn argument_type_of(counted: bool, before: usize, token: &Lexeme<'_>) -> Result<ValueType, Cause>
+fn argument_type_of(counted: bool, before: usize, token: &Lexeme<'_>) -> Result<ScalarType, Cause>
     ensures { Judges (spec.argument_type_of counted before token.now) result }
 {
     let ty = value_type_of(token)?;
@@ -146,7 +146,7 @@ fn argument_type(
     tokens: &mut Tokens<'_>,
     counted: bool,
     found: &List<(Ty, Operand)>,
-) -> Result<ValueType, Cause>
+) -> Result<ScalarType, Cause>
     ensures { Gives (run (one (spec.argument_type_of counted (length found.now))) tokens.old) result tokens.new }
 {
     let before = found.as_slice().len();
@@ -159,7 +159,7 @@ fn argument_type(
 fn argument_rest(
     tokens: &mut Tokens<'_>,
     form: Form,
-    ty: ValueType,
+    ty: ScalarType,
     found: List<(Ty, Operand)>,
 ) -> Result<List<(Ty, Operand)>, Cause>
     ensures { Gives (run (rest.argument_rest form ty found) tokens.old) result tokens.new }
@@ -236,10 +236,10 @@ fn call_word(tokens: &mut Tokens<'_>, first: Symbol) -> Result<(), Cause>
     }
 }
 
-/// A call. The one error is running out of memory.
+/// A call.
 fn call_of(
     alloc: Global,
-    ret: Option<ValueType>,
+    ret: Option<ScalarType>,
     callee: Name,
     args: List<(Ty, Operand)>,
 ) -> Result<Boxed<Op>, NoMemory>
@@ -259,7 +259,7 @@ fn call_of(
 fn call_marked(
     tokens: &mut Tokens<'_>,
     form: Form,
-    ret: &Option<ValueType>,
+    ret: &Option<ScalarType>,
     callee: Name,
     args: List<(Ty, Operand)>,
 ) -> Result<(Boxed<Op>, bool), Cause>
@@ -273,7 +273,7 @@ fn call_marked(
 fn call_rest(
     tokens: &mut Tokens<'_>,
     form: Form,
-    ret: &Option<ValueType>,
+    ret: &Option<ScalarType>,
     callee: Name,
 ) -> Result<(Boxed<Op>, bool), Cause>
     ensures { Gives (run (rest.call_rest form ret.now callee) tokens.old) result tokens.new }
@@ -286,7 +286,7 @@ fn call_rest(
 fn call_callee(
     tokens: &mut Tokens<'_>,
     form: Form,
-    ret: &Option<ValueType>,
+    ret: &Option<ScalarType>,
 ) -> Result<(Boxed<Op>, bool), Cause>
     ensures { Gives (run (rest.call_callee form ret.now) tokens.old) result tokens.new }
 {

@@ -12,11 +12,11 @@ use crate::flags::{Carrier, flags_of};
 use ms_bits::{BinOp, Boxed, CastOp, Flags, NoMemory, Pred};
 use ms_ir::{Form, Op, Operand};
 use ms_read_cursor::{Lexeme, Tokens, same_symbol};
-use ms_read_values::{ValueType, int_type, value, value_type, value_type_of};
+use ms_read_values::{ScalarType, int_type, value, value_type, value_type_of};
 use ms_text_grammar::{Cause, Symbol};
 use std::alloc::Global;
 
-/// An operation on two operands of one type, as far as it is read in front of the type.
+/// The part of a two-operand operation that stands before its type.
 #[derive(Clone, Copy)]
 enum OnTwo {
     Binary(BinOp, Flags),
@@ -24,11 +24,11 @@ enum OnTwo {
 }
 
 impl OnTwo {
-    /// The operation on these operands. The one error is running out of memory.
+    /// The operation on these operands.
     fn of(
         self,
         alloc: Global,
-        ty: ValueType,
+        ty: ScalarType,
         a: Boxed<Operand>,
         b: Boxed<Operand>,
     ) -> Result<Boxed<Op>, NoMemory>
@@ -64,7 +64,7 @@ fn second_operand(
     tokens: &mut Tokens<'_>,
     form: Form,
     operation: OnTwo,
-    ty: ValueType,
+    ty: ScalarType,
     a: Boxed<Operand>,
 ) -> Result<Boxed<Op>, Cause>
     ensures { Gives (run (rest.second_operand form operation ty a) tokens.old) result tokens.new }
@@ -79,7 +79,7 @@ fn two_operands(
     tokens: &mut Tokens<'_>,
     form: Form,
     operation: OnTwo,
-    ty: ValueType,
+    ty: ScalarType,
 ) -> Result<Boxed<Op>, Cause>
     ensures { Gives (run (rest.two_operands form operation ty) tokens.old) result tokens.new }
 {
@@ -97,7 +97,7 @@ pub fn binary_rule(tokens: &mut Tokens<'_>, form: Form, op: BinOp) -> Result<Box
     ensures { Gives (run (spec.binary_rule form op) tokens.old) result tokens.new }
 {
     let flags = flags_of(tokens, Carrier::Binary(op))?;
-    let ty = ValueType::int(int_type(tokens)?);
+    let ty = ScalarType::int(int_type(tokens)?);
     two_operands(tokens, form, OnTwo::Binary(op, flags), ty)
 }
 
@@ -150,14 +150,14 @@ pub fn compare_rule(tokens: &mut Tokens<'_>, form: Form) -> Result<Boxed<Op>, Ca
     two_operands(tokens, form, OnTwo::Compare(pred, flags), ty)
 }
 
-/// A cast. The one error is running out of memory.
+/// A cast.
 fn cast_of(
     alloc: Global,
     op: CastOp,
     flags: Flags,
-    from: ValueType,
+    from: ScalarType,
     a: Boxed<Operand>,
-    to: ValueType,
+    to: ScalarType,
 ) -> Result<Boxed<Op>, NoMemory>
     ensures { IfOk result (λ o. o ≡ operation.Cast op flags from a to) }
 {
@@ -178,7 +178,7 @@ fn cast_end(
     tokens: &mut Tokens<'_>,
     op: CastOp,
     flags: Flags,
-    from: ValueType,
+    from: ScalarType,
     a: Boxed<Operand>,
 ) -> Result<Boxed<Op>, Cause>
     ensures { Gives (run (rest.cast_end op flags from a) tokens.old) result tokens.new }
@@ -194,7 +194,7 @@ fn cast_rest(
     form: Form,
     op: CastOp,
     flags: Flags,
-    from: ValueType,
+    from: ScalarType,
 ) -> Result<Boxed<Op>, Cause>
     ensures { Gives (run (rest.cast_rest form op flags from) tokens.old) result tokens.new }
 {
@@ -237,7 +237,7 @@ pub fn bit_type(tokens: &mut Tokens<'_>) -> Result<(), Cause>
 }
 
 /// Whether a token spells this type.
-fn spells(ty: ValueType, token: &Lexeme<'_>) -> bool
+fn spells(ty: ScalarType, token: &Lexeme<'_>) -> bool
     ensures { result ≡ spec.spells ty token.now }
 {
     match ty.width() {
@@ -246,8 +246,8 @@ fn spells(ty: ValueType, token: &Lexeme<'_>) -> bool
     }
 }
 
-/// That a token is this type of a value, and no other.
-fn same_type_of(ty: ValueType, token: &Lexeme<'_>) -> Result<(), Cause>
+/// Refuses a token that isn't this type of a value.
+fn same_type_of(ty: ScalarType, token: &Lexeme<'_>) -> Result<(), Cause>
     ensures { Judges (spec.same_type_of ty token.now) result }
 {
     if spells(ty, token) {
@@ -259,7 +259,7 @@ fn same_type_of(ty: ValueType, token: &Lexeme<'_>) -> Result<(), Cause>
 
 /// Takes this type of a value, and no other.
 #[tactic(auto, unfolding(ms_text_grammar::specs::Insts::same_type))]
-fn same_type(tokens: &mut Tokens<'_>, ty: ValueType) -> Result<(), Cause>
+fn same_type(tokens: &mut Tokens<'_>, ty: ScalarType) -> Result<(), Cause>
     ensures { Gives (run (spec.same_type ty) tokens.old) result tokens.new }
 {
     same_type_of(ty, &tokens.lexeme())?;
@@ -267,11 +267,11 @@ fn same_type(tokens: &mut Tokens<'_>, ty: ValueType) -> Result<(), Cause>
     Ok(())
 }
 
-/// A `select`. The one error is running out of memory.
+/// A `select`.
 fn select_of(
     alloc: Global,
     cond: Boxed<Operand>,
-    ty: ValueType,
+    ty: ScalarType,
     a: Boxed<Operand>,
     b: Boxed<Operand>,
 ) -> Result<Boxed<Op>, NoMemory>
@@ -293,7 +293,7 @@ fn select_last(
     tokens: &mut Tokens<'_>,
     form: Form,
     cond: Boxed<Operand>,
-    ty: ValueType,
+    ty: ScalarType,
     a: Boxed<Operand>,
 ) -> Result<Boxed<Op>, Cause>
     ensures { Gives (run (rest.select_last form cond ty a) tokens.old) result tokens.new }
@@ -307,7 +307,7 @@ fn select_end(
     tokens: &mut Tokens<'_>,
     form: Form,
     cond: Boxed<Operand>,
-    ty: ValueType,
+    ty: ScalarType,
     a: Boxed<Operand>,
 ) -> Result<Boxed<Op>, Cause>
     ensures { Gives (run (rest.select_end form cond ty a) tokens.old) result tokens.new }
@@ -340,7 +340,7 @@ pub fn select_rule(tokens: &mut Tokens<'_>, form: Form) -> Result<Boxed<Op>, Cau
     ensures { Gives (run (spec.select_rule form) tokens.old) result tokens.new }
 {
     bit_type(tokens)?;
-    let cond = value(tokens, form, ValueType::int(1))?;
+    let cond = value(tokens, form, ScalarType::int(1))?;
     tokens.word(Symbol::Comma)?;
     select_rest(tokens, form, cond)
 }

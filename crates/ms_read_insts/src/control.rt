@@ -11,8 +11,8 @@ use crate::computations::{bit_type, is_int_type};
 use ms_bits::{Boxed, List, NoMemory};
 use ms_ir::{Form, Name, Op, Operand, Ty};
 use ms_read_cursor::{Tokens, Turn, local, repeat, with_last};
-use ms_read_values::{ValueType, int_type, number, result_type, suffixes_from, value, value_type};
-use ms_text_grammar::{Cause, Edges, Symbol};
+use ms_read_values::{ScalarType, int_type, number, result_type, suffixes_from, value, value_type};
+use ms_text_grammar::{Cause, PhiEdges, Symbol};
 use std::alloc::Global;
 
 /// The cases of a `switch`: the words and the labels.
@@ -33,7 +33,11 @@ fn edge_end(
 
 /// Reads an edge of a phi after its `[`.
 #[tactic(auto, unfolding(ms_text_grammar::specs::Insts::edge))]
-fn edge(tokens: &mut Tokens<'_>, form: Form, ty: ValueType) -> Result<(Boxed<Operand>, Name), Cause>
+fn edge(
+    tokens: &mut Tokens<'_>,
+    form: Form,
+    ty: ScalarType,
+) -> Result<(Boxed<Operand>, Name), Cause>
     ensures { Gives (run (spec.edge form ty) tokens.old) result tokens.new }
 {
     let operand = value(tokens, form, ty)?;
@@ -42,12 +46,15 @@ fn edge(tokens: &mut Tokens<'_>, form: Form, ty: ValueType) -> Result<(Boxed<Ope
 }
 
 /// The state after one edge more.
-fn with_edge(found: List<(Operand, Name)>, edge: (Boxed<Operand>, Name)) -> Result<Edges, NoMemory>
+fn with_edge(
+    found: List<(Operand, Name)>,
+    edge: (Boxed<Operand>, Name),
+) -> Result<PhiEdges, NoMemory>
     ensures { IfOk result (λ edges. edges ≡ record { found = found ++ edge ∷ []; ended = false }) }
 {
     let (operand, from) = edge;
     let found = with_last(found, (operand.into_inner(), from))?;
-    Ok(Edges {
+    Ok(PhiEdges {
         found,
         ended: false,
     })
@@ -58,9 +65,9 @@ fn with_edge(found: List<(Operand, Name)>, edge: (Boxed<Operand>, Name)) -> Resu
 fn edge_turn(
     tokens: &mut Tokens<'_>,
     form: Form,
-    ty: ValueType,
+    ty: ScalarType,
     found: List<(Operand, Name)>,
-) -> Result<Edges, Cause>
+) -> Result<PhiEdges, Cause>
     ensures { Gives (run (spec.edge_turn form ty found) tokens.old) result tokens.new }
 {
     match tokens.peek() {
@@ -69,18 +76,18 @@ fn edge_turn(
             let next = edge(tokens, form, ty)?;
             Ok(with_edge(found, next)?)
         }
-        _ => Ok(Edges { found, ended: true }),
+        _ => Ok(PhiEdges { found, ended: true }),
     }
 }
 
 #[derive(Clone, Copy)]
 struct EdgeTurn {
     form: Form,
-    ty: ValueType,
+    ty: ScalarType,
 }
 
 impl Turn for EdgeTurn {
-    type State = Edges;
+    type State = PhiEdges;
 
     ghost use Rattle.ms_text_grammar.specs.Insts.{edge_begins, edge_turn};
 
@@ -88,26 +95,30 @@ impl Turn for EdgeTurn {
 
     ghost body = { λ rule edges comma. edge_turn rule.form rule.ty edges.found };
 
-    fn goes_on(&self, state: &Edges, tokens: &Tokens<'_>) -> Result<bool, Cause> {
+    fn goes_on(&self, state: &PhiEdges, tokens: &Tokens<'_>) -> Result<bool, Cause> {
         Ok(!state.ended && tokens.sees(Symbol::Comma))
     }
 
-    fn turn(&self, state: Edges, tokens: &mut Tokens<'_>) -> Result<Edges, Cause> {
+    fn turn(&self, state: PhiEdges, tokens: &mut Tokens<'_>) -> Result<PhiEdges, Cause> {
         tokens.advance();
-        let Edges { found, .. } = state;
+        let PhiEdges { found, .. } = state;
         edge_turn(tokens, self.form, self.ty, found)
     }
 }
 
 /// The state after the first edge.
-fn first_edges(alloc: Global, first: (Boxed<Operand>, Name)) -> Result<Edges, NoMemory>
+fn first_edges(alloc: Global, first: (Boxed<Operand>, Name)) -> Result<PhiEdges, NoMemory>
     ensures { IfOk result (λ edges. edges ≡ record { found = first ∷ []; ended = false }) }
 {
     with_edge(List::from_vec(Vec::new(alloc)), first)
 }
 
-/// A phi. The one error is running out of memory.
-fn phi_of(alloc: Global, ty: ValueType, edges: List<(Operand, Name)>) -> Result<Boxed<Op>, NoMemory>
+/// A phi.
+fn phi_of(
+    alloc: Global,
+    ty: ScalarType,
+    edges: List<(Operand, Name)>,
+) -> Result<Boxed<Op>, NoMemory>
     ensures { IfOk result (λ o. o ≡ operation.Phi ty edges) }
 {
     Boxed::new(alloc, Op::Phi { ty: ty.ty(), edges })
@@ -117,12 +128,12 @@ fn phi_of(alloc: Global, ty: ValueType, edges: List<(Operand, Name)>) -> Result<
 fn phi_rest(
     tokens: &mut Tokens<'_>,
     form: Form,
-    ty: ValueType,
-    first: Edges,
+    ty: ScalarType,
+    first: PhiEdges,
 ) -> Result<(Boxed<Op>, bool), Cause>
     ensures { Gives (run (rest.phi_rest form ty first) tokens.old) result tokens.new }
 {
-    let Edges { found, ended } = repeat(tokens, &EdgeTurn { form, ty }, first)?;
+    let PhiEdges { found, ended } = repeat(tokens, &EdgeTurn { form, ty }, first)?;
     let marked = suffixes_from(tokens, form, ended)?;
     Ok((phi_of(tokens.alloc(), ty, found)?, marked))
 }
@@ -152,7 +163,7 @@ fn target(tokens: &mut Tokens<'_>, form: Form) -> Result<Name, Cause>
     local(tokens, form)
 }
 
-/// A `br` on a condition. The one error is running out of memory.
+/// A `br` on a condition.
 fn branch_of(
     alloc: Global,
     cond: Boxed<Operand>,
@@ -204,7 +215,7 @@ fn branch_on(tokens: &mut Tokens<'_>, form: Form) -> Result<Boxed<Op>, Cause>
     ensures { Gives (run (spec.branch_on form) tokens.old) result tokens.new }
 {
     bit_type(tokens)?;
-    let cond = value(tokens, form, ValueType::int(1))?;
+    let cond = value(tokens, form, ScalarType::int(1))?;
     branch_rest(tokens, form, cond)
 }
 
@@ -270,7 +281,7 @@ impl Turn for CaseTurn {
     }
 }
 
-/// A `switch` on a value of this width. The one error is running out of memory.
+/// A `switch` on a value of this width.
 fn switch_of(
     alloc: Global,
     width: u8,
@@ -346,13 +357,13 @@ pub fn switch_rule(tokens: &mut Tokens<'_>, form: Form) -> Result<Boxed<Op>, Cau
     ensures { Gives (run (spec.switch_rule form) tokens.old) result tokens.new }
 {
     let width = int_type(tokens)?;
-    let value = value(tokens, form, ValueType::int(width))?;
+    let value = value(tokens, form, ScalarType::int(width))?;
     tokens.word(Symbol::Comma)?;
     switch_rest(tokens, form, width, value)
 }
 
-/// A `ret` of a value. The one error is running out of memory.
-fn ret_of(alloc: Global, ty: ValueType, value: Boxed<Operand>) -> Result<Boxed<Op>, NoMemory>
+/// A `ret` of a value.
+fn ret_of(alloc: Global, ty: ScalarType, value: Boxed<Operand>) -> Result<Boxed<Op>, NoMemory>
     ensures { IfOk result (λ o. o ≡ operation.Ret (Some (ty, value))) }
 {
     Boxed::new(

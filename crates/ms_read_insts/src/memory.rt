@@ -12,7 +12,7 @@ use ms_bits::{Boxed, List, NoMemory};
 use ms_ir::{Form, Op, Operand, Ty};
 use ms_read_cursor::{Tokens, Turn, repeat, with_last};
 use ms_read_values::{
-    ValueType, boxed_type, gep_words, index_type_of, suffixes_from, value, value_type,
+    ScalarType, boxed_type, gep_words, index_type_of, suffixes_from, value, value_type,
 };
 use ms_text_grammar::{Cause, Indices, Symbol};
 use std::alloc::Global;
@@ -27,7 +27,7 @@ fn address(tokens: &mut Tokens<'_>, form: Form) -> Result<Boxed<Operand>, Cause>
 {
     tokens.word(Symbol::Comma)?;
     tokens.word(Symbol::PtrType)?;
-    value(tokens, form, ValueType::ptr())
+    value(tokens, form, ScalarType::ptr())
 }
 
 /// Reads a `load` after its word: `type, ptr address`.
@@ -48,10 +48,10 @@ pub fn load_rule(tokens: &mut Tokens<'_>, form: Form) -> Result<Boxed<Op>, Cause
     Ok(Boxed::new(tokens.alloc(), read)?)
 }
 
-/// A `store`. The one error is running out of memory.
+/// A `store`.
 fn store_of(
     alloc: Global,
-    ty: ValueType,
+    ty: ScalarType,
     value: Boxed<Operand>,
     addr: Boxed<Operand>,
 ) -> Result<Boxed<Op>, NoMemory>
@@ -101,10 +101,10 @@ fn index_width(tokens: &mut Tokens<'_>, before: usize) -> Result<u8, Cause>
     Ok(width)
 }
 
-/// The indices with one more after them. The one error is running out of memory.
+/// The indices with one more after them.
 fn with_index(
     found: List<(Ty, Operand)>,
-    ty: ValueType,
+    ty: ScalarType,
     operand: Boxed<Operand>,
 ) -> Result<Indices, NoMemory>
     ensures { IfOk result (λ indices. indices ≡ record { found = found ++ (ty, operand) ∷ []; ended = false }) }
@@ -120,7 +120,7 @@ fn with_index(
 fn index(tokens: &mut Tokens<'_>, form: Form, found: List<(Ty, Operand)>) -> Result<Indices, Cause>
     ensures { Gives (run (spec.index_by form found Symbol.IntType) tokens.old) result tokens.new }
 {
-    let ty = ValueType::int(index_width(tokens, found.as_slice().len())?);
+    let ty = ScalarType::int(index_width(tokens, found.as_slice().len())?);
     let operand = value(tokens, form, ty)?;
     Ok(with_index(found, ty, operand)?)
 }
@@ -165,7 +165,7 @@ impl Turn for IndexTurn {
     }
 }
 
-/// A `getelementptr`. The one error is running out of memory.
+/// A `getelementptr`.
 fn step_of(
     alloc: Global,
     ty: Boxed<Ty>,
@@ -253,7 +253,7 @@ impl Turn for CountTurn {
     }
 }
 
-/// An `alloca` of one item, which is counted by an `i32`. The one error is running out of memory.
+/// An `alloca` of one item, which is counted by an `i32`.
 fn alloca_of_one(alloc: Global, ty: Boxed<Ty>) -> Result<Boxed<Op>, NoMemory>
     ensures { IfOk result (λ o. o ≡ spec.alloca_of ty []) }
 {
@@ -267,7 +267,7 @@ fn alloca_of_one(alloc: Global, ty: Boxed<Ty>) -> Result<Boxed<Op>, NoMemory>
     )
 }
 
-/// An `alloca` with this count and its type. The one error is running out of memory.
+/// An `alloca` with this count and its type.
 fn alloca_counted(
     alloc: Global,
     ty: Boxed<Ty>,
@@ -286,8 +286,7 @@ fn alloca_counted(
     )
 }
 
-/// An `alloca` with the count that was written, or else with `i32 1`. At most one count is found. The one error is running out of
-/// memory.
+/// An `alloca` with the count that was written, or else with `i32 1`. At most one count is found.
 fn alloca_of(
     alloc: Global,
     ty: Boxed<Ty>,

@@ -1,4 +1,4 @@
 pub mod Reading
 pub mod TypeNames
 pub mod Globals
-pub mod Behind
+pub mod After

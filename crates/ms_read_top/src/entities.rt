@@ -10,11 +10,11 @@ use crate::function_entities::{declaration_entity, function_entity};
 use crate::other_entities::other_entity;
 use ms_ir::Form;
 use ms_read_cursor::Tokens;
-use ms_text_grammar::{Cause, Parts, Symbol};
+use ms_text_grammar::{Cause, ModuleSoFar, Symbol};
 
 /// Reads an entity, which the next token begins, and adds it to the parts.
 #[tactic(auto, unfolding(ms_text_grammar::specs::Modules::entity))]
-pub fn entity(tokens: &mut Tokens<'_>, form: Form, parts: &mut Parts) -> Result<(), Cause>
+pub fn entity(tokens: &mut Tokens<'_>, form: Form, parts: &mut ModuleSoFar) -> Result<(), Cause>
     requires begins { spec.entity_begins form parts.old (front tokens.old) ≡ Ok true }
     requires few { parts.old.count ≤ max_instructions form }
     ensures exact { Leaves (run (spec.entity form parts.old (front tokens.old)) (tail tokens.old)) result parts.new tokens.new }

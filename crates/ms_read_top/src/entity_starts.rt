@@ -5,7 +5,7 @@ ghost use Rattle.ms_read_cursor.specs.Reading.{Judges, front};
 
 use ms_ir::{Form, Module};
 use ms_read_cursor::{Tokens, local_by, name_fits, reserved_global};
-use ms_text_grammar::{Cause, Limit, Parts, Symbol};
+use ms_text_grammar::{Cause, Limit, ModuleSoFar, Symbol};
 
 /// Functions and declarations of a module together.
 const MAX_FUNCTIONS: usize = 16384;
@@ -52,7 +52,7 @@ fn global_begins(tokens: &Tokens<'_>, form: Form, before: &Module) -> Result<boo
 /// - `Limit(Functions)` at `define` or `declare`, and `Limit(Globals)` at a global's name, where there is no room.
 /// - `Limit(Name)` at a name of more than 1024 bytes.
 #[tactic(auto, unfolding(ms_text_grammar::specs::Modules::entity_begins))]
-pub fn entity_begins(tokens: &Tokens<'_>, form: Form, parts: &Parts) -> Result<bool, Cause>
+pub fn entity_begins(tokens: &Tokens<'_>, form: Form, parts: &ModuleSoFar) -> Result<bool, Cause>
     ensures { Judges (spec.entity_begins form parts.now (front tokens.now)) result }
 {
     match tokens.peek() {

@@ -7,12 +7,12 @@ ghost use Rattle.ms_text_grammar.specs.Functions.{declaration as declaration_pie
 ghost use Rattle.ms_text_grammar.specs.Modules as spec;
 ghost use Rattle.ms_read_cursor.specs.Reading.{Leaves, run};
 
-use crate::additions::add_declaration;
+use crate::module_state::add_declaration;
 use ms_bits::NoMemory;
 use ms_ir::{Block, Form, Func};
 use ms_read_body::{declaration, function};
 use ms_read_cursor::{Tokens, push};
-use ms_text_grammar::{Cause, Parts};
+use ms_text_grammar::{Cause, ModuleSoFar};
 use std::alloc::Global;
 
 /// How many instructions these blocks have.
@@ -22,15 +22,15 @@ fn instructions_of(blocks: &[Block]) -> u32
 {
     let mut rest = blocks;
     let mut count = 0;
-    'counted: while let [block, behind @ ..] = rest {
+    'counted: while let [block, after @ ..] = rest {
         count += block.insts.as_slice().len() as u32;
-        rest = behind;
+        rest = after;
     }
     count
 }
 
-/// Adds a function, with its instructions. The one error is running out of memory.
-fn add_function(alloc: Global, parts: &mut Parts, found: Func) -> Result<(), NoMemory>
+/// Adds a function, with its instructions.
+fn add_function(alloc: Global, parts: &mut ModuleSoFar, found: Func) -> Result<(), NoMemory>
     requires { parts.old.count + spec.instructions_of found.blocks ≤ 2 ^ 22 }
     ensures { IfOk result (λ _. parts.new ≡ spec.with_function parts.old found) }
 {
@@ -40,7 +40,11 @@ fn add_function(alloc: Global, parts: &mut Parts, found: Func) -> Result<(), NoM
 
 /// Reads a function after `define`, and adds it to the parts.
 #[tactic(auto, using(crate::proofs::Few::function_few, crate::proofs::Few::most))]
-pub fn function_entity(tokens: &mut Tokens<'_>, form: Form, parts: &mut Parts) -> Result<(), Cause>
+pub fn function_entity(
+    tokens: &mut Tokens<'_>,
+    form: Form,
+    parts: &mut ModuleSoFar,
+) -> Result<(), Cause>
     requires { parts.old.count ≤ max_instructions form }
     ensures exact { Leaves (run (seq (function_piece form parts.old.count) (λ f. give (spec.with_function parts.old f))) tokens.old) result parts.new tokens.new }
     ensures few { IfOk result (λ _. parts.new.count ≤ max_instructions form) }
@@ -53,7 +57,7 @@ pub fn function_entity(tokens: &mut Tokens<'_>, form: Form, parts: &mut Parts) -
 pub fn declaration_entity(
     tokens: &mut Tokens<'_>,
     form: Form,
-    parts: &mut Parts,
+    parts: &mut ModuleSoFar,
 ) -> Result<(), Cause>
     ensures exact { Leaves (run (seq (declaration_piece form) (λ d. give (spec.with_declaration parts.old d))) tokens.old) result parts.new tokens.new }
     ensures count { IfOk result (λ _. parts.new.count ≡ parts.old.count) }

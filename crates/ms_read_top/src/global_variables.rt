@@ -114,7 +114,7 @@ fn boxed_init(tokens: &mut Tokens<'_>, form: Form, ty: &Ty) -> Result<Boxed<Init
     Ok(Boxed::new(tokens.alloc(), init)?)
 }
 
-/// The global of the name that a token is. The one error is running out of memory.
+/// The global of the name that a token is.
 fn global_of(
     alloc: Global,
     name: &Lexeme<'_>,

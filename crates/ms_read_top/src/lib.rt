@@ -1,7 +1,6 @@
 //! The reader of whole texts, exact against the grammar of modules.
 #![tactic(auto)]
 
-mod additions;
 mod answers;
 mod entities;
 mod entity_starts;
@@ -9,6 +8,7 @@ mod function_entities;
 mod global_variables;
 mod left_out;
 mod metadata_nodes;
+mod module_state;
 mod modules;
 mod named_types;
 mod other_entities;

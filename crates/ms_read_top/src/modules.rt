@@ -5,18 +5,18 @@ ghost use Rattle.ms_lex.specs.Grammar.{loop};
 ghost use Rattle.ms_text_grammar.specs.Bodies.{max_instructions};
 ghost use Rattle.ms_text_grammar.specs.Modules as spec;
 ghost use Rattle.ms_read_cursor.specs.Reading.{Gives, Judges, Leaves, run};
-ghost use Rattle.ms_read_top.specs.Behind as behind;
+ghost use Rattle.ms_read_top.specs.After as after;
 
 use crate::entities::entity;
 use crate::entity_starts::entity_begins;
 use ms_bits::List;
 use ms_ir::{Form, Module};
 use ms_read_cursor::{Lexeme, Tokens};
-use ms_text_grammar::{Cause, Parts, Symbol};
+use ms_text_grammar::{Cause, ModuleSoFar, Symbol};
 use std::alloc::Global;
 
 /// Before the first entity.
-pub fn no_parts(alloc: Global) -> Parts
+pub fn no_parts(alloc: Global) -> ModuleSoFar
     ensures { result ≡ spec.no_parts }
 {
     let module = Module {
@@ -25,12 +25,12 @@ pub fn no_parts(alloc: Global) -> Parts
         decls: List::from_vec(Vec::new(alloc)),
         funcs: List::from_vec(Vec::new(alloc)),
     };
-    Parts { module, count: 0 }
+    ModuleSoFar { module, count: 0 }
 }
 
 /// Reads entity after entity, as long as the next token begins one, and adds them to the parts.
 #[tactic(auto, using(ms_lex::proofs::Loops::loop_goes, ms_lex::proofs::Loops::loop_ends, ms_lex::proofs::Loops::loop_stops, ms_lex::proofs::Loops::loop_moves, ms_lex::proofs::Loops::loop_all))]
-fn entities(tokens: &mut Tokens<'_>, form: Form, parts: &mut Parts) -> Result<(), Cause>
+fn entities(tokens: &mut Tokens<'_>, form: Form, parts: &mut ModuleSoFar) -> Result<(), Cause>
     requires { parts.old.count ≤ max_instructions form }
     ensures { Leaves (run (loop (spec.entity_begins form) (spec.entity form) parts.old) tokens.old) result parts.new tokens.new }
 {
@@ -55,8 +55,8 @@ fn end_of(token: &Lexeme<'_>) -> Result<(), Cause>
 }
 
 /// Gives the module of these parts, where the text ends.
-fn ended(tokens: &Tokens<'_>, parts: Parts) -> Result<Module, Cause>
-    ensures { Gives (run (behind.ended parts) tokens.now) result tokens.now }
+fn ended(tokens: &Tokens<'_>, parts: ModuleSoFar) -> Result<Module, Cause>
+    ensures { Gives (run (after.ended parts) tokens.now) result tokens.now }
 {
     end_of(&tokens.lexeme())?;
     Ok(parts.module)

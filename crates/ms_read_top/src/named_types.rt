@@ -2,7 +2,7 @@
 
 ghost use Rattle.ms_text_grammar.specs.Modules as spec;
 ghost use Rattle.ms_read_cursor.specs.Reading.{Gives, run};
-ghost use Rattle.ms_read_top.specs.Behind as behind;
+ghost use Rattle.ms_read_top.specs.After as after;
 
 use ms_bits::Boxed;
 use ms_ir::{Form, Name, Ty};
@@ -12,7 +12,7 @@ use ms_text_grammar::{Cause, Symbol};
 
 /// Reads the struct that a type of this name is, after `type`.
 fn named_struct(tokens: &mut Tokens<'_>, form: Form, name: Name) -> Result<Boxed<(Name, Ty)>, Cause>
-    ensures { Gives (run (behind.named_struct form name) tokens.old) result tokens.new }
+    ensures { Gives (run (after.named_struct form name) tokens.old) result tokens.new }
 {
     let ty = struct_type(tokens, form)?;
     Ok(Boxed::new(tokens.alloc(), (name, ty))?)

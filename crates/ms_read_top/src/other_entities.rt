@@ -6,17 +6,17 @@ ghost use Rattle.ms_text_grammar.specs.{Lexemes.{name_in}, Steps.{judge_map}};
 ghost use Rattle.ms_text_grammar.specs.Modules as spec;
 ghost use Rattle.ms_text_grammar.specs.Names as names;
 ghost use Rattle.ms_read_cursor.specs.Reading.{Gives, Judges, Leaves, run};
-ghost use Rattle.ms_read_top.specs.Behind as behind;
+ghost use Rattle.ms_read_top.specs.After as after;
 ghost use Rattle.ms_read_top.specs.TypeNames.{type_name as name_of_type};
 
-use crate::additions::{add_global, add_type};
 use crate::global_variables::global_variable;
 use crate::left_out::{source_filename, target_entity};
 use crate::metadata_nodes::{attribute_group, metadata_entity};
+use crate::module_state::{add_global, add_type};
 use crate::named_types::named_type;
 use ms_ir::{Form, Name};
 use ms_read_cursor::{Lexeme, Tokens, local_by};
-use ms_text_grammar::{Cause, Parts, Symbol};
+use ms_text_grammar::{Cause, ModuleSoFar, Symbol};
 use std::alloc::Global;
 
 /// The name of a type that a token is, which may stand. The one error is running out of memory.
@@ -32,7 +32,7 @@ fn type_name(alloc: Global, form: Form, token: &Lexeme<'_>) -> Result<Name, Caus
 fn type_entity(
     tokens: &mut Tokens<'_>,
     form: Form,
-    parts: &mut Parts,
+    parts: &mut ModuleSoFar,
     name: &Lexeme<'_>,
 ) -> Result<(), Cause>
     requires { judge_map (λ n. true) (names.local_by form name.now.symbol name.now) ≡ Ok true }
@@ -48,7 +48,7 @@ fn type_entity(
 fn global_entity(
     tokens: &mut Tokens<'_>,
     form: Form,
-    parts: &mut Parts,
+    parts: &mut ModuleSoFar,
     name: &Lexeme<'_>,
 ) -> Result<(), Cause>
     ensures exact { Leaves (run (seq (spec.global_variable form (Name.Text (name_in name.now))) (λ g. give (spec.with_global parts.old g))) tokens.old) result parts.new tokens.new }
@@ -60,7 +60,7 @@ fn global_entity(
 
 /// Reads what says nothing of a module's values, after its word: its source, its target or a group of attributes.
 fn heading(tokens: &mut Tokens<'_>, form: Form, word: Symbol) -> Result<(), Cause>
-    ensures { Gives (run (behind.heading form word) tokens.old) result tokens.new }
+    ensures { Gives (run (after.heading form word) tokens.old) result tokens.new }
 {
     match word {
         Symbol::SourceFilename => source_filename(tokens),
@@ -80,7 +80,7 @@ fn heading(tokens: &mut Tokens<'_>, form: Form, word: Symbol) -> Result<(), Caus
 pub fn other_entity(
     tokens: &mut Tokens<'_>,
     form: Form,
-    parts: &mut Parts,
+    parts: &mut ModuleSoFar,
     first: &Lexeme<'_>,
 ) -> Result<(), Cause>
     requires begins { spec.entity_begins form parts.old first.now ≡ Ok true }

@@ -1,6 +1,6 @@
 -- The type of a value by the width of an integer type.
 use Rattle.std.proofs.Common.{◌≡◌, ℕ, Option, Some, None, refl, ap}
-use Rattle.ms_read_values.specs.declared.value_types.ValueType.TheInside.{Inside}
+use Rattle.ms_read_values.specs.declared.value_types.ScalarType.TheInside.{Inside}
 use Rattle.ms_ir.specs.declared.syntax.Ty.{Ty, Int}
 use Rattle.ms_ir.specs.declared.syntax.Ty.TheVariants as ty
 

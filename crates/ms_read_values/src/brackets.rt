@@ -3,7 +3,7 @@
 ghost use Rattle.ms_text_grammar.specs.Skipped as spec;
 ghost use Rattle.ms_read_cursor.specs.Reading.{Gives, Judges, run};
 
-use crate::awaited::{Awaited, is_closer};
+use crate::open_brackets::{Awaited, is_closer};
 use ms_ir::Form;
 use ms_read_cursor::{Lexeme, Tokens, Turn, global_name, local_name, repeat};
 use ms_text_grammar::{Cause, Symbol};

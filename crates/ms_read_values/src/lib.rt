@@ -5,12 +5,12 @@
 
 mod attribute_lists;
 mod attribute_words;
-mod awaited;
 mod brackets;
 mod inits;
 mod metadata;
 mod numbers;
 mod offsets;
+mod open_brackets;
 mod operations;
 mod suffix_lists;
 mod types;
@@ -30,5 +30,5 @@ pub use types::{
     boxed_type, int_type, int_type_of, packed_brace, result_type, struct_type, type_to, value_type,
     value_type_of,
 };
-pub use value_types::{ValueType, result_ty};
+pub use value_types::{ScalarType, result_ty};
 pub use values::{operand, value};

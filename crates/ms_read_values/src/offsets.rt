@@ -124,7 +124,7 @@ fn constant_indices(tokens: &mut Tokens<'_>) -> Result<List<(Ty, u64)>, Cause>
 /// A global, and the steps that lead on from it, the outermost first.
 type Stepped = (Boxed<Name>, List<(Ty, List<(Ty, u64)>)>);
 
-/// An address with one step more around the others. The one error is running out of memory.
+/// An address with one step more around the others.
 fn around(address: Stepped, ty: Ty, indices: List<(Ty, u64)>) -> Result<Stepped, NoMemory>
     ensures { IfOk result (λ a. a ≡ (address.0, (ty, indices) ∷ address.1)) }
 {

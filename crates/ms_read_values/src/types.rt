@@ -7,7 +7,7 @@ ghost use Rattle.ms_read_cursor.specs.{Lists.{further_items}, Reading.{Gives, Ju
 ghost use Rattle.ms_read_values.specs.Narrow.{IsWidth};
 ghost use Rattle.ms_read_values.specs.Rests as rest;
 
-use crate::value_types::ValueType;
+use crate::value_types::ScalarType;
 use ms_bits::{Boxed, List};
 use ms_ir::{Form, Ty};
 use ms_read_cursor::{Lexeme, Tokens, local, same_symbol, single, with_last};
@@ -41,12 +41,12 @@ pub fn int_type(tokens: &mut Tokens<'_>) -> Result<u8, Cause>
 /// # Errors
 ///
 /// `Outside(AggregateValue)` where it begins an array or a struct or names a type.
-pub fn value_type_of(token: &Lexeme<'_>) -> Result<ValueType, Cause>
+pub fn value_type_of(token: &Lexeme<'_>) -> Result<ScalarType, Cause>
     ensures { Judges (spec.value_type_by token.now.symbol token.now) result }
 {
     match token.symbol() {
-        Symbol::PtrType => Ok(ValueType::ptr()),
-        Symbol::IntType => Ok(ValueType::int(token.width())),
+        Symbol::PtrType => Ok(ScalarType::ptr()),
+        Symbol::IntType => Ok(ScalarType::int(token.width())),
         Symbol::OpenBracket
         | Symbol::OpenBrace
         | Symbol::Less
@@ -58,7 +58,7 @@ pub fn value_type_of(token: &Lexeme<'_>) -> Result<ValueType, Cause>
 
 /// Takes the type of a value: `iN` or `ptr`.
 #[tactic(auto, unfolding(ms_text_grammar::specs::Types::value_type))]
-pub fn value_type(tokens: &mut Tokens<'_>) -> Result<ValueType, Cause>
+pub fn value_type(tokens: &mut Tokens<'_>) -> Result<ScalarType, Cause>
     ensures { Gives (run spec.value_type tokens.old) result tokens.new }
 {
     let ty = value_type_of(&tokens.lexeme())?;
@@ -68,7 +68,7 @@ pub fn value_type(tokens: &mut Tokens<'_>) -> Result<ValueType, Cause>
 
 /// Takes `void`, which is no type, or the type of a value.
 #[tactic(auto, unfolding(ms_text_grammar::specs::Types::result_type))]
-pub fn result_type(tokens: &mut Tokens<'_>) -> Result<Option<ValueType>, Cause>
+pub fn result_type(tokens: &mut Tokens<'_>) -> Result<Option<ScalarType>, Cause>
     ensures { Gives (run spec.result_type tokens.old) result tokens.new }
 {
     match tokens.peek() {

@@ -8,12 +8,12 @@ use std::marker::Model;
 /// The type of a value: `iN` or `ptr`. It holds no memory, so that a reader that gives up has nothing to let go. Contracts
 /// see the type itself.
 #[derive(Clone, Copy)]
-pub struct ValueType {
+pub struct ScalarType {
     /// The width of `iN` in bits. `ptr` has none.
     width: Option<u8>,
 }
 
-impl Model for ValueType {
+impl Model for ScalarType {
     ghost use Rattle.ms_ir.specs.declared.syntax.Ty.{Ty as Typed};
     ghost use Rattle.ms_ir.specs.contracts.syntax.Ty as ty;
     ghost use Rattle.std.specs.Coded.{codes};
@@ -32,7 +32,7 @@ impl Model for ValueType {
 }
 
 /// The type of a result as a part of a module; `void` is none.
-pub fn result_ty(ty: Option<ValueType>) -> Option<Ty>
+pub fn result_ty(ty: Option<ScalarType>) -> Option<Ty>
     ensures { result ≡ ty }
 {
     match ty {
@@ -41,19 +41,19 @@ pub fn result_ty(ty: Option<ValueType>) -> Option<Ty>
     }
 }
 
-impl ValueType {
+impl ScalarType {
     /// `iN` by its width in bits.
-    pub fn int(width: u8) -> ValueType
+    pub fn int(width: u8) -> ScalarType
         ensures { result ≡ Ty.Int width }
     {
-        ValueType { width: Some(width) }
+        ScalarType { width: Some(width) }
     }
 
     /// `ptr`.
-    pub fn ptr() -> ValueType
+    pub fn ptr() -> ScalarType
         ensures { result ≡ Ty.Ptr }
     {
-        ValueType { width: None }
+        ScalarType { width: None }
     }
 
     /// The width of `iN` in bits. `ptr` has none.

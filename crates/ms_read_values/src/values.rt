@@ -8,7 +8,7 @@ ghost use Rattle.ms_read_cursor.specs.Reading.{Gives, Judges, run};
 use crate::numbers::number_by;
 use crate::offsets::offset;
 use crate::operations::begins_expression;
-use crate::value_types::ValueType;
+use crate::value_types::ScalarType;
 use ms_bits::Boxed;
 use ms_ir::{Form, Operand, Ty};
 use ms_read_cursor::{Lexeme, Tokens, global_by, local_by};
@@ -167,7 +167,7 @@ fn boxed_operand(tokens: &mut Tokens<'_>, form: Form, ty: &Ty) -> Result<Boxed<O
 }
 
 /// Takes an operand of an instruction, after its type.
-pub fn value(tokens: &mut Tokens<'_>, form: Form, ty: ValueType) -> Result<Boxed<Operand>, Cause>
+pub fn value(tokens: &mut Tokens<'_>, form: Form, ty: ScalarType) -> Result<Boxed<Operand>, Cause>
     ensures { Gives (run (spec.value form ty) tokens.old) result tokens.new }
 {
     boxed_operand(tokens, form, &ty.ty())

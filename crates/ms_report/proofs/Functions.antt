@@ -16,7 +16,7 @@ use Rattle.ms_report.specs.RunTexts.{sites_of, function_after, function_of}
 
 -- ---- with a place
 
--- the function with a number has the sites behind those of the functions before it
+-- the function with a number has the sites after those of the functions before it
 after_found : (fs : List Func) (i k n : ℕ) (f : Func) → slice_get fs i ≡ Some f → k < sites_of f → n ≡ over_funcs one_unmarked (take i fs) + k
     → function_after fs n ≡ Some f.name
 after_found [] i k n f here within is = absurd (none-some f here)
@@ -65,20 +65,20 @@ record SomeFunc (funcs : List Func) (n : ℕ) : Type 0 where
   left : ℕ
   found : FoundFunc funcs n index left
 
--- behind one more instruction
-behind_one : (x : Inst) (rest : List Inst) (k n : ℕ) → n ≡ one_unmarked x + k → SomeInst rest k → SomeInst (x ∷ rest) n
-behind_one x rest k n is r =
+-- after one more instruction
+after_one : (x : Inst) (rest : List Inst) (k n : ℕ) → n ≡ one_unmarked x + k → SomeInst rest k → SomeInst (x ∷ rest) n
+after_one x rest k n is r =
     record { index = suc r.index; found = record { inst = r.found.inst; here = r.found.here; unmarked = r.found.unmarked; before = omega (arith, is, r.found.before) } }
 
 by_mark : (x : Inst) (rest : List Inst) (n : ℕ) → n < over_insts one_unmarked (x ∷ rest) → ((k : ℕ) → k < over_insts one_unmarked rest → SomeInst rest k)
     → (b : Bool) → x.marked ≡ b → SomeInst (x ∷ rest) n
 by_mark x rest n l more true h =
     let none : one_unmarked x ≡ 0 = ap (λ b. if b then 0 else 1) h in
-    behind_one x rest n n (omega (arith, none)) (more n (omega (arith, l, none)))
+    after_one x rest n n (omega (arith, none)) (more n (omega (arith, l, none)))
 by_mark x rest zero l more false h = record { index = 0; found = record { inst = x; here = refl; unmarked = h; before = refl } }
 by_mark x rest (suc n) l more false h =
     let one : one_unmarked x ≡ 1 = ap (λ b. if b then 0 else 1) h in
-    behind_one x rest n (suc n) (omega (arith, one)) (more n (omega (arith, l, one)))
+    after_one x rest n (suc n) (omega (arith, one)) (more n (omega (arith, l, one)))
 
 -- below the number of unmarked instructions, each number is one's
 some_inst : (insts : List Inst) (n : ℕ) → n < over_insts one_unmarked insts → SomeInst insts n
@@ -89,18 +89,18 @@ some_block : (blocks : List Block) (n : ℕ) → n < over_blocks one_unmarked bl
 some_block [] n l = absurd (omega (arith, l))
 some_block (b ∷ rest) n l = elim (cases_lt n (over_insts one_unmarked b.insts)) [
   | inl here ↦ record { index = 0; left = n; found = record { block = b; here = refl; before = omega arith; within = here } }
-  | inr behind ↦
-      let r = some_block rest (n - over_insts one_unmarked b.insts) (omega (arith, l, behind)) in
-      record { index = suc r.index; left = r.left; found = record { block = r.found.block; here = r.found.here; before = omega (arith, behind, r.found.before); within = r.found.within } }
+  | inr after ↦
+      let r = some_block rest (n - over_insts one_unmarked b.insts) (omega (arith, l, after)) in
+      record { index = suc r.index; left = r.left; found = record { block = r.found.block; here = r.found.here; before = omega (arith, after, r.found.before); within = r.found.within } }
 ]
 
 some_func : (funcs : List Func) (n : ℕ) → n < over_funcs one_unmarked funcs → SomeFunc funcs n
 some_func [] n l = absurd (omega (arith, l))
 some_func (f ∷ rest) n l = elim (cases_lt n (over_blocks one_unmarked f.blocks)) [
   | inl here ↦ record { index = 0; left = n; found = record { func = f; here = refl; before = omega arith; within = here } }
-  | inr behind ↦
-      let r = some_func rest (n - over_blocks one_unmarked f.blocks) (omega (arith, l, behind)) in
-      record { index = suc r.index; left = r.left; found = record { func = r.found.func; here = r.found.here; before = omega (arith, behind, r.found.before); within = r.found.within } }
+  | inr after ↦
+      let r = some_func rest (n - over_blocks one_unmarked f.blocks) (omega (arith, l, after)) in
+      record { index = suc r.index; left = r.left; found = record { func = r.found.func; here = r.found.here; before = omega (arith, after, r.found.before); within = r.found.within } }
 ]
 
 -- each site that is counted has a place
@@ -122,7 +122,7 @@ some_place m n l =
           (subst (λ l. FoundInst l b.left i.index) (sym is) i.found);
     }
 
--- behind the sites of all functions none has one
+-- after the sites of all functions none has one
 after_none : (fs : List Func) (n : ℕ) → over_funcs one_unmarked fs ≤ n → function_after fs n ≡ None
 after_none [] n h = refl
 after_none (f ∷ fs) n h = rw (le-ltb n (sites_of f) (omega (arith, h))) (after_none fs (n - sites_of f) (omega (arith, h)))

@@ -3,7 +3,7 @@ use Rattle.std.proofs.Common.{◌≡◌, ◌∙◌, ◌++◌, ◌||◌, ℕ, Boo
 use Rattle.std.specs.Prelude.{not, nat_eq, flat_map}
 use Rattle.std.specs.List.{list_any, list_all, starts_with}
 use Rattle.std.proofs.lemmas.Bool.{and_parts}
-use Rattle.ms_places.specs.Indented.{is_newline, has_no_newline, indented, IsIndented, in_front, lines_of, unless_indented, unindented}
+use Rattle.ms_where_places.specs.Indented.{is_newline, has_no_newline, indented, IsIndented, in_front, lines_of, unless_indented, unindented}
 use Rattle.ms_report.specs.WithLines.{Lines, under_line}
 use Rattle.ms_report.proofs.Singles.{Single, literal, joined}
 

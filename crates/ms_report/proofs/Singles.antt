@@ -28,8 +28,8 @@ use Rattle.ms_runs.specs.declared.runs.Origin.{Origin}
 use Rattle.ms_runs.specs.declared.runs.Origin.TheVariants as origin
 use Rattle.ms_runs.specs.declared.runs.Report.{Report}
 use Rattle.ms_runs.specs.Verdict.{Verdict, Poisoned, Unsure, Clean}
-use Rattle.ms_text_layout.specs.Names.{is_printed, hexadecimal_digit, string_byte, quoted, is_plain, name_text}
-use Rattle.ms_places.specs.Indented.{is_newline, has_no_newline}
+use Rattle.ms_text_grammar.specs.LayoutNames.{is_printed, hexadecimal_digit, string_byte, quoted, is_plain, name_text}
+use Rattle.ms_where_places.specs.Indented.{is_newline, has_no_newline}
 use Rattle.ms_report.specs.RunTexts.{trap_name, function_of, function_text, site_text, end_text, verdict_text}
 use Rattle.ms_report.specs.ReportTexts.{hexadecimal, kind_text, root_name, root_text, origin_text, use_text, bits_text}
 use Rattle.ms_report.specs.FaultTexts.{signed, at_site, spaced}

@@ -5,8 +5,8 @@ use Rattle.ms_ir.specs.declared.syntax.Func.{Func}
 use Rattle.ms_ir.specs.declared.syntax.Module.{Module}
 use Rattle.ms_ir.specs.Instructions.{one_unmarked, over_funcs}
 use Rattle.ms_ir.specs.Places.{count_sites}
-use Rattle.ms_valid.specs.Formed.{Formed}
-use Rattle.ms_valid.proofs.SmallNumbers.{small_numbers}
+use Rattle.ms_check_valid.specs.Formed.{Formed}
+use Rattle.ms_check_valid.proofs.SmallNumbers.{small_numbers}
 use Rattle.ms_report.specs.RunTexts.{line}
 
 below : (k : ℕ) → 1 + k < 2 ^ 32 → min k (2 ^ 32 - 1) ≡ k

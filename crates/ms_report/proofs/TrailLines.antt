@@ -3,14 +3,14 @@ use Rattle.std.proofs.Common.{◌≡◌, ◌+◌, ◌^◌, ◌++◌, ℕ, List, 
 use Rattle.std.specs.Prelude.{◌%◌, slice_get}
 use Rattle.ms_ir.specs.declared.syntax.Name.{Name}
 use Rattle.ms_ir.specs.declared.syntax.Module.{Module}
-use Rattle.ms_moves.specs.declared.moves.Source.{Source}
-use Rattle.ms_moves.specs.declared.moves.Source.TheVariants.{Root, Value, Byte}
-use Rattle.ms_moves.specs.declared.moves.Target.{Target}
-use Rattle.ms_moves.specs.declared.moves.Target.TheVariants as target
-use Rattle.ms_moves.specs.declared.moves.Move.{Move}
-use Rattle.ms_moves.specs.declared.moves.Hop.{Hop}
-use Rattle.ms_moves.specs.Leads.{came_from}
-use Rattle.ms_places.specs.Indented.{IsIndented, unindented}
+use Rattle.ms_trail_moves.specs.declared.moves.Source.{Source}
+use Rattle.ms_trail_moves.specs.declared.moves.Source.TheVariants.{Root, Value, Byte}
+use Rattle.ms_trail_moves.specs.declared.moves.Target.{Target}
+use Rattle.ms_trail_moves.specs.declared.moves.Target.TheVariants as target
+use Rattle.ms_trail_moves.specs.declared.moves.Move.{Move}
+use Rattle.ms_trail_moves.specs.declared.moves.Hop.{Hop}
+use Rattle.ms_trail_moves.specs.Leads.{came_from}
+use Rattle.ms_where_places.specs.Indented.{IsIndented, unindented}
 use Rattle.ms_report.specs.RunTexts.{function_of}
 use Rattle.ms_report.specs.WithLines.{Lines, no_lines}
 use Rattle.ms_report.specs.TrailTexts.{value_text, byte_text, source_text, target_text, way_text, move_text, move_line, hop_with, hops_with, use_line, trail_with}

@@ -10,9 +10,9 @@ use Rattle.ms_runs.specs.declared.runs.Origin.{Origin}
 use Rattle.ms_runs.specs.declared.runs.Report.{Report}
 use Rattle.ms_runs.specs.declared.runs.RunResult.{RunResult}
 use Rattle.ms_runs.specs.Verdict.{verdict_of}
-use Rattle.ms_valid.specs.Refusals.{Fault, Duplicate, Unknown, TypeMismatch, BadPhi, NoMain, BadExternal, Undefined, BadMark, BadSize}
+use Rattle.ms_check_valid.specs.Refusals.{Fault, Duplicate, Unknown, TypeMismatch, BadPhi, NoMain, BadExternal, Undefined, BadMark, BadSize}
 use Rattle.ms_check.specs.Faults.{fault_of}
-use Rattle.ms_places.specs.Indented.{IsIndented, unindented}
+use Rattle.ms_where_places.specs.Indented.{IsIndented, unindented}
 use Rattle.ms_report.specs.declared.refusals.Refusal.{Refusal}
 use Rattle.ms_report.specs.declared.refusals.Refusal.TheVariants.{Read, Check}
 use Rattle.ms_report.specs.RunTexts.{line, end_text, verdict_text, verdict_line, closing_of}

@@ -1,8 +1,8 @@
 -- The lines of modules that aren't valid, as bytes: the number of the cause, what it is, and where.
 use Rattle.std.specs.Prelude.{ℕ, true, Option, Some, None, List, [], ◌++◌, flat_map, if◌then◌else◌, codes, decimal}
 use Rattle.ms_ir.specs.Locals.{Spelled}
-use Rattle.ms_valid.specs.Refusals.{Fault, Duplicate, Unknown, TypeMismatch, BadPhi, NoMain, BadExternal, Undefined, BadMark, BadSize}
-use Rattle.ms_text_layout.specs.Names.{name_text}
+use Rattle.ms_check_valid.specs.Refusals.{Fault, Duplicate, Unknown, TypeMismatch, BadPhi, NoMain, BadExternal, Undefined, BadMark, BadSize}
+use Rattle.ms_text_grammar.specs.LayoutNames.{name_text}
 
 -- the line of a refusal with a number
 abbrev pub refused_line : ℕ → List ℕ → List ℕ

@@ -10,7 +10,7 @@ use Rattle.ms_runs.specs.declared.runs.End.TheVariants as ends
 use Rattle.ms_runs.specs.declared.runs.RunResult.{RunResult}
 use Rattle.ms_ir.specs.Instructions.{one_unmarked, over_blocks}
 use Rattle.ms_runs.specs.Verdict.{Verdict, Poisoned, Unsure, Clean, verdict_of}
-use Rattle.ms_text_layout.specs.Names.{name_text}
+use Rattle.ms_text_grammar.specs.LayoutNames.{name_text}
 
 abbrev pub trap_name : Trap → List ℕ
 trap_name trap.Shift = codes "shift"

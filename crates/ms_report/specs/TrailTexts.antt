@@ -2,14 +2,14 @@
 use Rattle.std.specs.Prelude.{ℕ, ◌+◌, ◌%◌, ◌^◌, List, [], ◌∷◌, ◌++◌, Option, Some, None, slice_get, codes, decimal}
 use Rattle.ms_ir.specs.declared.syntax.Name.{Name}
 use Rattle.ms_ir.specs.declared.syntax.Module.{Module}
-use Rattle.ms_moves.specs.declared.moves.Source.{Source}
-use Rattle.ms_moves.specs.declared.moves.Source.TheVariants.{Root, Value, Byte}
-use Rattle.ms_moves.specs.declared.moves.Target.{Target}
-use Rattle.ms_moves.specs.declared.moves.Target.TheVariants as target
-use Rattle.ms_moves.specs.declared.moves.Move.{Move}
-use Rattle.ms_moves.specs.declared.moves.Hop.{Hop}
-use Rattle.ms_moves.specs.Leads.{came_from}
-use Rattle.ms_text_layout.specs.Names.{name_text}
+use Rattle.ms_trail_moves.specs.declared.moves.Source.{Source}
+use Rattle.ms_trail_moves.specs.declared.moves.Source.TheVariants.{Root, Value, Byte}
+use Rattle.ms_trail_moves.specs.declared.moves.Target.{Target}
+use Rattle.ms_trail_moves.specs.declared.moves.Target.TheVariants as target
+use Rattle.ms_trail_moves.specs.declared.moves.Move.{Move}
+use Rattle.ms_trail_moves.specs.declared.moves.Hop.{Hop}
+use Rattle.ms_trail_moves.specs.Leads.{came_from}
+use Rattle.ms_text_grammar.specs.LayoutNames.{name_text}
 use Rattle.ms_report.specs.RunTexts.{function_of, function_text}
 use Rattle.ms_report.specs.ReportTexts.{hexadecimal}
 use Rattle.ms_report.specs.WithLines.{Lines}

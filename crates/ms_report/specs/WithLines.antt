@@ -9,7 +9,7 @@ use Rattle.ms_runs.specs.declared.runs.Origin.{Origin}
 use Rattle.ms_runs.specs.declared.runs.Origin.TheVariants.{Root, Chain}
 use Rattle.ms_runs.specs.declared.runs.Report.{Report}
 use Rattle.ms_runs.specs.declared.runs.RunResult.{RunResult}
-use Rattle.ms_valid.specs.Refusals.{Fault, Unknown, TypeMismatch, BadPhi, Undefined, BadMark}
+use Rattle.ms_check_valid.specs.Refusals.{Fault, Unknown, TypeMismatch, BadPhi, Undefined, BadMark}
 use Rattle.ms_check.specs.Faults.{fault_of}
 use Rattle.ms_report.specs.declared.refusals.Refusal.{Refusal}
 use Rattle.ms_report.specs.declared.refusals.Refusal.TheVariants.{Read, Check}

@@ -1,7 +1,7 @@
 //! The closing lines of a run.
 ghost use Rattle.std.specs.Prelude.{◌≡◌, ◌++◌, IfOk, codes, decimal};
 ghost use Rattle.ms_ir.specs.Places.{HasSmallNumbers};
-ghost use Rattle.ms_valid.specs.Formed.{Formed};
+ghost use Rattle.ms_check_valid.specs.Formed.{Formed};
 ghost use Rattle.ms_runs.specs.Verdict.{verdict_of};
 ghost use Rattle.ms_report.specs.RunTexts.{end_text, verdict_text, verdict_line, line, closing_of};
 ghost use Rattle.ms_report.specs.WithLines.{end_site, closing_text_with};
@@ -107,8 +107,8 @@ fn push_closing<L: SiteLines>(
     push_verdict(text, r, verdict)
 }
 
-/// The closing lines of a run of `m`: how it ended, its number of reports, its number of blind uses, and
-/// where `verdict` is set whether it used uninitialised bits. The one error is running out of memory.
+/// The closing lines of a run of `m`: how it ended, its number of reports, its number of blind uses, and where `verdict` is
+/// set whether it used uninitialised bits.
 #[tactic(auto, using(crate::proofs::WithoutLines::closing_alone))]
 pub fn closing(alloc: Global, m: &Module, r: &RunResult, verdict: bool) -> Result<Vec<u8>, NoMemory>
     requires { Formed m.now }
@@ -118,10 +118,6 @@ pub fn closing(alloc: Global, m: &Module, r: &RunResult, verdict: bool) -> Resul
 }
 
 /// The closing lines of a run of `m`, with these lines under the site of a trap.
-///
-/// # Errors
-///
-/// `NoMemory`, where it runs out of memory.
 pub fn closing_with<L: SiteLines>(
     alloc: Global,
     m: &Module,

@@ -2,16 +2,16 @@
 ghost use Rattle.std.specs.Prelude.{◌≡◌, Bool, ℕ, List};
 ghost use Rattle.ms_ir.specs.declared.syntax.Module.{Module};
 ghost use Rattle.ms_runs.specs.declared.runs.RunResult.{RunResult};
-ghost use Rattle.ms_places.specs.Indented.{IsIndented, unindented};
+ghost use Rattle.ms_where_places.specs.Indented.{IsIndented, unindented};
 ghost use Rattle.ms_report.specs.{declared.refusals.Refusal.{Refusal}, RunTexts.{closing_of}};
 ghost use Rattle.ms_report.specs.{ReportTexts.{report_text_of}, RefusalTexts.{refusal_text}, TrailTexts.{trail_with}};
 ghost use Rattle.ms_report.specs.WithLines.{no_lines, reports_with, closing_text_with, refusal_text_with};
-ghost use Rattle.ms_moves.specs.{declared.moves.Source.{Source}, declared.moves.Move.{Move}, declared.moves.Hop.{Hop}};
+ghost use Rattle.ms_trail_moves.specs.{declared.moves.Source.{Source}, declared.moves.Move.{Move}, declared.moves.Hop.{Hop}};
 
 /// Laws: where there are no lines under any site, each text with lines is the text without. Where the lines under each site
 /// begin with four blanks, the text without is what is left once the lines that begin so are taken out: nothing else is added,
 /// and nothing is lost.
-pub fn lines_are_added()
+pub fn law_lines_are_added()
     ensures none_in_reports { (m : Module) (r : RunResult) → reports_with no_lines m 1 r.reports ≡ report_text_of m r }
     ensures none_in_closings { (m : Module) (r : RunResult) (verdict : Bool) → closing_text_with no_lines m r verdict ≡ closing_of m r verdict }
     ensures none_in_refusals { (cause : Refusal) → refusal_text_with no_lines cause ≡ refusal_text cause }

@@ -133,8 +133,8 @@ fn site_of_refusal(e: &Refusal) -> Option<u32>
 }
 
 /// The line that says why a module is refused: the number of the cause, what it is, and where. The cause isn't running out of
-/// memory; a `Refused` has a number from 4 to 8, and names a construct exactly at 5 and a limit exactly at 6. Causes that
-/// a module isn't valid have the numbers 9 to 17. The one error is running out of memory.
+/// memory; a `Refused` has a number from 4 to 8, and names a construct exactly at 5 and a limit exactly at 6. Causes that a
+/// module isn't valid have the numbers 9 to 17.
 #[tactic(auto, using(crate::proofs::WithoutLines::refusal_alone))]
 pub fn refusal_line(alloc: Global, e: &Refusal) -> Result<Vec<u8>, NoMemory>
     requires { HasLine e.now }
@@ -146,10 +146,6 @@ pub fn refusal_line(alloc: Global, e: &Refusal) -> Result<Vec<u8>, NoMemory>
 /// The line that says why a module is refused, and these lines under its site where it names one: where a name isn't
 /// defined, a type or a phi is wrong, a path reaches a use without a definition, or a mark doesn't fit. The cause isn't that
 /// memory ran out.
-///
-/// # Errors
-///
-/// `NoMemory`, where it runs out of memory.
 pub fn refusal_line_with<L: SiteLines>(
     alloc: Global,
     e: &Refusal,
@@ -165,10 +161,6 @@ pub fn refusal_line_with<L: SiteLines>(
 }
 
 /// The line that says why a command that takes no schedule refuses a module with threads.
-///
-/// # Errors
-///
-/// `NoMemory`, where it runs out of memory.
 pub fn threads_line(alloc: Global) -> Result<Vec<u8>, NoMemory>
     ensures { IfOk result (λ text. text.items ≡ threads_text) }
 {

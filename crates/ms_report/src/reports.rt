@@ -1,7 +1,7 @@
 //! The lines of a run's reports.
 ghost use Rattle.std.specs.Prelude.{◌≡◌, ◌++◌, IfOk, codes, decimal};
 ghost use Rattle.ms_ir.specs.{Places.{HasSmallNumbers}, Roots.{roots_of, root_numbered}};
-ghost use Rattle.ms_valid.specs.Formed.{Formed};
+ghost use Rattle.ms_check_valid.specs.Formed.{Formed};
 ghost use Rattle.ms_report.specs.ReportTexts.{hexadecimal, kind_text, root_text, origin_text, origin_line, earlier as earlier_of, use_text, bits_text, report_line, report_text_of};
 ghost use Rattle.ms_report.specs.WithLines.{origin_site, under_line, chain_with, origins_with, reports_with};
 
@@ -241,8 +241,8 @@ impl<L: SiteLines> Rooted<'_, L> {
     }
 }
 
-/// The lines of the reports of a run of `m`, with the way of each to its root. The one error is running out of
-/// memory. Linear in the module, the number of reports and the lengths of their ways.
+/// The lines of the reports of a run of `m`, with the way of each to its root. Linear in the module, the number of reports
+/// and the lengths of their ways.
 pub fn report_text(alloc: Global, m: &Module, r: &RunResult) -> Result<Vec<u8>, NoMemory>
     requires { Formed m.now }
     ensures { IfOk result (λ text. text.items ≡ report_text_of m.now r.now) }
@@ -252,10 +252,6 @@ pub fn report_text(alloc: Global, m: &Module, r: &RunResult) -> Result<Vec<u8>, 
 
 /// The lines of the reports of a run of `m`, with the way of each to its root, and these lines under each line that names a
 /// site. Linear as `report_text` is, beside what adding lines costs.
-///
-/// # Errors
-///
-/// `NoMemory`, where it runs out of memory.
 pub fn report_text_with<L: SiteLines>(
     alloc: Global,
     m: &Module,

@@ -10,10 +10,6 @@ pub trait SiteLines {
     ghost lines: { Self → ℕ → List ℕ };
 
     /// Adds the lines under a site.
-    ///
-    /// # Errors
-    ///
-    /// `NoMemory`, where it runs out of memory.
     fn push_lines(&self, text: &mut Vec<u8>, site: u32) -> Result<(), NoMemory>
         ensures { IfOk result (λ _. text.new.items ≡ text.old.items ++ lines self.now site) };
 }

@@ -1,7 +1,7 @@
 //! The summary of a run.
 ghost use Rattle.std.specs.Prelude.{◌≡◌, ◌++◌, true, decimal, codes, length, IfOk};
 ghost use Rattle.ms_ir.specs.Places.{count_sites};
-ghost use Rattle.ms_valid.specs.Formed.{Formed};
+ghost use Rattle.ms_check_valid.specs.Formed.{Formed};
 ghost use Rattle.ms_report.specs.{ReportTexts.{report_text_of}, RunTexts.{line, closing_of}, SummaryTexts.{summary_of}};
 
 use crate::endings::{closing, push_count};
@@ -14,10 +14,6 @@ use std::alloc::Global;
 
 /// The summary of a run of `m`: how many functions and sites `m` has and how many bytes the run put out, and then the lines of its
 /// reports and the closing lines. Linear as `report_text` and `closing` are.
-///
-/// # Errors
-///
-/// `NoMemory`, where it runs out of memory.
 pub fn summary_text(alloc: Global, m: &Module, r: &RunResult) -> Result<Vec<u8>, NoMemory>
     requires { Formed m.now }
     ensures { IfOk result (λ text. text.items ≡ summary_of m.now r.now) }

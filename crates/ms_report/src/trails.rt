@@ -1,8 +1,8 @@
 //! The lines of the way on which the bits of a report came.
 ghost use Rattle.std.specs.Prelude.{◌≡◌, ◌+◌, ◌++◌, Some as Held, slice_get, IfOk};
 ghost use Rattle.ms_ir.specs.Places.{HasSmallNumbers};
-ghost use Rattle.ms_moves.specs.Leads.{came_from};
-ghost use Rattle.ms_valid.specs.Formed.{Formed};
+ghost use Rattle.ms_trail_moves.specs.Leads.{came_from};
+ghost use Rattle.ms_check_valid.specs.Formed.{Formed};
 ghost use Rattle.ms_report.specs.TrailTexts.{value_text, byte_text, source_text, target_text, way_text, move_text, move_line, hop_with, hops_with, use_line, trail_with};
 
 use crate::reports::push_hexadecimal;
@@ -10,7 +10,7 @@ use crate::site_lines::SiteLines;
 use crate::sites::push_function_of;
 use ms_bits::NoMemory;
 use ms_ir::{Module, Name};
-use ms_moves::moves::{Hop, Move, Source, Target};
+use ms_trail_moves::moves::{Hop, Move, Source, Target};
 use ms_write_values::{push_name, push_number};
 use std::alloc::Global;
 
@@ -162,10 +162,6 @@ impl<L: SiteLines> Moved<'_, L> {
 
 /// The lines of the hops over moves of a run of `m`, with these lines under each, and the line of what the use reads to which they
 /// lead. A hop whose index is no move's has no line. Linear in the number of hops, beside what adding lines costs.
-///
-/// # Errors
-///
-/// `NoMemory`, where it runs out of memory.
 pub fn trail_text_with<L: SiteLines>(
     alloc: Global,
     m: &Module,

@@ -27,7 +27,7 @@ fn push_words(text: &mut Vec<u8>, e: &WordsFault) -> Result<(), NoMemory>
     Ok(())
 }
 
-/// The line `words: NAME at PLACE`, which says why words are no command. The one error is running out of memory.
+/// The line `words: NAME at PLACE`, which says why words are no command.
 pub fn words_line(alloc: Global, e: &WordsFault) -> Result<Vec<u8>, NoMemory>
     ensures { IfOk result (λ text. text.items ≡ words_text e.now.name.now e.now.place) }
 {

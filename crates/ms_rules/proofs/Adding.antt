@@ -2,7 +2,7 @@
 use Rattle.std.proofs.Common.{◌≡◌, List, [], ◌++◌, sym, ap, ◌∙◌, append_assoc}
 use Rattle.std.specs.Prelude.{OnOk, Result, Ok, Err}
 use Rattle.ms_ir.specs.declared.syntax.Inst.{Inst}
-use Rattle.ms_tasks.specs.Tasks.{InsertedCode, Task}
+use Rattle.ms_pass_tasks.specs.Tasks.{InsertedCode, Task}
 use Rattle.ms_rules_builder.specs.Made.{with_tasks}
 use Rattle.ms_rules.specs.Placed.{with_insts}
 use Rattle.ms_rules_tables.proofs.Tasks.{tasks_twice}

@@ -17,9 +17,9 @@ use Rattle.ms_ir.specs.declared.syntax.Operand.{Operand}
 use Rattle.ms_ir.specs.Equal.{has_name}
 use Rattle.ms_ir.specs.Names.{name_eq}
 use Rattle.ms_ir.proofs.RootKinds.{name_same as name_sound}
-use Rattle.ms_valid.proofs.NameTests.{name_same}
-use Rattle.ms_tables.specs.FirstPlace.{first_place}
-use Rattle.ms_tables.proofs.Places.{place_tells}
+use Rattle.ms_check_valid.proofs.NameTests.{name_same}
+use Rattle.ms_check_tables.specs.FirstPlace.{first_place}
+use Rattle.ms_check_tables.proofs.Places.{place_tells}
 use Rattle.ms_rules.specs.Singles.{operands_in, are_zero, is_clean, clean_names}
 
 abbrev Entry : Type 0

@@ -9,13 +9,13 @@ use Rattle.ms_ir.specs.declared.calls.External.{External}
 use Rattle.ms_ir.specs.declared.calls.External.TheVariants.{Realloc}
 use Rattle.ms_ir.specs.Instructions.{external_named, over_insts}
 use Rattle.ms_runs.specs.World.{Here}
-use Rattle.ms_valid.specs.Formed.{count_written}
-use Rattle.ms_tasks.specs.Tasks.{msan_name, inserted, Expr, Leaf, Two, Turn, Test, Pick, Task, Sets, Tries, Fetches, Puts, Calls, Last, Is, By, Half, close, closed, half, flatten, flatten_all, parts, target, last_op, set_op, plain_code, task_code, tasks_code}
-use Rattle.ms_tasks.specs.Environments.{Env, Given}
-use Rattle.ms_tasks.specs.PlaneTasks.{saved_by, saves}
-use Rattle.ms_tasks.specs.Emit.{before_tasks, after_tasks, start}
-use Rattle.ms_tasks.specs.PassLists.{emit_op}
-use Rattle.ms_instrumented_laws.proofs.Costs.{written_append}
+use Rattle.ms_check_valid.specs.Formed.{count_written}
+use Rattle.ms_pass_tasks.specs.Tasks.{msan_name, inserted, Expr, Leaf, Two, Turn, Test, Pick, Task, Sets, Tries, Fetches, Puts, Calls, Last, Is, By, Half, close, closed, half, flatten, flatten_all, parts, target, last_op, set_op, plain_code, task_code, tasks_code}
+use Rattle.ms_pass_tasks.specs.Environments.{Env, Given}
+use Rattle.ms_pass_tasks.specs.PlaneTasks.{saved_by, saves}
+use Rattle.ms_pass_tasks.specs.Emit.{before_tasks, after_tasks, start}
+use Rattle.ms_pass_tasks.specs.PassLists.{emit_op}
+use Rattle.ms_pass_form_laws.proofs.Costs.{written_append}
 
 -- code from a number on leads to another
 pub record Grows (from : ℕ) (code : List Inst) (to : ℕ) : Type 0 where

@@ -2,8 +2,8 @@
 use Rattle.std.proofs.Common.{◌≡◌, ℕ, ◌-◌, ◌<◌, ◌≤◌, ◌^◌, List, Some, length, sym, arith}
 use Rattle.std.proofs.Math.Pow.{pow_mono}
 use Rattle.ms_ir.specs.declared.syntax.Name.{Name}
-use Rattle.ms_tables.specs.FirstPlace.{first_place}
-use Rattle.ms_tables.proofs.Places.{place_below}
+use Rattle.ms_check_tables.specs.FirstPlace.{first_place}
+use Rattle.ms_check_tables.proofs.Places.{place_below}
 
 -- a number has 32 bits
 pub number_low : (names : List Name) (x : Name) (k : ℕ) → Some k ≡ first_place names x → length names ≤ 2 ^ 30 → k < 2 ^ 32

@@ -6,7 +6,7 @@ use Rattle.ms_ir.specs.declared.syntax.Ty.{Ty, Ptr}
 use Rattle.ms_ir.specs.declared.syntax.Operand.{Operand}
 use Rattle.ms_ir.specs.declared.syntax.Operand.TheVariants as constant
 use Rattle.ms_ir.specs.Instructions.{one_undef, count_undefs}
-use Rattle.ms_tasks.specs.Environments.{Env, Tracked, tracked}
+use Rattle.ms_pass_tasks.specs.Environments.{Env, Tracked, tracked}
 use Rattle.ms_rules.specs.Tracking.{tracked_one, operand_at}
 use Rattle.ms_rules.proofs.RootCounts.{one_at_most}
 
@@ -33,11 +33,11 @@ operand_found os k x e = found_at (λ o. o.1) os k x e
 -- ---- operands in turn
 
 -- how far the operands are tracked
-pub record Tracks (env : Env) (root : ℕ) (os : List (Ty × Operand)) (k : ℕ) (ts : List Tracked) (behind : ℕ) : Type 0 where
-  pub are : ts ++ tracked env behind (drop k os) ≡ tracked env root os
-  pub roots : behind + count_undefs (drop k os) ≡ root + count_undefs os
+pub record Tracks (env : Env) (root : ℕ) (os : List (Ty × Operand)) (k : ℕ) (ts : List Tracked) (after : ℕ) : Type 0 where
+  pub are : ts ++ tracked env after (drop k os) ≡ tracked env root os
+  pub roots : after + count_undefs (drop k os) ≡ root + count_undefs os
   pub many : length ts ≡ k
-  pub few : behind ≤ root + k
+  pub few : after ≤ root + k
 
 pub both_found : (os : List (Ty × Operand)) (k : ℕ) (t : Ty) (x : Operand) → Some t ≡ slice_get (map (λ o. o.0) os) k → Some x ≡ slice_get (map (λ o. o.1) os) k → (t, x) ≡ operand_at os k
 both_found os k t x e f = λ j. (type_found os k t e j, operand_found os k x f j)
@@ -65,22 +65,22 @@ module _ (env : Env) (root : ℕ) (os : List (Ty × Operand)) where
   next_item : (k : ℕ) → k < length os → drop k os ≡ operand_at os k ∷ drop (k + 1) os
   next_item k l = drop-cons os k (Ptr, constant.Null) l ∙ ap (λ n. operand_at os k ∷ drop n os) (sym (add-one k))
 
-  -- behind one more
-  pub tracks_more : (k : ℕ) (ts us : List Tracked) (behind next : ℕ) → k < length os → us ≡ ts ++ tracked_one env behind (operand_at os k) ∷ [] → next ≡ behind + one_undef (operand_at os k).1
-      → Tracks env root os k ts behind → Tracks env root os (k + 1) us next
-  tracks_more k ts us behind next l e n h = record {
-    are = (λ j. e j ++ tracked env (n j) (drop (k + 1) os)) ∙ append_assoc ts (tracked_one env behind (operand_at os k) ∷ []) (tracked env (behind + one_undef (operand_at os k).1) (drop (k + 1) os))
-        ∙ ap (λ xs. ts ++ tracked env behind xs) (sym (next_item k l)) ∙ h.are;
-    roots = let step : behind + count_undefs (drop k os) ≡ behind + (one_undef (operand_at os k).1 + count_undefs (drop (k + 1) os)) = ap (λ xs. behind + count_undefs xs) (next_item k l) in
+  -- after one more
+  pub tracks_more : (k : ℕ) (ts us : List Tracked) (after next : ℕ) → k < length os → us ≡ ts ++ tracked_one env after (operand_at os k) ∷ [] → next ≡ after + one_undef (operand_at os k).1
+      → Tracks env root os k ts after → Tracks env root os (k + 1) us next
+  tracks_more k ts us after next l e n h = record {
+    are = (λ j. e j ++ tracked env (n j) (drop (k + 1) os)) ∙ append_assoc ts (tracked_one env after (operand_at os k) ∷ []) (tracked env (after + one_undef (operand_at os k).1) (drop (k + 1) os))
+        ∙ ap (λ xs. ts ++ tracked env after xs) (sym (next_item k l)) ∙ h.are;
+    roots = let step : after + count_undefs (drop k os) ≡ after + (one_undef (operand_at os k).1 + count_undefs (drop (k + 1) os)) = ap (λ xs. after + count_undefs xs) (next_item k l) in
         omega (arith, step, n, h.roots);
-    many = ap length e ∙ length-append ts (tracked_one env behind (operand_at os k) ∷ []) ∙ ap (λ m. m + 1) h.many;
+    many = ap length e ∙ length-append ts (tracked_one env after (operand_at os k) ∷ []) ∙ ap (λ m. m + 1) h.many;
     few = omega (arith, n, one_at_most (operand_at os k).1, h.few);
   }
 
-  -- behind the last one
-  pub tracks_all : (k : ℕ) (ts : List Tracked) (behind : ℕ) → length os ≤ k → Tracks env root os k ts behind → (ts ≡ tracked env root os) × (behind ≡ root + count_undefs os)
-  tracks_all k ts behind l h = (
-    sym (append-nil ts) ∙ ap (λ xs. ts ++ tracked env behind xs) (sym (drop-all os k l)) ∙ h.are,
+  -- after the last one
+  pub tracks_all : (k : ℕ) (ts : List Tracked) (after : ℕ) → length os ≤ k → Tracks env root os k ts after → (ts ≡ tracked env root os) × (after ≡ root + count_undefs os)
+  tracks_all k ts after l h = (
+    sym (append-nil ts) ∙ ap (λ xs. ts ++ tracked env after xs) (sym (drop-all os k l)) ∙ h.are,
     (let left : count_undefs (drop k os) ≡ 0 = ap count_undefs (drop-all os k l) in omega (arith, left, h.roots)),
   )
 
@@ -94,7 +94,7 @@ module _ (os : List (Ty × Operand)) where
       drop-none [] = refl
       drop-none (o ∷ l) = refl
 
-  -- behind one more
+  -- after one more
   pub undefs_more : (k count next : ℕ) → k < length os → next ≡ count + one_undef (operand_at os k).1 → count + count_undefs (drop k os) ≡ count_undefs os → next + count_undefs (drop (k + 1) os) ≡ count_undefs os
   undefs_more k count next l e h =
       let step : count_undefs (drop k os) ≡ one_undef (operand_at os k).1 + count_undefs (drop (k + 1) os) = ap count_undefs (drop-cons os k (Ptr, constant.Null) l ∙ ap (λ n. operand_at os k ∷ drop n os) (sym (add-one k))) in omega (arith, step, e, h)

@@ -9,10 +9,10 @@ use Rattle.ms_ir.specs.declared.syntax.Operand.TheVariants as constant
 use Rattle.ms_ir.specs.Names.{name_eq}
 use Rattle.ms_ir.specs.Layout.{width_of}
 use Rattle.ms_ir.specs.Instructions.{one_undef}
-use Rattle.ms_tables.proofs.Items.{take_item}
-use Rattle.ms_tables.specs.FirstPlace.{first_place, at_place}
-use Rattle.ms_tasks.specs.Environments.{Env, tracked, origin_operand}
-use Rattle.ms_tasks.specs.PassLists.{mask_edges, origin_from, origins_by, origin_edges, phi_pair, phi_code}
+use Rattle.ms_check_tables.proofs.Items.{take_item}
+use Rattle.ms_check_tables.specs.FirstPlace.{first_place, at_place}
+use Rattle.ms_pass_tasks.specs.Environments.{Env, tracked, origin_operand}
+use Rattle.ms_pass_tasks.specs.PassLists.{mask_edges, origin_from, origins_by, origin_edges, phi_pair, phi_code}
 use Rattle.ms_rules_builder.specs.Steps.{tracked_of, shadow_mask, shadow_origin}
 use Rattle.ms_rules_builder.specs.declared.tracked.TrackedOperand.{TrackedOperand}
 use Rattle.ms_rules.specs.declared.scopes.Scope.{Scope}
@@ -85,7 +85,7 @@ module _ (env : Env) (t : Ty) where
     pub origins_are : with_first (origins ts) (map (λ e. e.1) es) es ≡ origin_edges env root es
     origins_are = ap (λ os. with_first os (map (λ e. e.1) es) es) (origins_tracked ts ∙ ap (map (λ y. y.origin)) are) ∙ origins_from root es es
 
--- the phis behind a phi
+-- the phis after a phi
 pub phis_are : (s : Scope) (v root : ℕ) (n : Option Name) (x : Name) (t : Ty) (es : List (Operand × Name)) (ts : List TrackedOperand) → n ≡ Some x → Some v ≡ unclean_number (env_of s) x
     → map tracked_of ts ≡ tracked (env_of s) root (map (λ e. (t, e.0)) es)
     → pair_of v t (with_operands (masks ts) es) (with_first (origins ts) (map (λ e. e.1) es) es) ≡ phi_code (env_of s) root n t es

@@ -1,4 +1,4 @@
--- How many roots stand behind operands, and how many an instruction has.
+-- How many roots stand after operands, and how many an instruction has.
 use Rattle.std.proofs.Common.{◌≡◌, ◌<◌, ◌≤◌, ◌+◌, ◌^◌, ◌-◌, ℕ, Bool, true, false, if◌then◌else◌, Option, length, sym, ap, ◌∙◌, arith}
 use Rattle.std.proofs.lemmas.List.{length-map}
 use Rattle.ms_ir.specs.declared.syntax.Name.{Name}
@@ -7,12 +7,12 @@ use Rattle.ms_ir.specs.declared.syntax.Operand.TheVariants as constant
 use Rattle.ms_ir.specs.declared.syntax.Op.{Op}
 use Rattle.ms_ir.specs.declared.syntax.Inst.{Inst}
 use Rattle.ms_ir.specs.Instructions.{operands, one_undef, count_undefs, is_root, roots_in}
-use Rattle.ms_tasks.specs.Environments.{Env}
+use Rattle.ms_pass_tasks.specs.Environments.{Env}
 use Rattle.ms_rules_builder.specs.Steps.{tracked_of}
 use Rattle.ms_rules.specs.declared.tracked.Tracking.{Tracking}
 use Rattle.ms_rules.specs.Tracking.{IsTracked}
-use Rattle.ms_good_laws.proofs.Starting.{undefs_few}
-use Rattle.ms_instrumented_laws.proofs.CostSum.{tracked_many}
+use Rattle.ms_runs_good_laws.proofs.Starting.{undefs_few}
+use Rattle.ms_pass_form_laws.proofs.CostSum.{tracked_many}
 
 -- ---- operands
 
@@ -26,8 +26,8 @@ pub all_tracked : (env : Env) (o : Op) (t : Tracking) → IsTracked env o t → 
 all_tracked env o t is = sym (length-map t.operands.items tracked_of) ∙ ap length is.are ∙ tracked_many env t.before (operands o)
 
 -- the roots so far have 64 bits
-pub behind_low : (env : Env) (o : Op) (t : Tracking) → IsTracked env o t → t.before < 2 ^ 40 → t.behind + 1 < 2 ^ 64
-behind_low env o t is low = omega (arith, is.behind, all_tracked env o t is, undefs_few (operands o), t.operands.ok, t.operands.small)
+pub after_low : (env : Env) (o : Op) (t : Tracking) → IsTracked env o t → t.before < 2 ^ 40 → t.after + 1 < 2 ^ 64
+after_low env o t is low = omega (arith, is.after, all_tracked env o t is, undefs_few (operands o), t.operands.ok, t.operands.small)
 
 -- ---- instructions
 
@@ -43,5 +43,5 @@ roots_few func i = by_mark i.marked
     by_mark false = omega (arith, undefs_few (operands i.op), one_if (is_root func i.op))
 
 -- undefined operands and one more root are few enough to be added
-pub roots_fit : (env : Env) (o : Op) (t : Tracking) (b : Bool) → IsTracked env o t → t.behind - t.before + (if b then 1 else 0) < 2 ^ 64
-roots_fit env o t b is = omega (arith, is.behind, all_tracked env o t is, undefs_few (operands o), t.operands.ok, t.operands.small, one_if b)
+pub roots_fit : (env : Env) (o : Op) (t : Tracking) (b : Bool) → IsTracked env o t → t.after - t.before + (if b then 1 else 0) < 2 ^ 64
+roots_fit env o t b is = omega (arith, is.after, all_tracked env o t is, undefs_few (operands o), t.operands.ok, t.operands.small, one_if b)

@@ -17,25 +17,25 @@ use Rattle.ms_ir.specs.Instructions.{external_named, func_at, is_phi, operands}
 use Rattle.ms_ir.specs.Locals.{function_names, values}
 use Rattle.ms_ir.specs.Names.{name_eq, main_name}
 use Rattle.ms_runs.specs.World.{Here}
-use Rattle.ms_good_laws.proofs.Counted.{counted_within}
-use Rattle.ms_valid.specs.Formed.{Formed}
-use Rattle.ms_valid.specs.Uninstrumented.{CanInstrument}
-use Rattle.ms_valid.specs.Valid.{Valid}
-use Rattle.ms_tables.specs.FirstPlace.{first_place}
-use Rattle.ms_tables.proofs.Tied.{func_index_is}
-use Rattle.ms_tasks.specs.Environments as environments
-use Rattle.ms_tasks.specs.Environments.{Given}
-use Rattle.ms_tasks.specs.Emit.{after_tasks, before_tasks, emit_tasks, start}
-use Rattle.ms_tasks.specs.PlaneTasks.{saved_by, saves}
-use Rattle.ms_tasks.specs.Tasks.{InsertedCode, tasks_code}
-use Rattle.ms_tasks.specs.PassLists.{emit_lists, emit_op}
+use Rattle.ms_runs_good_laws.proofs.Counted.{counted_within}
+use Rattle.ms_check_valid.specs.Formed.{Formed}
+use Rattle.ms_check_valid.specs.Uninstrumented.{CanInstrument}
+use Rattle.ms_check_valid.specs.Valid.{Valid}
+use Rattle.ms_check_tables.specs.FirstPlace.{first_place}
+use Rattle.ms_check_tables.proofs.Tied.{func_index_is}
+use Rattle.ms_pass_tasks.specs.Environments as environments
+use Rattle.ms_pass_tasks.specs.Environments.{Given}
+use Rattle.ms_pass_tasks.specs.Emit.{after_tasks, before_tasks, emit_tasks, start}
+use Rattle.ms_pass_tasks.specs.PlaneTasks.{saved_by, saves}
+use Rattle.ms_pass_tasks.specs.Tasks.{InsertedCode, tasks_code}
+use Rattle.ms_pass_tasks.specs.PassLists.{emit_lists, emit_op}
 use Rattle.ms_pass_laws.specs.Numbers.{values_at}
-use Rattle.ms_instrumented_laws.proofs.Costs.{written_append}
-use Rattle.ms_instrumented_laws.proofs.CostSum.{lists_cost}
-use Rattle.ms_instrumented_laws.proofs.PlainModules.{plain_module}
+use Rattle.ms_pass_form_laws.proofs.Costs.{written_append}
+use Rattle.ms_pass_form_laws.proofs.CostSum.{lists_cost}
+use Rattle.ms_pass_form_laws.proofs.PlainModules.{plain_module}
 use Rattle.ms_rules_builder.specs.Called.{called_external}
 use Rattle.ms_rules_builder.specs.Made.{with_tasks}
-use Rattle.ms_rules.specs.declared.singles.Env.{Env}
+use Rattle.ms_rules.specs.declared.single.Env.{Env}
 use Rattle.ms_rules.specs.Around.{saved_for}
 use Rattle.ms_rules.specs.Singles.{env_in, env_named, given_in, here_in, is_clean, operands_in, StandsIn}
 use Rattle.ms_rules.specs.Taken.{IsTaken}
@@ -70,7 +70,7 @@ saves_are func (op.Call ret callee args) = by_external (external_named func call
 saves_are func _ = refl
 
 module _ (given : Given) (env : environments.Env) (h : Here) (i : Inst) (n : ℕ) (plain : is_phi i.op ≡ false) where
-  -- the number behind the list before the instruction
+  -- the number after the list before the instruction
   abbrev pub between : ℕ
   between = (tasks_code (before_tasks given env h i n) (start given i n)).next
 
@@ -80,8 +80,8 @@ module _ (given : Given) (env : environments.Env) (h : Here) (i : Inst) (n : ℕ
       let same : (emit_tasks given env h i n).next ≡ (emit_lists given env h i n).next = ap (λ l. l.next) (plain_lists given env h i n plain) in
       omega (arith, grows, same, lists_low given env h i n)
 
-  pub behind_low : (made : InsertedCode) → made.next ≡ (emit_tasks given env h i n).next → made.next ≤ n + 200 + 55 * length (operands i.op)
-  behind_low made is =
+  pub after_low : (made : InsertedCode) → made.next ≡ (emit_tasks given env h i n).next → made.next ≤ n + 200 + 55 * length (operands i.op)
+  after_low made is =
       let same : (emit_tasks given env h i n).next ≡ (emit_lists given env h i n).next = ap (λ l. l.next) (plain_lists given env h i n plain) in
       omega (arith, is, same, lists_low given env h i n)
 
@@ -94,10 +94,10 @@ module _ (given : Given) (env : environments.Env) (h : Here) (i : Inst) (n : ℕ
       ∙ ap₂ (λ s k. (tasks_code (before_tasks given env h i s) k).next) (numbered ∙ ap (λ c. c.next) begun)
       (ap (λ c. c.next) kept_is ∙ ap₂ (λ a b. a + b) (ap (λ c. c.next) begun) (sym (saves_are given.func i.op ∙ ap saved_for called)))
 
-  -- and what is made behind it begins there
-  pub behind_is : (saved from : ℕ) (first made : InsertedCode) → saved ≡ n → from ≡ between → first ≡ record { code = []; next = from } → made ≡ with_tasks first (after_tasks given env h i saved)
+  -- and what is made after it begins there
+  pub after_is : (saved from : ℕ) (first made : InsertedCode) → saved ≡ n → from ≡ between → first ≡ record { code = []; next = from } → made ≡ with_tasks first (after_tasks given env h i saved)
       → made.next ≡ (emit_tasks given env h i n).next
-  behind_is saved from first made saved_is from_is begun made_is =
+  after_is saved from first made saved_is from_is begun made_is =
       ap (λ c. c.next) made_is ∙ ap₂ (λ s k. (tasks_code (after_tasks given env h i s) k).next) saved_is (ap (λ c. c.next) begun ∙ from_is)
 
 -- ---- the place of the instruction

@@ -13,15 +13,15 @@ use Rattle.ms_ir.specs.declared.syntax.Module.{Module}
 use Rattle.ms_ir.specs.Instructions.{operands, insts_at}
 use Rattle.ms_ir.specs.Layout.{Types, width_of}
 use Rattle.ms_ir.specs.Written.{labels, operand_types, op_types}
-use Rattle.ms_valid.specs.FormedNames.{is_local_name}
-use Rattle.ms_valid.specs.FormedCode.{is_int_type, is_value_type, operand_formed, shape_formed, op_formed}
-use Rattle.ms_valid.specs.SizesFit.{sized}
-use Rattle.ms_compile_operands.proofs.ValidSizes.{sized_first}
+use Rattle.ms_check_valid.specs.FormedNames.{is_local_name}
+use Rattle.ms_check_valid.specs.FormedCode.{is_int_type, is_value_type, operand_formed, shape_formed, op_formed}
+use Rattle.ms_check_valid.specs.SizesFit.{sized}
+use Rattle.ms_machine_operands.proofs.ValidSizes.{sized_first}
 use Rattle.ms_pass_laws.proofs.KnownInstructions.{shape_types}
-use Rattle.ms_instrumented_laws.proofs.AllReady.{Plain}
+use Rattle.ms_pass_form_laws.proofs.AllReady.{Plain}
 use Rattle.ms_rules.specs.Taken.{IsSizedAlloca, IsTaken}
 use Rattle.ms_rules_tables.specs.Widths.{HasWidths}
-use Rattle.ms_good_laws.proofs.OpEffects.{value_width}
+use Rattle.ms_runs_good_laws.proofs.OpEffects.{value_width}
 
 -- ---- widths
 

@@ -3,8 +3,8 @@ use Rattle.std.proofs.Common.{◌≡◌, ℕ, List, [], Some, None}
 use Rattle.ms_ir.specs.declared.syntax.Name.{Name}
 use Rattle.ms_ir.specs.declared.syntax.Ty.{Ty}
 use Rattle.ms_ir.specs.declared.syntax.Operand.{Operand}
-use Rattle.ms_tasks.specs.Tasks.{Task}
-use Rattle.ms_tasks.specs.SlotTasks.{take_tasks, take_value}
+use Rattle.ms_pass_tasks.specs.Tasks.{Task}
+use Rattle.ms_pass_tasks.specs.SlotTasks.{take_tasks, take_value}
 use Rattle.ms_rules.specs.declared.scopes.Scope.{Scope}
 use Rattle.ms_rules.specs.Scopes.{env_of, unclean_number}
 use Rattle.ms_rules.proofs.Unclean.{clean_first}

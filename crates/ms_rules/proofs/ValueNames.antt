@@ -12,7 +12,7 @@ use Rattle.ms_ir.specs.declared.syntax.Block.{Block}
 use Rattle.ms_ir.specs.declared.syntax.Func.{Func}
 use Rattle.ms_ir.specs.Names.{name_eq}
 use Rattle.ms_ir.specs.Locals.{typed_result, values}
-use Rattle.ms_tables.specs.FirstPlace.{first_place}
+use Rattle.ms_check_tables.specs.FirstPlace.{first_place}
 use Rattle.ms_pass_laws.specs.Numbers.{value_index}
 use Rattle.ms_rules.specs.Valued.{result_names, block_results, value_names}
 

@@ -5,10 +5,10 @@ use Rattle.ms_ir.specs.declared.syntax.Name.{Name}
 use Rattle.ms_ir.specs.declared.syntax.Op.{Op}
 use Rattle.ms_ir.specs.declared.syntax.Op.TheVariants as op
 use Rattle.ms_runs.specs.World.{Here}
-use Rattle.ms_tasks.specs.Tasks.{Task}
-use Rattle.ms_tasks.specs.Environments.{Env}
-use Rattle.ms_tasks.specs.SlotTasks.{take_result}
-use Rattle.ms_tasks.specs.PlaneTasks.{saved_by}
+use Rattle.ms_pass_tasks.specs.Tasks.{Task}
+use Rattle.ms_pass_tasks.specs.Environments.{Env}
+use Rattle.ms_pass_tasks.specs.SlotTasks.{take_result}
+use Rattle.ms_pass_tasks.specs.PlaneTasks.{saved_by}
 use Rattle.ms_rules.specs.declared.scopes.Scope.{Scope}
 use Rattle.ms_rules.specs.declared.tracked.Tracking.{Tracking}
 

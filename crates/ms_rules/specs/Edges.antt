@@ -6,9 +6,9 @@ use Rattle.ms_ir.specs.declared.syntax.Ty.{Ty, Int}
 use Rattle.ms_ir.specs.declared.syntax.Op.TheVariants as op
 use Rattle.ms_ir.specs.declared.syntax.Operand.{Operand}
 use Rattle.ms_ir.specs.declared.syntax.Operand.TheVariants as constant
-use Rattle.ms_tables.specs.FirstPlace.{first_place, at_place}
-use Rattle.ms_tasks.specs.Environments.{mask_type}
-use Rattle.ms_tasks.specs.Tasks.{inserted, mask_name, origin_name}
+use Rattle.ms_check_tables.specs.FirstPlace.{first_place, at_place}
+use Rattle.ms_pass_tasks.specs.Environments.{mask_type}
+use Rattle.ms_pass_tasks.specs.Tasks.{inserted, mask_name, origin_name}
 use Rattle.ms_rules_builder.specs.Steps.{shadow_mask, shadow_origin}
 use Rattle.ms_rules_builder.specs.declared.tracked.TrackedOperand.{TrackedOperand}
 

@@ -2,9 +2,9 @@
 use Rattle.std.specs.Prelude.{List, [], ◌∷◌, ◌++◌}
 use Rattle.ms_ir.specs.declared.syntax.Inst.{Inst}
 use Rattle.ms_runs.specs.World.{Here}
-use Rattle.ms_tasks.specs.Tasks.{InsertedCode}
-use Rattle.ms_tasks.specs.Environments.{Env, Given}
-use Rattle.ms_tasks.specs.PassLists.{emit_lists}
+use Rattle.ms_pass_tasks.specs.Tasks.{InsertedCode}
+use Rattle.ms_pass_tasks.specs.Environments.{Env, Given}
+use Rattle.ms_pass_tasks.specs.PassLists.{emit_lists}
 
 -- code with an instruction after it that stands between the lists that are inserted round it
 abbrev pub with_inst : Given → Env → Here → Inst → InsertedCode → InsertedCode

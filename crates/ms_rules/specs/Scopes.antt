@@ -1,8 +1,8 @@
 -- What a scope says of a module and of a function.
 use Rattle.std.specs.Prelude.{ℕ, is_some, if◌then◌else◌, Option, None}
 use Rattle.ms_ir.specs.declared.syntax.Name.{Name}
-use Rattle.ms_tables.specs.FirstPlace.{first_place}
-use Rattle.ms_tasks.specs.Environments.{Env, Given}
+use Rattle.ms_check_tables.specs.FirstPlace.{first_place}
+use Rattle.ms_pass_tasks.specs.Environments.{Env, Given}
 use Rattle.ms_rules.specs.declared.scopes.Scope.{Scope}
 
 -- how the values of the function are numbered, and which are known to be clean

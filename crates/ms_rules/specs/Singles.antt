@@ -13,16 +13,16 @@ use Rattle.ms_ir.specs.Instructions.{func_index, insts_at, operands, root_at, si
 use Rattle.ms_ir.specs.Names.{name_eq, main_name}
 use Rattle.ms_runs.specs.Control.{func_name}
 use Rattle.ms_runs.specs.World.{Here}
-use Rattle.ms_tables.specs.FirstPlace.{first_place}
-use Rattle.ms_tasks.specs.Tasks.{mask_name, origin_name}
-use Rattle.ms_tasks.specs.Environments as environments
-use Rattle.ms_tasks.specs.Environments.{Given, is_zero}
-use Rattle.ms_tasks.specs.Emit as emit
-use Rattle.ms_tasks.specs.PassLists.{emit_lists}
+use Rattle.ms_check_tables.specs.FirstPlace.{first_place}
+use Rattle.ms_pass_tasks.specs.Tasks.{mask_name, origin_name}
+use Rattle.ms_pass_tasks.specs.Environments as environments
+use Rattle.ms_pass_tasks.specs.Environments.{Given, is_zero}
+use Rattle.ms_pass_tasks.specs.Emit as emit
+use Rattle.ms_pass_tasks.specs.PassLists.{emit_lists}
 use Rattle.ms_pass_laws.specs.Numbers.{value_index, values_at}
 use Rattle.ms_rules.specs.Valued.{valued}
-use Rattle.ms_rules.specs.declared.singles.Env.{Env}
-use Rattle.ms_rules.specs.declared.singles.Emitted.{Emitted}
+use Rattle.ms_rules.specs.declared.single.Env.{Env}
+use Rattle.ms_rules.specs.declared.single.Emitted.{Emitted}
 
 -- ---- the operands of values
 

@@ -5,7 +5,7 @@ use Rattle.ms_ir.specs.declared.syntax.Op.{Op}
 use Rattle.ms_ir.specs.declared.syntax.Op.TheVariants as op
 use Rattle.ms_ir.specs.Instructions.{operands}
 use Rattle.ms_ir.specs.Layout.{Types, width_of}
-use Rattle.ms_compile_operands.specs.Sized.{IsSized}
+use Rattle.ms_machine_operands.specs.Sized.{IsSized}
 use Rattle.ms_rules_tables.specs.Widths.{HasWidths}
 
 -- the element of an `alloca` has a size

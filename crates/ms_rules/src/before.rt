@@ -1,6 +1,6 @@
 //! What stands before an instruction that is no phi.
 ghost use Rattle.std.specs.Prelude.{◌≡◌, ◌≤◌, ◌^◌, length, map, OnOk};
-ghost use Rattle.ms_tasks.specs.{Emit.{before_tasks}, ResultTasks.{result_tasks}, SlotTasks.{hand_tasks}};
+ghost use Rattle.ms_pass_tasks.specs.{Emit.{before_tasks}, ResultTasks.{result_tasks}, SlotTasks.{hand_tasks}};
 ghost use Rattle.ms_rules_builder.specs.{Made.{with_tasks}, Steps.{tracked_of}};
 ghost use Rattle.ms_rules_tables.specs.Widths.{HasWidths};
 ghost use Rattle.ms_rules.specs.{Around.{here_of}, Callees.{IsCallee}, Scopes.{env_of, given_of}, Tracking.{IsTracked}};

@@ -2,10 +2,10 @@
 ghost use Rattle.std.specs.Prelude.{◌≡◌, is_some, true, if◌then◌else◌};
 ghost use Rattle.ms_ir.specs.Instructions.{external_named, is_root, makes_unset};
 ghost use Rattle.ms_rules.specs.Callees.{IsCallee};
-ghost use Rattle.ms_tables.specs.FirstPlace.{first_place};
+ghost use Rattle.ms_check_tables.specs.FirstPlace.{first_place};
 
+use ms_check_tables::NameTable;
 use ms_ir::{External, Name, Op};
-use ms_tables::NameTable;
 
 /// What an operation calls: a function of the module, an external, or nothing.
 #[derive(Clone, Copy)]

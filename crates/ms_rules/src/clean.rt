@@ -1,13 +1,13 @@
 //! The values that are known to be clean.
 ghost use Rattle.std.specs.Prelude.{◌≡◌, ◌++◌, is_some, IfOk};
 ghost use Rattle.ms_ir.specs.declared.syntax.Name.{Name as NameOf};
-ghost use Rattle.ms_tables.specs.FirstPlace.{first_place};
-ghost use Rattle.ms_tasks.specs.Environments.{is_zero};
+ghost use Rattle.ms_check_tables.specs.FirstPlace.{first_place};
+ghost use Rattle.ms_pass_tasks.specs.Environments.{is_zero};
 ghost use Rattle.ms_rules.specs.Singles.{clean_name, is_clean, operands_in};
 
 use ms_bits::NoMemory;
+use ms_check_tables::NameTable;
 use ms_ir::{Name, Operand};
-use ms_tables::NameTable;
 use std::alloc::Global;
 use std::collections::BTreeMap;
 
@@ -35,7 +35,7 @@ fn push_clean<'m>(
     Ok(())
 }
 
-/// The names of values whose operands are the constant 0. The one error is running out of memory.
+/// The names of values whose operands are the constant 0.
 pub fn clean_names(
     alloc: Global,
     values: &BTreeMap<Name, (Operand, Operand)>,

@@ -4,9 +4,9 @@ ghost use Rattle.ms_rules_builder.specs.Steps.{shadow_mask};
 ghost use Rattle.ms_rules.specs.Edges.{masks, origins, with_operands, first_operand, with_first};
 
 use ms_bits::{Duplicate, List, NoMemory};
+use ms_check_tables::{NameTable, labels_of};
 use ms_ir::{Name, Operand};
 use ms_rules_builder::{Shadow, TrackedOperand};
-use ms_tables::{NameTable, labels_of};
 use std::alloc::Global;
 
 /// Adds an edge.

@@ -1,6 +1,6 @@
 //! What a function does first.
 ghost use Rattle.std.specs.Prelude.{◌≡◌, ◌≤◌, ◌^◌, length, OnOk};
-ghost use Rattle.ms_tasks.specs.SlotTasks.{param_mask, param_origin, take_value, take_parameters};
+ghost use Rattle.ms_pass_tasks.specs.SlotTasks.{param_mask, param_origin, take_value, take_parameters};
 ghost use Rattle.ms_rules_builder.specs.Made.{with_tasks};
 ghost use Rattle.ms_rules.specs.Scopes.{env_of};
 
@@ -27,7 +27,7 @@ fn push_parameter(
     }
 }
 
-/// Adds what takes over the masks and origins of parameters. The one error is running out of memory.
+/// Adds what takes over the masks and origins of parameters.
 pub fn push_parameters(
     builder: &mut Builder,
     scope: &Scope<'_, '_>,

@@ -1,8 +1,8 @@
 //! Phis, which the phis of their masks and origins follow.
 ghost use Rattle.std.specs.Prelude.{◌≡◌, ◌<◌, ◌≤◌, ◌^◌, [], ◌∷◌, Some, All, length, map, IfOk, OnOk};
 ghost use Rattle.ms_ir.specs.{declared.syntax.Ty.{Int}, Instructions.{count_undefs, operands}, Layout.{width_of}};
-ghost use Rattle.ms_tasks.specs.{Tasks.{inserted, mask_name, origin_name}, Environments.{mask_type}};
-ghost use Rattle.ms_tasks.specs.PassLists.{phi_code};
+ghost use Rattle.ms_pass_tasks.specs.{Tasks.{inserted, mask_name, origin_name}, Environments.{mask_type}};
+ghost use Rattle.ms_pass_tasks.specs.PassLists.{phi_code};
 ghost use Rattle.ms_rules.specs.{Edges.{masks, origins, with_operands, with_first, pair_of}, Placed.{with_insts}};
 ghost use Rattle.ms_rules.specs.{Scopes.{env_of}, Tracking.{IsTracked}};
 
@@ -100,7 +100,7 @@ fn push_pair(
 }
 
 /// Adds what stands after a phi: the phis of its mask and its origin. Returns how many of its operands are undefined.
-pub fn push_behind_phi(
+pub fn push_after_phi(
     builder: &mut Builder,
     scope: &Scope<'_, '_>,
     root: u64,
@@ -117,7 +117,7 @@ pub fn push_behind_phi(
 {
     let tracking = track(builder.alloc(), scope, root, &inst.op)?;
     push_pair(builder, scope, &inst.result, ty, edges, &tracking)?;
-    Ok(tracking.behind - tracking.before)
+    Ok(tracking.after - tracking.before)
 }
 
 /// Adds a phi, and the phis of its mask and its origin. Returns how many of its operands are undefined.
@@ -137,5 +137,5 @@ pub fn push_phi(
     ensures roots { IfOk result (λ n. n ≡ count_undefs (operands inst.now.op)) }
 {
     push_copy(builder, inst)?;
-    push_behind_phi(builder, scope, root, inst, ty, edges)
+    push_after_phi(builder, scope, root, inst, ty, edges)
 }

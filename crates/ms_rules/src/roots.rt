@@ -2,15 +2,15 @@
 ghost use Rattle.std.specs.Prelude.{◌≡◌, ◌+◌, ◌<◌, ◌≤◌, ◌^◌, length};
 ghost use Rattle.ms_ir.specs.Instructions.{count_undefs, one_undef, operands, roots_in};
 ghost use Rattle.ms_rules.specs.Tracking.{operand_at};
-ghost use Rattle.ms_tables.specs.FirstPlace.{first_place};
+ghost use Rattle.ms_check_tables.specs.FirstPlace.{first_place};
 
 use crate::callees::{callee_of, own_roots};
 use crate::tracked::one_undefined;
+use ms_check_tables::NameTable;
 use ms_ir::{Inst, Op};
-use ms_tables::NameTable;
 
 /// A law: an operation has so few operands that one root more than these can be counted.
-fn operands_are_few(op: &Op)
+fn law_operands_are_few(op: &Op)
     ensures { length (operands op.now) + 1 < 2 ^ 64 }
 {
     let _count = match op {
@@ -52,7 +52,7 @@ pub fn root_count(functions: &NameTable<'_>, inst: &Inst) -> u64
     if inst.marked {
         return 0;
     }
-    operands_are_few(&inst.op);
+    law_operands_are_few(&inst.op);
     let callee = callee_of(functions, &inst.op);
     undefined_count(&inst.op) + own_roots(functions, callee, &inst.op)
 }

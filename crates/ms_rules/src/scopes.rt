@@ -1,8 +1,8 @@
 //! What is looked up where an instruction is instrumented.
 ghost use Rattle.std.specs.Prelude.{◌≡◌, ◌≤◌, ◌^◌, length};
 
+use ms_check_tables::{Extents, NameTable};
 use ms_ir::Name;
-use ms_tables::{Extents, NameTable};
 
 /// What is looked up in a module and in a function: the sizes of types, the names of the module's functions, the names of
 /// the function's values in the order in which they are numbered, those that are known to be clean, and whether it is

@@ -2,7 +2,7 @@
 ghost use Rattle.std.specs.Prelude.{◌≡◌, ◌+◌, ◌-◌, ◌++◌, ◌<◌, ◌≤◌, ◌^◌, [], ◌∷◌, All, length, map, IfOk, OnOk};
 ghost use Rattle.ms_ir.specs.{Instructions.{one_undef, operands}, Layout.{width_of}, ValueTypes.{type_of}};
 ghost use Rattle.ms_rules_builder.specs.Steps.{tracked_of, shadow_mask, shadow_origin};
-ghost use Rattle.ms_tasks.specs.Environments.{local_mask, local_origin, mask_operand, origin_operand};
+ghost use Rattle.ms_pass_tasks.specs.Environments.{local_mask, local_origin, mask_operand, origin_operand};
 ghost use Rattle.ms_rules.specs.{Scopes.{env_of}, Tracking.{tracked_one, operand_at, IsTracked}};
 
 use crate::scopes::Scope;
@@ -18,7 +18,7 @@ use std::alloc::Global;
 pub struct Tracking<'a> {
     pub operands: Vec<TrackedOperand<'a>>,
     pub before: u64,
-    pub behind: u64,
+    pub after: u64,
 }
 
 /// What is known of a value of the function.
@@ -103,14 +103,14 @@ impl<'a> Tracking<'a> {
     ) -> Result<(), NoMemory>
         requires few { length scope.now.values.now ≤ 2 ^ 30 }
         requires narrow { width_of (type_of ty) ≤ 64 }
-        requires roots { self.old.behind + 1 < 2 ^ 64 }
-        ensures are { OnOk result (map tracked_of self.new.operands.items ≡ map tracked_of self.old.operands.items ++ tracked_one (env_of scope.now) self.old.behind (type_of ty.entry, operand.entry.now) ∷ []) }
-        ensures behind { OnOk result (self.new.behind ≡ self.old.behind + one_undef operand.entry.now) }
+        requires roots { self.old.after + 1 < 2 ^ 64 }
+        ensures are { OnOk result (map tracked_of self.new.operands.items ≡ map tracked_of self.old.operands.items ++ tracked_one (env_of scope.now) self.old.after (type_of ty.entry, operand.entry.now) ∷ []) }
+        ensures after { OnOk result (self.new.after ≡ self.old.after + one_undef operand.entry.now) }
         ensures before { OnOk result (self.new.before ≡ self.old.before) }
     {
         self.operands
-            .push(track_one(scope, self.behind, ty, operand))?;
-        self.behind += one_undefined(operand);
+            .push(track_one(scope, self.after, ty, operand))?;
+        self.after += one_undefined(operand);
         Ok(())
     }
 
@@ -124,9 +124,9 @@ impl<'a> Tracking<'a> {
         requires few { length scope.now.values.now ≤ 2 ^ 30 }
         requires narrow { All (λ o. width_of o.0 ≤ 64) (operands op.now) }
         requires place { place < length (operands op.now) }
-        requires roots { self.old.behind + 1 < 2 ^ 64 }
-        ensures are { OnOk result (map tracked_of self.new.operands.items ≡ map tracked_of self.old.operands.items ++ tracked_one (env_of scope.now) self.old.behind (operand_at (operands op.entry.now) place) ∷ []) }
-        ensures behind { OnOk result (self.new.behind ≡ self.old.behind + one_undef (operand_at (operands op.entry.now) place).1) }
+        requires roots { self.old.after + 1 < 2 ^ 64 }
+        ensures are { OnOk result (map tracked_of self.new.operands.items ≡ map tracked_of self.old.operands.items ++ tracked_one (env_of scope.now) self.old.after (operand_at (operands op.entry.now) place) ∷ []) }
+        ensures after { OnOk result (self.new.after ≡ self.old.after + one_undef (operand_at (operands op.entry.now) place).1) }
         ensures before { OnOk result (self.new.before ≡ self.old.before) }
     {
         match (op.operand(place), op.operand_type(place)) {
@@ -136,8 +136,7 @@ impl<'a> Tracking<'a> {
     }
 }
 
-/// The operands of an operation with what is known of them, where so many roots stand before them. The one error is running out of
-/// memory.
+/// The operands of an operation with what is known of them, where so many roots stand before them.
 pub fn track<'a>(
     alloc: Global,
     scope: &Scope<'_, '_>,
@@ -153,7 +152,7 @@ pub fn track<'a>(
     let mut tracking = Tracking {
         operands: Vec::new(alloc),
         before: root,
-        behind: root,
+        after: root,
     };
     for place in 0..op.operand_count() {
         tracking.push_operand(scope, op, place)?;

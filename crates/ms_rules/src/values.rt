@@ -3,8 +3,8 @@ ghost use Rattle.std.specs.Prelude.{◌≡◌, ◌++◌, option_to_list, IfOk};
 ghost use Rattle.ms_rules.specs.Valued.{result_names, block_results, value_names, valued};
 
 use ms_bits::NoMemory;
+use ms_check_tables::{NameTable, parameters_of};
 use ms_ir::{Block, Func, Inst};
-use ms_tables::{NameTable, parameters_of};
 use std::alloc::Global;
 
 /// Appends the name of the result of an instruction, where it has a type.
@@ -43,7 +43,7 @@ fn push_blocks<'m>(names: &mut NameTable<'m>, blocks: &'m [Block]) -> Result<(),
     Ok(())
 }
 
-/// The names of a function's values: the parameters, and then the results in text order. The one error is running out of memory.
+/// The names of a function's values: the parameters, and then the results in text order.
 pub fn values_of(alloc: Global, func: &Func) -> Result<NameTable<'_>, NoMemory>
     ensures { IfOk result (λ names. names ≡ value_names func.now) }
 {

@@ -5,12 +5,12 @@ use Rattle.std.proofs.lemmas.List.{append_assoc, drop_more, drop-drop, get_or-dr
 use Rattle.ms_ir.specs.declared.syntax.Ty.{Int}
 use Rattle.ms_ir.specs.Layout.{width_of}
 use Rattle.ms_ir.specs.ValueTypes.{type_of}
-use Rattle.ms_tasks.specs.Tasks.{Expr}
-use Rattle.ms_tasks.specs.Environments.{Tracked, untracked, tracked_at, is_zero, unknown, joined}
+use Rattle.ms_pass_tasks.specs.Tasks.{Expr}
+use Rattle.ms_pass_tasks.specs.Environments.{Tracked, untracked, tracked_at, is_zero, unknown, joined}
 use Rattle.ms_rules_builder.specs.declared.tracked.TrackedOperand.{TrackedOperand}
 use Rattle.ms_rules_builder.specs.declared.steps.Operation.TheVariants as operation
-use Rattle.ms_rules_builder.specs.declared.steps.Step.{Step}
-use Rattle.ms_rules_builder.specs.declared.steps.Step.TheVariants as step
+use Rattle.ms_rules_builder.specs.declared.steps.StackOp.{StackOp}
+use Rattle.ms_rules_builder.specs.declared.steps.StackOp.TheVariants as step
 use Rattle.ms_rules_builder.specs.declared.unions.Widening.{Widening}
 use Rattle.ms_rules_builder.specs.declared.unions.Widening.TheVariants as widening
 use Rattle.ms_rules_builder.specs.Steps.{Inputs, tracked_of, bits_in, words}
@@ -18,11 +18,11 @@ use Rattle.ms_rules_builder.specs.Joins.{width_in, word_in, union_in, mask_steps
 
 -- ---- what the steps come to
 
-words_append : (i : Inputs) (a b : List Step) (st : List Expr) → words i (a ++ b) st ≡ words i b (words i a st)
+words_append : (i : Inputs) (a b : List StackOp) (st : List Expr) → words i (a ++ b) st ≡ words i b (words i a st)
 words_append i [] b st = refl
 words_append i (s ∷ a) b st = words_append i a b _
 
-pub times_and_once : (n : ℕ) (s : Step) (l : List Step) → replicate (suc n) s ++ l ≡ replicate n s ++ s ∷ l
+pub times_and_once : (n : ℕ) (s : StackOp) (l : List StackOp) → replicate (suc n) s ++ l ≡ replicate n s ++ s ∷ l
 times_and_once zero s l = refl
 times_and_once (suc n) s l = ap (λ x. s ∷ x) (times_and_once n s l)
 
@@ -32,7 +32,7 @@ stacked how [] st = st
 stacked how (t ∷ ts) st = stacked how ts (word_in how t ∷ st)
 
 module _ (i : Inputs) (how : Widening) where
-  abbrev or : Step
+  abbrev or : StackOp
   or = step.Two operation.Or (width_in how)
 
   one_mask : (h : Widening) (k : ℕ) (t : Tracked) (st : List Expr) → tracked_at k i.operands ≡ t → words i (mask_steps h k (width_of t.ty)) st ≡ word_in h t ∷ st
@@ -44,35 +44,35 @@ module _ (i : Inputs) (how : Widening) where
       → (b : Bool) (st : List Expr)
       → words i (if b then masks_from how (suc k) ts else mask_steps how k (width_of t.ty) ++ masks_from how (suc k) ts) st
       ≡ stacked how (if b then unknown ts else t ∷ unknown ts) st
-  by_mask t ts k at behind true st = behind st
-  by_mask t ts k at behind false st =
+  by_mask t ts k at later true st = later st
+  by_mask t ts k at later false st =
       words_append i (mask_steps how k (width_of t.ty)) (masks_from how (suc k) ts) st
       ∙ ap (λ l. words i (masks_from how (suc k) ts) l) (one_mask how k t st at)
-      ∙ behind (word_in how t ∷ st)
+      ∙ later (word_in how t ∷ st)
 
   masks_stacked : (ts more : List Tracked) (k : ℕ) → drop k i.operands ≡ ts ++ more → (st : List Expr) → words i (masks_from how k ts) st ≡ stacked how (unknown ts) st
   masks_stacked [] more k e st = refl
   masks_stacked (t ∷ ts) more k e st =
       let at : tracked_at k i.operands ≡ t =
       ap (λ n. get_or i.operands n untracked) (let a : k ≡ k + 0 = omega arith in a) ∙ sym (get_or-drop k i.operands 0 untracked) ∙ ap (λ l. get_or l 0 untracked) e in
-      let behind : drop (suc k) i.operands ≡ ts ++ more =
+      let later : drop (suc k) i.operands ≡ ts ++ more =
       ap (λ n. drop n i.operands) (sym (add-one k)) ∙ sym (drop-drop 1 k i.operands) ∙ ap (drop 1) e in
-      by_mask t ts k at (masks_stacked ts more (suc k) behind) (is_zero t.mask) st
+      by_mask t ts k at (masks_stacked ts more (suc k) later) (is_zero t.mask) st
 
-  all_joined : (t : Tracked) (ts : List Tracked) (rest : List Step) (st : List Expr)
+  all_joined : (t : Tracked) (ts : List Tracked) (rest : List StackOp) (st : List Expr)
       → words i (replicate (length ts) or ++ rest) (stacked how (t ∷ ts) st) ≡ words i rest (joined (Int (bits_in i (width_in how))) (word_in how) (t ∷ ts) ∷ st)
   all_joined t [] rest st = refl
   all_joined t (u ∷ us) rest st =
       ap (λ l. words i l (stacked how (u ∷ us) (word_in how t ∷ st))) (times_and_once (length us) or rest)
       ∙ all_joined u us (or ∷ rest) (word_in how t ∷ st)
 
-  words_joined : (us : List Tracked) (rest : List Step) (st : List Expr)
+  words_joined : (us : List Tracked) (rest : List StackOp) (st : List Expr)
       → words i (joins how (length us) ++ rest) (stacked how us st) ≡ words i rest (joined (Int (bits_in i (width_in how))) (word_in how) us ∷ st)
   words_joined [] rest st = refl
   words_joined (t ∷ ts) rest st = all_joined t ts rest st
 
   -- of the first operands of a rule, where other steps follow
-  pub union_words : (ts more : List Tracked) (rest : List Step) (st : List Expr) → i.operands ≡ ts ++ more
+  pub union_words : (ts more : List Tracked) (rest : List StackOp) (st : List Expr) → i.operands ≡ ts ++ more
       → words i (union_steps how ts ++ rest) st ≡ words i rest (union_in i how ts ∷ st)
   union_words ts more rest st e =
       let a = masks_from how 0 ts in
@@ -85,7 +85,7 @@ module _ (i : Inputs) (how : Widening) where
 -- ---- the steps as they are added
 
 -- so many words stand in steps, and those of the operands from a place on are still to come
-abbrev pub Added : List Tracked → Widening → ℕ → List Step → ℕ → List Step → ℕ → Type 0
+abbrev pub Added : List Tracked → Widening → ℕ → List StackOp → ℕ → List StackOp → ℕ → Type 0
 Added ts how k steps masks all count =
     (steps ++ masks_from how k (drop k ts) ≡ all) × ((masks + length (unknown (drop k ts)) ≡ count) × (masks ≤ k))
 
@@ -117,7 +117,7 @@ module _ (ops : List TrackedOperand) (how : Widening) (k : ℕ) (x : TrackedOper
       ∙ ap (λ b. length (if b then us else tracked_of x ∷ us)) e
       ∙ by_length b us
 
-  pub clean_passed : (steps all after : List Step) (masks count n : ℕ) → is_zero (tracked_of x).mask ≡ true → after ≡ steps → n ≡ masks
+  pub clean_passed : (steps all after : List StackOp) (masks count n : ℕ) → is_zero (tracked_of x).mask ≡ true → after ≡ steps → n ≡ masks
       → Added (map tracked_of ops) how k steps masks all count → Added (map tracked_of ops) how (k + 1) after n all count
   clean_passed steps all after masks count n clean a b held =
       let us = drop (k + 1) (map tracked_of ops) in (
@@ -125,7 +125,7 @@ module _ (ops : List TrackedOperand) (how : Widening) (k : ℕ) (x : TrackedOper
         (ap (λ m. m + length (unknown us)) b ∙ ap (λ m. masks + m) (sym (count_next true clean)) ∙ held.1.0, omega (arith, b, held.1.1)),
       )
 
-  pub mask_added : (steps all after : List Step) (masks count n w : ℕ) → is_zero (tracked_of x).mask ≡ false → w ≡ width_of (type_of x.ty) → after ≡ steps ++ mask_steps how k w → n ≡ masks + 1
+  pub mask_added : (steps all after : List StackOp) (masks count n w : ℕ) → is_zero (tracked_of x).mask ≡ false → w ≡ width_of (type_of x.ty) → after ≡ steps ++ mask_steps how k w → n ≡ masks + 1
       → Added (map tracked_of ops) how k steps masks all count → Added (map tracked_of ops) how (k + 1) after n all count
   mask_added steps all after masks count n w some wide a b held =
       let more = masks_from how (k + 1) (drop (k + 1) (map tracked_of ops)) in (

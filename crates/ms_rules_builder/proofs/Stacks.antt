@@ -11,11 +11,11 @@ use Rattle.ms_ir.specs.declared.syntax.Operand.TheVariants as operand
 use Rattle.ms_ir.specs.declared.syntax.Op.{Op}
 use Rattle.ms_ir.specs.declared.syntax.Op.TheVariants as op
 use Rattle.ms_ir.specs.declared.syntax.Inst.{Inst}
-use Rattle.ms_tasks.specs.Tasks.{InsertedCode, Expr, Turn, Half, By, half, close, flatten, inserted, msan_name, binary, binop_of}
+use Rattle.ms_pass_tasks.specs.Tasks.{InsertedCode, Expr, Turn, Half, By, half, close, flatten, inserted, msan_name, binary, binop_of}
 use Rattle.ms_ir.specs.Equal.{type_eq}
-use Rattle.ms_tasks.specs.Environments.{bits_at}
-use Rattle.ms_rules_builder.specs.declared.steps.Step.{Step}
-use Rattle.ms_rules_builder.specs.declared.steps.Step.TheVariants as step
+use Rattle.ms_pass_tasks.specs.Environments.{bits_at}
+use Rattle.ms_rules_builder.specs.declared.steps.StackOp.{StackOp}
+use Rattle.ms_rules_builder.specs.declared.steps.StackOp.TheVariants as step
 use Rattle.ms_rules_builder.specs.Steps.{Inputs, bits_in, task_operation, top, below, stepped, words, is_operation}
 use Rattle.ms_rules_builder.specs.Stacks.{last_operand, all_but_last, operation_at, left_by, widened_by, with_operation, with_words, flatten_stack, Holds}
 
@@ -127,7 +127,7 @@ three st n e o is =
 -- ---- steps
 
 -- an operation of a step makes the step's word
-pub applied : (i : Inputs) (s : Step) (st : List Expr) (n : ℕ) → is_operation s ≡ true
+pub applied : (i : Inputs) (s : StackOp) (st : List Expr) (n : ℕ) → is_operation s ≡ true
     → (let os = (flatten_stack st n).operands in Applied (operation_at i s os) (left_by s os) st n (below (stepped i s st)) (top (stepped i s st)))
 applied i (step.Two o w) st n h = two st n _ (binary (binop_of (task_operation o)) (Int (bits_in i w))) (λ k. refl)
 applied i (step.Test p w) st n h = two st n _ (λ a b. op.Icmp p no_flags (Int (bits_in i w)) a b) (λ k. refl)
@@ -148,7 +148,7 @@ applied i (step.Widen w) st n h = absurd (false≢true h)
 applied i (step.Extend w) st n h = absurd (false≢true h)
 
 -- a step leaves a word on top
-on_top : (i : Inputs) (s : Step) (st : List Expr) → stepped i s st ≡ top (stepped i s st) ∷ below (stepped i s st)
+on_top : (i : Inputs) (s : StackOp) (st : List Expr) → stepped i s st ≡ top (stepped i s st) ∷ below (stepped i s st)
 on_top i (step.Word k) st = refl
 on_top i (step.Bits k) st = refl
 on_top i (step.Mask k) st = refl
@@ -184,7 +184,7 @@ numbered o rest os from c st others e a p q =
       operands = q ∙ ap₂ (λ d f. d ++ f.operand ∷ []) a.rest_is (sym closed);
     }
 
-pub operation_holds : (i : Inputs) (s : Step) (from old new : InsertedCode) (st : List Expr) (os more : List Operand) → is_operation s ≡ true
+pub operation_holds : (i : Inputs) (s : StackOp) (from old new : InsertedCode) (st : List Expr) (os more : List Operand) → is_operation s ≡ true
     → new ≡ with_operation old (operation_at i s os) → more ≡ left_by s os ++ operand.Local (msan_name old.next) ∷ [] → Holds from st old os
     → Holds from (stepped i s st) new more
 operation_holds i s from old new st os more h p q held =
@@ -219,6 +219,6 @@ pointer_bits (Named x) e h = absurd (false≢true h)
 
 -- ---- runs
 
-pub words_more : (i : Inputs) (ss : List Step) (s : Step) (st : List Expr) → words i (ss ++ s ∷ []) st ≡ stepped i s (words i ss st)
+pub words_more : (i : Inputs) (ss : List StackOp) (s : StackOp) (st : List Expr) → words i (ss ++ s ∷ []) st ≡ stepped i s (words i ss st)
 words_more i [] s st = refl
 words_more i (x ∷ ss) s st = words_more i ss s (stepped i x st)

@@ -1,6 +1,6 @@
 -- InsertedCode that grows by tasks.
 use Rattle.std.specs.Prelude.{List, ◌++◌}
-use Rattle.ms_tasks.specs.Tasks.{InsertedCode, Task, tasks_code}
+use Rattle.ms_pass_tasks.specs.Tasks.{InsertedCode, Task, tasks_code}
 
 -- code with the instructions of tasks after it
 abbrev pub with_tasks : InsertedCode → List Task → InsertedCode

@@ -10,10 +10,10 @@ use Rattle.ms_ir.specs.declared.syntax.Operand.TheVariants as operand
 use Rattle.ms_ir.specs.declared.syntax.Op.{Op}
 use Rattle.ms_ir.specs.declared.syntax.Op.TheVariants as op
 use Rattle.ms_ir.specs.declared.syntax.Inst.{Inst}
-use Rattle.ms_tasks.specs.Tasks.{InsertedCode, Expr, Turn, msan_name, inserted, binary, binop_of, flatten}
-use Rattle.ms_tasks.specs.Environments.{tracked_at}
-use Rattle.ms_rules_builder.specs.declared.steps.Step.{Step}
-use Rattle.ms_rules_builder.specs.declared.steps.Step.TheVariants as step
+use Rattle.ms_pass_tasks.specs.Tasks.{InsertedCode, Expr, Turn, msan_name, inserted, binary, binop_of, flatten}
+use Rattle.ms_pass_tasks.specs.Environments.{tracked_at}
+use Rattle.ms_rules_builder.specs.declared.steps.StackOp.{StackOp}
+use Rattle.ms_rules_builder.specs.declared.steps.StackOp.TheVariants as step
 use Rattle.ms_rules_builder.specs.Steps.{Inputs, bits_in, task_operation}
 
 -- ---- operands that are there already
@@ -24,7 +24,7 @@ result_operand (Some x) = operand.Local x
 result_operand None = operand.Int 0
 
 -- the operand that a step puts on the stack which takes no word
-abbrev pub leaf_operand : Inputs → Step → Operand
+abbrev pub leaf_operand : Inputs → StackOp → Operand
 leaf_operand i (step.Word k) = (tracked_at k i.operands).operand
 leaf_operand i (step.Mask k) = (tracked_at k i.operands).mask
 leaf_operand i (step.Origin k) = (tracked_at k i.operands).origin
@@ -50,7 +50,7 @@ all_but_last (x ∷ []) = []
 all_but_last (x ∷ y ∷ os) = x ∷ all_but_last (y ∷ os)
 
 -- the operation of a step on the operands that it takes
-abbrev pub operation_at : Inputs → Step → List Operand → Op
+abbrev pub operation_at : Inputs → StackOp → List Operand → Op
 operation_at i (step.Two o w) os =
     binary (binop_of (task_operation o)) (Int (bits_in i w)) (last_operand (all_but_last os)) (last_operand os)
 operation_at i (step.Test p w) os =
@@ -63,7 +63,7 @@ operation_at i step.ToPointer os = op.Cast cast.IntToPtr no_flags (Int 64) (last
 operation_at i _ os = op.Unreachable
 
 -- the operands that it leaves
-abbrev pub left_by : Step → List Operand → List Operand
+abbrev pub left_by : StackOp → List Operand → List Operand
 left_by (step.Two o w) os = all_but_last (all_but_last os)
 left_by (step.Test p w) os = all_but_last (all_but_last os)
 left_by (step.Pick w) os = all_but_last (all_but_last (all_but_last os))

@@ -6,9 +6,9 @@ use Rattle.ms_ir.specs.declared.syntax.Ty.{Int, Ptr}
 use Rattle.ms_ir.specs.declared.syntax.Operand.{Operand}
 use Rattle.ms_ir.specs.declared.syntax.Operand.TheVariants as operand
 use Rattle.ms_ir.specs.ValueTypes.{type_of}
-use Rattle.ms_tasks.specs.Tasks as tasks
-use Rattle.ms_tasks.specs.Tasks.{Expr, Leaf, Two, Turn, Test, Pick, msan_name, mask_name, origin_name}
-use Rattle.ms_tasks.specs.Environments.{Tracked, tracked_at, mask_of, origin_of, word_of, bits_of, widened, extended_expr, number}
+use Rattle.ms_pass_tasks.specs.Tasks as tasks
+use Rattle.ms_pass_tasks.specs.Tasks.{Expr, Leaf, Two, Turn, Test, Pick, msan_name, mask_name, origin_name}
+use Rattle.ms_pass_tasks.specs.Environments.{Tracked, tracked_at, mask_of, origin_of, word_of, bits_of, widened, extended_expr, number}
 use Rattle.ms_rules_builder.specs.declared.tracked.Shadow.{Shadow}
 use Rattle.ms_rules_builder.specs.declared.tracked.Shadow.TheVariants as shadow
 use Rattle.ms_rules_builder.specs.declared.tracked.TrackedOperand.{TrackedOperand}
@@ -17,8 +17,8 @@ use Rattle.ms_rules_builder.specs.declared.steps.Operation.{Operation}
 use Rattle.ms_rules_builder.specs.declared.steps.Operation.TheVariants as operation
 use Rattle.ms_rules_builder.specs.declared.steps.Width.{Width}
 use Rattle.ms_rules_builder.specs.declared.steps.Width.TheVariants as width
-use Rattle.ms_rules_builder.specs.declared.steps.Step.{Step}
-use Rattle.ms_rules_builder.specs.declared.steps.Step.TheVariants as step
+use Rattle.ms_rules_builder.specs.declared.steps.StackOp.{StackOp}
+use Rattle.ms_rules_builder.specs.declared.steps.StackOp.TheVariants as step
 
 -- ---- what a rule works on
 
@@ -74,7 +74,7 @@ below [] = []
 below (e ∷ st) = st
 
 -- the words after a step
-abbrev pub stepped : Inputs → Step → List Expr → List Expr
+abbrev pub stepped : Inputs → StackOp → List Expr → List Expr
 stepped i (step.Word k) st = word_of (tracked_at k i.operands) ∷ st
 stepped i (step.Bits k) st = bits_of (tracked_at k i.operands) ∷ st
 stepped i (step.Mask k) st = mask_of (tracked_at k i.operands) ∷ st
@@ -94,12 +94,12 @@ stepped i step.ToNumber st = Turn cast.PtrToInt Ptr (top st) (Int 64) ∷ below 
 stepped i step.ToPointer st = Turn cast.IntToPtr (Int 64) (top st) Ptr ∷ below st
 
 -- the words after steps
-abbrev pub words : Inputs → List Step → List Expr → List Expr
+abbrev pub words : Inputs → List StackOp → List Expr → List Expr
 words i [] st = st
 words i (s ∷ ss) st = words i ss (stepped i s st)
 
 -- a step that puts a word on the stack which is there already
-abbrev pub is_leaf : Step → Bool
+abbrev pub is_leaf : StackOp → Bool
 is_leaf (step.Word k) = true
 is_leaf (step.Mask k) = true
 is_leaf (step.Origin k) = true
@@ -111,7 +111,7 @@ is_leaf step.Result = true
 is_leaf _ = false
 
 -- a step that takes words and puts what an instruction makes of them
-abbrev pub is_operation : Step → Bool
+abbrev pub is_operation : StackOp → Bool
 is_operation (step.Two o w) = true
 is_operation (step.Test p w) = true
 is_operation (step.Pick w) = true

@@ -77,7 +77,7 @@ fn parameters(function: RuntimeFn) -> &'static [Parameter]
     }
 }
 
-/// Operands with the types of a runtime function's parameters. The one error is running out of memory.
+/// Operands with the types of a runtime function's parameters.
 pub fn arguments(
     alloc: Global,
     function: RuntimeFn,

@@ -3,7 +3,7 @@ ghost use Rattle.std.specs.Prelude.{◌≡◌, ℕ, length, ◌+◌, ◌-◌, �
 ghost use Rattle.ms_ir.specs.{declared.syntax.Ty.{Ty as TyOf, Int}, Names.{runtime_name as runtime_name_of}};
 ghost use Rattle.ms_ir.specs.Signatures.{runtime_signature};
 ghost use Rattle.ms_ir.specs.declared.syntax.Op.TheVariants as instruction;
-ghost use Rattle.ms_tasks.specs.Tasks.{inserted, Expr, Sets, Tries, Fetches, Puts, Calls};
+ghost use Rattle.ms_pass_tasks.specs.Tasks.{inserted, Expr, Sets, Tries, Fetches, Puts, Calls};
 ghost use Rattle.ms_rules_builder.specs.{Made.{with_tasks}, Steps.{inputs_of, words, is_leaf, is_operation}};
 
 mod running;
@@ -13,7 +13,7 @@ use crate::inputs::Inputs;
 use crate::names::runtime_name;
 use crate::operands::leaf_operand;
 use crate::operations::{binary, load, operation_at, store};
-use crate::steps::Step;
+use crate::steps::StackOp;
 use ms_bits::{BinOp, List, NO_FLAGS, NoMemory};
 use ms_ir::{Inst, Name, Op, Operand, RuntimeFn, Ty};
 use std::alloc::Global;
@@ -21,8 +21,6 @@ use std::marker::Model;
 
 /// Instructions of which some are inserted, and the number of the next inserted result. Contracts see both. What is
 /// added stands after what is there.
-///
-/// The one error of each method is running out of memory.
 #[derive(Drop)]
 pub struct Builder {
     alloc: Global,
@@ -35,7 +33,7 @@ impl Model for Builder {
     ghost use Rattle.std.specs.Coded.{coded_list, coded×, coded_ℕ, code_by};
     ghost use Rattle.ms_ir.specs.declared.syntax.Inst.{Inst};
     ghost use Rattle.ms_ir.specs.contracts.syntax.Inst as instruction;
-    ghost use Rattle.ms_tasks.specs.Tasks as tasks;
+    ghost use Rattle.ms_pass_tasks.specs.Tasks as tasks;
 
     ghost Value = { tasks.InsertedCode };
 
@@ -127,8 +125,8 @@ impl Builder {
         name: Name,
         width: u8,
         inputs: &Inputs<'_>,
-        steps: &[Step],
-        last: Step,
+        steps: &[StackOp],
+        last: StackOp,
     ) -> Result<(), NoMemory>
         requires { is_operation last ≡ true }
         ensures { (e : Expr) → words (inputs_of inputs.now) (steps.now ++ last ∷ []) [] ≡ e ∷ [] → OnOk result (self.new ≡ with_tasks self.old (Sets name (Int width) e ∷ [])) }
@@ -143,7 +141,7 @@ impl Builder {
         name: Name,
         width: u8,
         inputs: &Inputs<'_>,
-        leaf: Step,
+        leaf: StackOp,
     ) -> Result<(), NoMemory>
         requires { is_leaf leaf ≡ true }
         ensures { (e : Expr) → words (inputs_of inputs.now) (leaf ∷ []) [] ≡ e ∷ [] → OnOk result (self.new ≡ with_tasks self.old (Sets name (Int width) e ∷ [])) }
@@ -168,7 +166,7 @@ impl Builder {
         op: BinOp,
         width: u8,
         inputs: &Inputs<'_>,
-        steps: &[Step],
+        steps: &[StackOp],
     ) -> Result<(), NoMemory>
         ensures { (a b : Expr) → words (inputs_of inputs.now) steps.now [] ≡ b ∷ a ∷ [] → OnOk result (self.new ≡ with_tasks self.old (Tries name op (Int width) a b ∷ [])) }
     {
@@ -182,7 +180,7 @@ impl Builder {
         name: Name,
         width: u8,
         inputs: &Inputs<'_>,
-        steps: &[Step],
+        steps: &[StackOp],
     ) -> Result<(), NoMemory>
         ensures { (a : Expr) → words (inputs_of inputs.now) steps.now [] ≡ a ∷ [] → OnOk result (self.new ≡ with_tasks self.old (Fetches name (Int width) a ∷ [])) }
     {
@@ -191,7 +189,12 @@ impl Builder {
     }
 
     /// Of the two words that steps leave, the first, of a width, is stored at the second.
-    pub fn store(&mut self, width: u8, inputs: &Inputs<'_>, steps: &[Step]) -> Result<(), NoMemory>
+    pub fn store(
+        &mut self,
+        width: u8,
+        inputs: &Inputs<'_>,
+        steps: &[StackOp],
+    ) -> Result<(), NoMemory>
         ensures { (value addr : Expr) → words (inputs_of inputs.now) steps.now [] ≡ addr ∷ value ∷ [] → OnOk result (self.new ≡ with_tasks self.old (Puts (Int width) value addr ∷ [])) }
     {
         let mut stack = self.run(inputs, steps)?;
@@ -204,7 +207,7 @@ impl Builder {
         name: Option<Name>,
         function: RuntimeFn,
         inputs: &Inputs<'_>,
-        steps: &[Step],
+        steps: &[StackOp],
     ) -> Result<(), NoMemory>
         ensures { (args : ListOf (TyOf × Expr)) → map (λ a. a.0) args ≡ (runtime_signature function).params → map (λ a. a.1) args ≡ reverse (words (inputs_of inputs.now) steps.now []) → OnOk result (self.new ≡ with_tasks self.old (Calls name function args ∷ [])) }
     {

@@ -17,6 +17,6 @@ mod unions;
 pub use builder::Builder;
 pub use inputs::Inputs;
 pub use names::{mask_name, msan_name, origin_name, runtime_name};
-pub use steps::{Operation, Step, Width};
+pub use steps::{Operation, StackOp, Width};
 pub use tracked::{Shadow, TrackedOperand};
 pub use unions::{Widening, push_times, push_union};

@@ -1,14 +1,14 @@
 //! The names that inserted code gives and calls.
 ghost use Rattle.std.specs.Prelude.{◌≡◌, ◌+◌, ◌*◌, ◌<◌, ◌^◌, IfOk};
 ghost use Rattle.ms_ir.specs.Names.{runtime_name as runtime_name_of};
-ghost use Rattle.ms_tasks.specs.Tasks.{msan_name as msan_name_of, mask_name as mask_name_of, origin_name as origin_name_of};
+ghost use Rattle.ms_pass_tasks.specs.Tasks.{msan_name as msan_name_of, mask_name as mask_name_of, origin_name as origin_name_of};
 
 use itoa::Buffer;
 use ms_bits::{NoMemory, SmallBytes};
 use ms_ir::{Name, RuntimeFn};
 use std::alloc::Global;
 
-/// The local name of the inserted result with a number. The one error is running out of memory.
+/// The local name of the inserted result with a number.
 pub fn msan_name(alloc: Global, number: u64) -> Result<Name, NoMemory>
     ensures { IfOk result (λ x. x ≡ msan_name_of number) }
 {
@@ -17,7 +17,7 @@ pub fn msan_name(alloc: Global, number: u64) -> Result<Name, NoMemory>
     Ok(Name::Text(SmallBytes::joined(alloc, b"__msan.", digits)?))
 }
 
-/// The name of the mask of the function's value with a number. The one error is running out of memory.
+/// The name of the mask of the function's value with a number.
 pub fn mask_name(alloc: Global, value: u64) -> Result<Name, NoMemory>
     requires { value < 2 ^ 62 }
     ensures { IfOk result (λ x. x ≡ mask_name_of value) }
@@ -25,7 +25,7 @@ pub fn mask_name(alloc: Global, value: u64) -> Result<Name, NoMemory>
     msan_name(alloc, 2 * value + 1)
 }
 
-/// The name of the origin of the function's value with a number. The one error is running out of memory.
+/// The name of the origin of the function's value with a number.
 pub fn origin_name(alloc: Global, value: u64) -> Result<Name, NoMemory>
     requires { value < 2 ^ 62 }
     ensures { IfOk result (λ x. x ≡ origin_name_of value) }
@@ -33,7 +33,7 @@ pub fn origin_name(alloc: Global, value: u64) -> Result<Name, NoMemory>
     msan_name(alloc, 2 * value + 2)
 }
 
-/// The name of a runtime function. The one error is running out of memory.
+/// The name of a runtime function.
 pub fn runtime_name(alloc: Global, function: RuntimeFn) -> Result<Name, NoMemory>
     ensures { IfOk result (λ x. x ≡ runtime_name_of function) }
 {

@@ -22,7 +22,7 @@ pub enum Width {
 
 /// A step of a rule. It puts a word on the stack, or takes words from it and puts what they come to.
 #[derive(Clone, Copy)]
-pub enum Step {
+pub enum StackOp {
     /// The word of an operand, by its place from 0.
     Word(usize),
     /// The word of an operand as a number.

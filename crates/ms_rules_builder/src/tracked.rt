@@ -2,7 +2,7 @@
 ghost use Rattle.std.specs.Prelude.{◌≡◌, IfOk};
 ghost use Rattle.ms_ir.specs.{Layout.{width_of}, Equal.{type_eq}, ValueTypes.{type_of}};
 ghost use Rattle.ms_ir.specs.declared.syntax.Ty as type;
-ghost use Rattle.ms_tasks.specs.Environments.{is_zero};
+ghost use Rattle.ms_pass_tasks.specs.Environments.{is_zero};
 ghost use Rattle.ms_rules_builder.specs.Steps.{shadow_mask, shadow_origin};
 
 use crate::names::{mask_name, origin_name};
@@ -22,7 +22,7 @@ pub enum Shadow {
 }
 
 impl Shadow {
-    /// The operand that holds the mask. The one error is running out of memory.
+    /// The operand that holds the mask.
     pub fn mask(self, alloc: Global) -> Result<Operand, NoMemory>
         ensures { IfOk result (λ o. o ≡ shadow_mask self) }
     {
@@ -33,7 +33,7 @@ impl Shadow {
         }
     }
 
-    /// The operand that holds the origin. The one error is running out of memory.
+    /// The operand that holds the origin.
     pub fn origin(self, alloc: Global) -> Result<Operand, NoMemory>
         ensures { IfOk result (λ o. o ≡ shadow_origin self) }
     {

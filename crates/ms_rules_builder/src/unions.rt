@@ -1,10 +1,10 @@
 //! The steps that join the masks of operands.
 ghost use Rattle.std.specs.Prelude.{◌≡◌, ◌++◌, length, map, replicate, IfOk, OnOk};
-ghost use Rattle.ms_tasks.specs.Environments.{unknown};
+ghost use Rattle.ms_pass_tasks.specs.Environments.{unknown};
 ghost use Rattle.ms_rules_builder.specs.Steps.{tracked_of};
 ghost use Rattle.ms_rules_builder.specs.Joins.{width_in, mask_steps, masks_from, joins, union_steps};
 
-use crate::steps::{Operation, Step, Width};
+use crate::steps::{Operation, StackOp, Width};
 use crate::tracked::TrackedOperand;
 use ms_bits::NoMemory;
 
@@ -31,8 +31,8 @@ impl Widening {
     }
 }
 
-/// Adds a step so many times. The one error is running out of memory.
-pub fn push_times(steps: &mut Vec<Step>, step: Step, times: usize) -> Result<(), NoMemory>
+/// Adds a step so many times.
+pub fn push_times(steps: &mut Vec<StackOp>, step: StackOp, times: usize) -> Result<(), NoMemory>
     ensures { OnOk result (steps.new.items ≡ steps.old.items ++ replicate times step) }
 {
     for _ in 0..times {
@@ -43,25 +43,25 @@ pub fn push_times(steps: &mut Vec<Step>, step: Step, times: usize) -> Result<(),
 
 /// Adds the steps of one word of a union: the mask, of so many bits, of the operand with a place.
 fn push_mask(
-    steps: &mut Vec<Step>,
+    steps: &mut Vec<StackOp>,
     place: usize,
     width: u8,
     widening: Widening,
 ) -> Result<(), NoMemory>
     ensures { OnOk result (steps.new.items ≡ steps.old.items ++ mask_steps widening place width) }
 {
-    let mask = Step::Mask(place);
+    let mask = StackOp::Mask(place);
     match widening {
         Widening::Own => steps.extend_from_slice(&[mask])?,
-        Widening::Zeros => steps.extend_from_slice(&[mask, Step::Widen(width)])?,
-        Widening::Sign => steps.extend_from_slice(&[mask, Step::Extend(width)])?,
+        Widening::Zeros => steps.extend_from_slice(&[mask, StackOp::Widen(width)])?,
+        Widening::Sign => steps.extend_from_slice(&[mask, StackOp::Extend(width)])?,
     }
     Ok(())
 }
 
 /// Adds the steps of the words of a union, and returns how many words these are.
 fn push_masks(
-    steps: &mut Vec<Step>,
+    steps: &mut Vec<StackOp>,
     operands: &[TrackedOperand<'_>],
     widening: Widening,
 ) -> Result<usize, NoMemory>
@@ -79,9 +79,9 @@ fn push_masks(
 }
 
 /// Adds the steps that leave the union of the operands' masks on the stack: of the masks that aren't known to be 0, and 0
-/// where there is none. The one error is running out of memory.
+/// where there is none.
 pub fn push_union(
-    steps: &mut Vec<Step>,
+    steps: &mut Vec<StackOp>,
     operands: &[TrackedOperand<'_>],
     widening: Widening,
 ) -> Result<(), NoMemory>
@@ -89,8 +89,12 @@ pub fn push_union(
 {
     let masks = push_masks(steps, operands, widening)?;
     if masks == 0 {
-        steps.push(Step::Constant(0))?;
+        steps.push(StackOp::Constant(0))?;
         return Ok(());
     }
-    push_times(steps, Step::Two(Operation::Or, widening.width()), masks - 1)
+    push_times(
+        steps,
+        StackOp::Two(Operation::Or, widening.width()),
+        masks - 1,
+    )
 }

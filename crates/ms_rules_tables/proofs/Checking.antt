@@ -12,9 +12,9 @@ use Rattle.ms_ir.specs.declared.calls.External.{External}
 use Rattle.ms_ir.specs.declared.calls.External.TheVariants.{Printf}
 use Rattle.ms_runs.specs.Uses as uses
 use Rattle.ms_runs.specs.Uses.{callee_uses, external_uses, value_uses}
-use Rattle.ms_tasks.specs.Tasks.{InsertedCode}
-use Rattle.ms_tasks.specs.Environments.{Tracked}
-use Rattle.ms_tasks.specs.CheckTasks.{use_tasks, check_tasks}
+use Rattle.ms_pass_tasks.specs.Tasks.{InsertedCode}
+use Rattle.ms_pass_tasks.specs.Environments.{Tracked}
+use Rattle.ms_pass_tasks.specs.CheckTasks.{use_tasks, check_tasks}
 use Rattle.ms_rules_builder.specs.Called.{called_external}
 use Rattle.ms_rules_builder.specs.Made.{with_tasks}
 use Rattle.ms_rules_tables.specs.declared.uses.CheckedUse.{CheckedUse}

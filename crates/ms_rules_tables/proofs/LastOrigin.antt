@@ -6,22 +6,22 @@ use Rattle.ms_ir.specs.declared.syntax.Name.{Name}
 use Rattle.ms_ir.specs.declared.syntax.Ty.{Int}
 use Rattle.ms_bits.specs.declared.operations.Pred.TheVariants as pred
 use Rattle.ms_ir.specs.Layout.{width_of}
-use Rattle.ms_tasks.specs.Tasks.{Expr, Pick}
-use Rattle.ms_tasks.specs.Environments.{Tracked, tracked_at, mask_of, origin_of, mask_type, is_set}
-use Rattle.ms_tasks.specs.ResultMasks.{last_expr, first_last}
+use Rattle.ms_pass_tasks.specs.Tasks.{Expr, Pick}
+use Rattle.ms_pass_tasks.specs.Environments.{Tracked, tracked_at, mask_of, origin_of, mask_type, is_set}
+use Rattle.ms_pass_tasks.specs.ResultMasks.{last_expr, first_last}
 use Rattle.ms_rules_builder.specs.declared.steps.Width.TheVariants as width
-use Rattle.ms_rules_builder.specs.declared.steps.Step.{Step}
-use Rattle.ms_rules_builder.specs.declared.steps.Step.TheVariants as step
+use Rattle.ms_rules_builder.specs.declared.steps.StackOp.{StackOp}
+use Rattle.ms_rules_builder.specs.declared.steps.StackOp.TheVariants as step
 use Rattle.ms_rules_builder.specs.Steps.{Inputs, words}
 use Rattle.ms_rules_builder.proofs.Joins.{times_and_once}
 use Rattle.ms_rules_tables.specs.Rules.{is_rule, tests}
-use Rattle.ms_rules_tables.proofs.Tables.{ends_behind, ends_in_times}
+use Rattle.ms_rules_tables.proofs.Tables.{ends_appended, ends_in_times}
 
-abbrev pick : Step
+abbrev pick : StackOp
 pick = step.Pick (width.Bits 32)
 
--- the rule for so many operands behind the first
-abbrev pub origin_steps : List Tracked → ℕ → List Step
+-- the rule for so many operands after the first
+abbrev pub origin_steps : List Tracked → ℕ → List StackOp
 origin_steps ts n = tests ts n ++ step.Origin 0 ∷ replicate n pick
 
 -- one more operand
@@ -35,7 +35,7 @@ abbrev on : ℕ → ℕ → ℕ → Option Name → List Tracked → Inputs
 on w ones sign r ts = record { operands = ts; width = w; ones = ones; sign = sign; result = r }
 
 module _ (w ones sign : ℕ) (r : Option Name) (t : Tracked) (ts : List Tracked) where
-  first_of : (m : ℕ) → m ≤ length ts → (rest : List Step) (st : List Expr)
+  first_of : (m : ℕ) → m ≤ length ts → (rest : List StackOp) (st : List Expr)
       → words (on w ones sign r (t ∷ ts)) (tests (t ∷ ts) m ++ step.Origin 0 ∷ (replicate m pick ++ rest)) st
       ≡ words (on w ones sign r (t ∷ ts)) rest (last_expr (take m ts) (origin_of t) ∷ st)
   first_of zero p rest st = refl
@@ -58,7 +58,7 @@ on_operands w ones sign r (t ∷ ts) =
     ∙ ap (λ l. last_expr l (origin_of t) ∷ []) (take_all (length ts) ts (omega arith))
 
 -- what the rule comes to
-pub last_origin : (i : Inputs) (ts : List Tracked) (n : ℕ) (steps : List Step) → i.operands ≡ ts → n ≡ length ts - 1 → steps ≡ origin_steps ts n → words i steps [] ≡ first_last i.operands ∷ []
+pub last_origin : (i : Inputs) (ts : List Tracked) (n : ℕ) (steps : List StackOp) → i.operands ≡ ts → n ≡ length ts - 1 → steps ≡ origin_steps ts n → words i steps [] ≡ first_last i.operands ∷ []
 last_origin i ts n steps e p q =
     let of : List Tracked → ℕ → List Expr = λ l m. words i (origin_steps l m) [] in
     ap (λ l. words i l []) q ∙ ap (of ts) p ∙ ap (λ l. of l (length l - 1)) (sym e) ∙ on_operands i.width i.ones i.sign i.result i.operands
@@ -67,11 +67,11 @@ pub origin_is_rule : (ts : List Tracked) (n : ℕ) → is_rule (origin_steps ts 
 origin_is_rule ts zero = refl
 origin_is_rule ts (suc k) =
     let x = step.Test pred.Ne (width.Bits (width_of (tracked_at (suc k) ts).ty)) in
-    let before : List Step = step.Constant 0 ∷ x ∷ step.Origin (suc k) ∷ tests ts k in
-    ends_behind before (step.Origin 0 ∷ replicate (suc k) pick) (ends_behind (step.Origin 0 ∷ []) (replicate (suc k) pick) (ends_in_times k pick refl))
+    let before : List StackOp = step.Constant 0 ∷ x ∷ step.Origin (suc k) ∷ tests ts k in
+    ends_appended before (step.Origin 0 ∷ replicate (suc k) pick) (ends_appended (step.Origin 0 ∷ []) (replicate (suc k) pick) (ends_in_times k pick refl))
 
 -- the steps as they are added
-pub origin_steps_made : (ts : List Tracked) (n m : ℕ) (none tested first all : List Step) → none ≡ [] → tested ≡ none ++ tests ts n → first ≡ tested ++ step.Origin 0 ∷ [] → m ≡ n
+pub origin_steps_made : (ts : List Tracked) (n m : ℕ) (none tested first all : List StackOp) → none ≡ [] → tested ≡ none ++ tests ts n → first ≡ tested ++ step.Origin 0 ∷ [] → m ≡ n
     → all ≡ first ++ replicate m pick → all ≡ origin_steps ts n
 origin_steps_made ts n m none tested first all a b c d e =
     e

@@ -10,10 +10,10 @@ use Rattle.ms_ir.specs.declared.calls.External.TheVariants.{Word}
 use Rattle.ms_ir.specs.declared.calls.RuntimeFn.TheVariants as function
 use Rattle.ms_ir.specs.declared.syntax.Op.{Op}
 use Rattle.ms_ir.specs.Signatures.{runtime_signature}
-use Rattle.ms_tasks.specs.Tasks.{mask_name, origin_name}
-use Rattle.ms_tasks.specs.Environments.{Tracked, number, is_zero}
-use Rattle.ms_tasks.specs.ResultMasks.{moved_args, move_args, mask_expr, origin_expr, answer_expr, answer_origin_expr}
-use Rattle.ms_tasks.specs.ResultTasks.{external_move, answer_tasks, result_width}
+use Rattle.ms_pass_tasks.specs.Tasks.{mask_name, origin_name}
+use Rattle.ms_pass_tasks.specs.Environments.{Tracked, number, is_zero}
+use Rattle.ms_pass_tasks.specs.ResultMasks.{moved_args, move_args, mask_expr, origin_expr, answer_expr, answer_origin_expr}
+use Rattle.ms_pass_tasks.specs.ResultTasks.{external_move, answer_tasks, result_width}
 use Rattle.ms_rules_tables.specs.Rules.{args_with, defined, answered}
 
 pub args_are : (f : WordFn) (w : ℕ) (a b c : Tracked) → moved_args f w a b c ≡ args_with (is_zero c.mask) f w a b c

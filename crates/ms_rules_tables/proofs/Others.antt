@@ -10,8 +10,8 @@ use Rattle.ms_ir.specs.declared.syntax.Ty.{Ty}
 use Rattle.ms_ir.specs.declared.syntax.Operand.{Operand}
 use Rattle.ms_ir.specs.declared.syntax.Op.{Op}
 use Rattle.ms_ir.specs.declared.syntax.Op.TheVariants as op
-use Rattle.ms_tasks.specs.Environments.{Tracked}
-use Rattle.ms_tasks.specs.ResultTasks.{define_tasks}
+use Rattle.ms_pass_tasks.specs.Environments.{Tracked}
+use Rattle.ms_pass_tasks.specs.ResultTasks.{define_tasks}
 
 pub nothing_else : (func : Name → Option ℕ) (v : ℕ) (ts : List Tracked) (o : Op)
     → ((x : BinOp) (f : Flags) (t : Ty) (a b : Operand) → o ≡ op.Binary x f t a b → ⊥)

@@ -1,4 +1,4 @@
--- What stands behind an operation and before it, from what is known of it.
+-- What stands after an operation and before it, from what is known of it.
 use Rattle.std.proofs.Common.{◌≡◌, ◌⊎◌, inl, inr, ℕ, ◌+◌, false, List, [], ◌∷◌, refl, sym, ap, ◌∙◌}
 use Rattle.std.specs.Prelude.{Option, Some, None, is_some}
 use Rattle.ms_bits.specs.declared.operations.Pred.TheVariants as pred
@@ -14,9 +14,9 @@ use Rattle.ms_ir.specs.declared.calls.External.TheVariants as external
 use Rattle.ms_ir.specs.Instructions.{operands, count_undefs, external_named}
 use Rattle.ms_ir.specs.Layout.{width_of, size_in}
 use Rattle.ms_runs.specs.World.{Here}
-use Rattle.ms_tasks.specs.Tasks.{Leaf, Task, msan_name, Calls, Expr, Mul, Two, Test, Pick}
-use Rattle.ms_tasks.specs.Environments.{Env, Given, Tracked, tracked_at, word_of, number, widened}
-use Rattle.ms_tasks.specs.PlaneTasks.{copy_task, saved_tasks, save_tasks, external_tasks, callee_tasks, plane_tasks}
+use Rattle.ms_pass_tasks.specs.Tasks.{Leaf, Task, msan_name, Calls, Expr, Mul, Two, Test, Pick}
+use Rattle.ms_pass_tasks.specs.Environments.{Env, Given, Tracked, tracked_at, word_of, number, widened}
+use Rattle.ms_pass_tasks.specs.PlaneTasks.{copy_task, saved_tasks, save_tasks, external_tasks, callee_tasks, plane_tasks}
 use Rattle.ms_rules_builder.specs.Called.{calls_own, called_external}
 use Rattle.ms_rules_builder.specs.Steps.{result_word}
 use Rattle.ms_rules_tables.specs.Sizes.{element_size}
@@ -78,7 +78,7 @@ module _ (given : Given) (env : Env) (h : Here) (site root saved : ℕ) (ts : Li
   store_row (Some x) t v a same = ap (λ n. store_pieces n (width_of t) ts) (sym same)
   store_row None t v a same = ap (λ n. store_pieces n (width_of t) ts) (sym same)
 
-  -- behind a `store`
+  -- after a `store`
   pub store_planes : (r : Option Name) (o : Op) (t : Ty) (v a : Operand) → o ≡ op.Store t v a → h.site ≡ site → store_pieces site (width_of t) ts ≡ plane_tasks given env h saved r o ts
   store_planes r o t v a is same = store_row r t v a same ∙ ap (λ o. plane_tasks given env h saved r o ts) (sym is)
 
@@ -89,7 +89,7 @@ module _ (given : Given) (env : Env) (h : Here) (site root saved : ℕ) (ts : Li
       ∙ ap (λ m. named_call function.Poison (Some x) (alloca_args (h.root + count_undefs ((u, n) ∷ []) + 1) m (width_of u) (Some x) ts)) (sym item)
   alloca_row size None t u n item own = refl
 
-  -- behind an `alloca`
+  -- after an `alloca`
   pub alloca_planes : (size : ℕ) (r : Option Name) (o : Op) (t u : Ty) (n : Operand) → o ≡ op.Alloca t u n → element_size given.types o ≡ size → h.root + count_undefs (operands o) + 1 ≡ root
       → named_call function.Poison r (alloca_args root size (width_of u) r ts) ≡ plane_tasks given env h saved r o ts
   alloca_planes size r o t u n is item own =
@@ -101,7 +101,7 @@ module _ (given : Given) (env : Env) (h : Here) (site root saved : ℕ) (ts : Li
   call_row (Some x) ret callee args = refl
   call_row None ret callee args = refl
 
-  -- behind a call of an external
+  -- after a call of an external
   pub call_planes : (r : Option Name) (o : Op) (ret : Option Ty) (callee : Name) (args : List (Ty × Operand)) (e : External) → o ≡ op.Call ret callee args → calls_own given.func o ≡ false
       → called_external given.func o ≡ Some e → h.site ≡ site → h.root + count_undefs (operands o) + 1 ≡ root → external_tasks site root saved r e ts ≡ plane_tasks given env h saved r o ts
   call_planes r o ret callee args e is foreign named same own =

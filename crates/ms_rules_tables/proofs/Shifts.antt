@@ -9,10 +9,10 @@ use Rattle.ms_ir.specs.declared.syntax.Operand.{Operand}
 use Rattle.ms_ir.specs.declared.syntax.Op.{Op}
 use Rattle.ms_ir.specs.declared.syntax.Op.TheVariants as op
 use Rattle.ms_ir.specs.Layout.{width_of}
-use Rattle.ms_tasks.specs.Tasks.{Sets}
-use Rattle.ms_tasks.specs.Environments.{Tracked, tracked_at}
-use Rattle.ms_tasks.specs.ResultMasks.{origin_expr, sum_expr, first_last}
-use Rattle.ms_tasks.specs.ResultTasks.{binary_tasks, word_tasks, shift_task}
+use Rattle.ms_pass_tasks.specs.Tasks.{Sets}
+use Rattle.ms_pass_tasks.specs.Environments.{Tracked, tracked_at}
+use Rattle.ms_pass_tasks.specs.ResultMasks.{origin_expr, sum_expr, first_last}
+use Rattle.ms_pass_tasks.specs.ResultTasks.{binary_tasks, word_tasks, shift_task}
 
 module _ (mask origin : Name) (p : Op) (w : ℕ) (ts : List Tracked) where
   pub of_a_shift : (o : BinOp) → (o ≡ binary.Shl) ⊎ ((o ≡ binary.Lshr) ⊎ (o ≡ binary.Ashr))

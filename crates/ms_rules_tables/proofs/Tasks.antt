@@ -2,8 +2,8 @@
 use Rattle.std.proofs.Common.{◌≡◌, ℕ, List, [], ◌++◌, Result, refl, sym, ap, ap₂, ◌∙◌, subst, OnOk}
 use Rattle.std.proofs.lemmas.List.{append_assoc, append-nil}
 use Rattle.ms_ir.specs.declared.syntax.Inst.{Inst}
-use Rattle.ms_tasks.specs.Tasks.{InsertedCode, Task, tasks_code}
-use Rattle.ms_tasks.proofs.Marked.{tasks_append, tasks_append_next}
+use Rattle.ms_pass_tasks.specs.Tasks.{InsertedCode, Task, tasks_code}
+use Rattle.ms_pass_tasks.proofs.Marked.{tasks_append, tasks_append_next}
 use Rattle.ms_rules_builder.specs.Made.{with_tasks}
 
 same_code : (x y : List Inst) (m n : ℕ) → x ≡ y → m ≡ n → let c : InsertedCode = record { code = x; next = m } in let d : InsertedCode = record { code = y; next = n } in c ≡ d

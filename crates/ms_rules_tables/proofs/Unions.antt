@@ -13,10 +13,10 @@ use Rattle.ms_ir.specs.declared.syntax.Operand.{Operand}
 use Rattle.ms_ir.specs.declared.syntax.Op.{Op}
 use Rattle.ms_ir.specs.declared.syntax.Op.TheVariants as op
 use Rattle.ms_runs.specs.Uses.{has_flag, has_true_flag, flagged_words, blind_words}
-use Rattle.ms_tasks.specs.Environments.{Tracked}
-use Rattle.ms_tasks.specs.CheckTasks.{blind_binary_of, blinded_of, union_masks}
+use Rattle.ms_pass_tasks.specs.Environments.{Tracked}
+use Rattle.ms_pass_tasks.specs.CheckTasks.{blind_binary_of, blinded_of, union_masks}
 use Rattle.ms_rules_builder.specs.Called.{called_external}
-use Rattle.ms_rules_builder.specs.declared.steps.Step.{Step}
+use Rattle.ms_rules_builder.specs.declared.steps.StackOp.{StackOp}
 use Rattle.ms_rules_builder.specs.declared.unions.Widening.TheVariants as widening
 use Rattle.ms_rules_builder.specs.Steps.{words}
 use Rattle.ms_rules_builder.specs.Joins.{union_steps}
@@ -73,7 +73,7 @@ words_of_call func o ret callee args e xs is calls =
 -- ---- steps
 
 -- the steps of all operands
-pub masks_joined : (ts : List Tracked) (x : Option Name) (none all : List Step) → none ≡ [] → all ≡ none ++ union_steps widening.Zeros ts
+pub masks_joined : (ts : List Tracked) (x : Option Name) (none all : List StackOp) → none ≡ [] → all ≡ none ++ union_steps widening.Zeros ts
     → words (plain ts x) all [] ≡ union_masks ts ∷ []
 masks_joined ts x none all empty made =
     ap (λ l. words (plain ts x) l []) (made ∙ ap (λ l. l ++ union_steps widening.Zeros ts) empty ∙ sym (append-nil (union_steps widening.Zeros ts)))

@@ -4,9 +4,9 @@ use Rattle.ms_ir.specs.declared.syntax.Name.{Name}
 use Rattle.ms_ir.specs.declared.syntax.Ty.{Ty, Int, Ptr}
 use Rattle.ms_ir.specs.declared.calls.RuntimeFn.{RuntimeFn}
 use Rattle.ms_ir.specs.declared.calls.RuntimeFn.TheVariants as function
-use Rattle.ms_tasks.specs.Tasks.{Expr, Task, Puts, Calls}
-use Rattle.ms_tasks.specs.Environments.{Tracked, tracked_at, mask_of, origin_of, word_of, widened, number}
-use Rattle.ms_tasks.specs.ResultTasks.{shadow_address}
+use Rattle.ms_pass_tasks.specs.Tasks.{Expr, Task, Puts, Calls}
+use Rattle.ms_pass_tasks.specs.Environments.{Tracked, tracked_at, mask_of, origin_of, word_of, widened, number}
+use Rattle.ms_pass_tasks.specs.ResultTasks.{shadow_address}
 
 -- a call of a runtime function, where the instruction has a result
 abbrev pub named_call : RuntimeFn → Option Name → List (Ty × Expr) → List Task

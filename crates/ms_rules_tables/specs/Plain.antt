@@ -1,7 +1,7 @@
 -- What rules of no width of their own work on.
 use Rattle.std.specs.Prelude.{List, Option}
 use Rattle.ms_ir.specs.declared.syntax.Name.{Name}
-use Rattle.ms_tasks.specs.Environments.{Tracked}
+use Rattle.ms_pass_tasks.specs.Environments.{Tracked}
 use Rattle.ms_rules_builder.specs.Steps.{Inputs}
 
 -- operands, and the result of the instruction

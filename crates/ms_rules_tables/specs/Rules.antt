@@ -7,24 +7,24 @@ use Rattle.ms_bits.specs.declared.word_functions.BitMove.{BitMove}
 use Rattle.ms_ir.specs.declared.calls.RuntimeFn.TheVariants as function
 use Rattle.ms_ir.specs.declared.syntax.Ty.{Ty, Int}
 use Rattle.ms_ir.specs.Layout.{width_of}
-use Rattle.ms_tasks.specs.Tasks.{mask_name, origin_name, Expr, Pick, Task, Sets, Calls}
-use Rattle.ms_tasks.specs.Environments.{Tracked, tracked_at, mask_of, word_of, number, is_set}
-use Rattle.ms_tasks.specs.ResultMasks.{carry_expr, move_args}
+use Rattle.ms_pass_tasks.specs.Tasks.{mask_name, origin_name, Expr, Pick, Task, Sets, Calls}
+use Rattle.ms_pass_tasks.specs.Environments.{Tracked, tracked_at, mask_of, word_of, number, is_set}
+use Rattle.ms_pass_tasks.specs.ResultMasks.{carry_expr, move_args}
 use Rattle.ms_rules_builder.specs.declared.steps.Width.TheVariants as width
-use Rattle.ms_rules_builder.specs.declared.steps.Step.{Step}
-use Rattle.ms_rules_builder.specs.declared.steps.Step.TheVariants as step
+use Rattle.ms_rules_builder.specs.declared.steps.StackOp.{StackOp}
+use Rattle.ms_rules_builder.specs.declared.steps.StackOp.TheVariants as step
 use Rattle.ms_rules_builder.specs.declared.unions.Widening.{Widening}
 use Rattle.ms_rules_builder.specs.Steps.{Inputs, bits_in, is_leaf, is_operation}
 use Rattle.ms_rules_builder.specs.Joins.{width_in, union_in}
 
 -- the last step is an operation
-abbrev pub ends_in_operation : List Step → Bool
+abbrev pub ends_in_operation : List StackOp → Bool
 ends_in_operation [] = false
 ends_in_operation (s ∷ []) = is_operation s
 ends_in_operation (s ∷ t ∷ l) = ends_in_operation (t ∷ l)
 
 -- one word that is there already, or steps of which the last is an operation
-abbrev pub is_rule : List Step → Bool
+abbrev pub is_rule : List StackOp → Bool
 is_rule [] = false
 is_rule (s ∷ []) = is_leaf s
 is_rule (s ∷ t ∷ l) = ends_in_operation (t ∷ l)
@@ -34,7 +34,7 @@ abbrev pub on_width : ℕ → List Tracked → Inputs
 on_width w ts = record { operands = ts; width = w; ones = 2 ^ w - 1; sign = 2 ^ (w - 1); result = None }
 
 -- the tests and the origins of the operands with places from a last one down to 1
-abbrev pub tests : List Tracked → ℕ → List Step
+abbrev pub tests : List Tracked → ℕ → List StackOp
 tests ts zero = []
 tests ts (suc k) =
     step.Mask (suc k) ∷ step.Constant 0 ∷ step.Test pred.Ne (width.Bits (width_of (tracked_at (suc k) ts).ty)) ∷ step.Origin (suc k) ∷ tests ts k

@@ -2,14 +2,14 @@
 ghost use Rattle.std.specs.Prelude.{◌≡◌, ℕ, [], ◌∷◌, map, take, drop, IfOk, OnOk, Option};
 ghost use Rattle.ms_ir.specs.declared.syntax.Name.{Name as NameOf};
 ghost use Rattle.ms_runs.specs.Uses.{has_flag as has_flag_of, is_odd as is_odd_of, has_true_flag as has_true_flag_of, flagged_words, blind_words as blind_words_of};
-ghost use Rattle.ms_tasks.specs.CheckTasks.{all_zero, blind_tasks, blinded_of, blind_binary_of, union_masks};
+ghost use Rattle.ms_pass_tasks.specs.CheckTasks.{all_zero, blind_tasks, blinded_of, blind_binary_of, union_masks};
 ghost use Rattle.ms_rules_builder.specs.{Called.{called_external}, Made.{with_tasks}, Steps.{tracked_of, words}};
 ghost use Rattle.ms_rules_tables.specs.Plain.{plain};
 
 use crate::calls::call;
 use ms_bits::{BinOp, Flags, NoMemory};
 use ms_ir::{External, Op, Operand, RuntimeFn, Ty};
-use ms_rules_builder::{Builder, Step, TrackedOperand, Widening, push_union};
+use ms_rules_builder::{Builder, StackOp, TrackedOperand, Widening, push_union};
 use std::alloc::Global;
 
 /// Whether an operation carries a flag.
@@ -138,7 +138,7 @@ fn are_clean(operands: &[TrackedOperand<'_>]) -> bool
 }
 
 /// The steps that join the masks of operands.
-fn union_steps(alloc: Global, operands: &[TrackedOperand<'_>]) -> Result<Vec<Step>, NoMemory>
+fn union_steps(alloc: Global, operands: &[TrackedOperand<'_>]) -> Result<Vec<StackOp>, NoMemory>
     ensures { (x : Option NameOf) → IfOk result (λ steps. words (plain (map tracked_of operands.now) x) steps.items [] ≡ union_masks (map tracked_of operands.now) ∷ []) }
 {
     let mut steps = Vec::new(alloc);
@@ -146,8 +146,7 @@ fn union_steps(alloc: Global, operands: &[TrackedOperand<'_>]) -> Result<Vec<Ste
     Ok(steps)
 }
 
-/// Counts the blind use of an operation, if it may have one; `external` says which external it calls. The one error is want
-/// of memory.
+/// Counts the blind use of an operation, if it may have one; `external` says which external it calls.
 pub fn count_blind(
     builder: &mut Builder,
     external: Option<External>,

@@ -2,7 +2,7 @@
 ghost use Rattle.std.specs.Prelude.{◌≡◌, ℕ, map, drop, OnOk, Option};
 ghost use Rattle.ms_ir.specs.{declared.syntax.Name.{Name as NameOf}, declared.calls.External.TheVariants.{Printf}};
 ghost use Rattle.ms_runs.specs.Uses.{uses, external_uses, value_uses, string_uses, Word};
-ghost use Rattle.ms_tasks.specs.CheckTasks.{check_tasks, use_tasks};
+ghost use Rattle.ms_pass_tasks.specs.CheckTasks.{check_tasks, use_tasks};
 ghost use Rattle.ms_rules_builder.specs.{Called.{called_external}, Made.{with_tasks}, Steps.{tracked_of}};
 ghost use Rattle.ms_rules_tables.specs.Tables.{use_of};
 
@@ -10,7 +10,7 @@ use crate::calls::{call, is_clean_at, width_at};
 use crate::uses::{CheckedUse, POINTER, VALUE, checked_uses};
 use ms_bits::NoMemory;
 use ms_ir::{External, Op, Operand, RuntimeFn, Ty};
-use ms_rules_builder::{Builder, Step, TrackedOperand};
+use ms_rules_builder::{Builder, StackOp, TrackedOperand};
 
 /// The site of an instruction, and its operands.
 #[derive(Clone, Copy)]
@@ -38,13 +38,13 @@ fn check_word(
         inst.operands,
         &None,
         &[
-            Step::Mask(place),
-            Step::Widen(width),
-            Step::Constant(width as u64),
-            Step::Origin(place),
-            Step::Constant(kind),
-            Step::Constant(place as u64),
-            Step::Constant(inst.site as u64),
+            StackOp::Mask(place),
+            StackOp::Widen(width),
+            StackOp::Constant(width as u64),
+            StackOp::Origin(place),
+            StackOp::Constant(kind),
+            StackOp::Constant(place as u64),
+            StackOp::Constant(inst.site as u64),
         ],
     )
 }
@@ -65,10 +65,10 @@ fn check_use(
             inst.operands,
             &None,
             &[
-                Step::Word(start),
-                Step::Word(size),
-                Step::Constant(kind),
-                Step::Constant(inst.site as u64),
+                StackOp::Word(start),
+                StackOp::Word(size),
+                StackOp::Constant(kind),
+                StackOp::Constant(inst.site as u64),
             ],
         ),
         CheckedUse::Line(start) => call(
@@ -76,7 +76,7 @@ fn check_use(
             RuntimeFn::CheckString,
             inst.operands,
             &None,
-            &[Step::Word(start), Step::Constant(inst.site as u64)],
+            &[StackOp::Word(start), StackOp::Constant(inst.site as u64)],
         ),
         CheckedUse::Asked(start) => call(
             builder,
@@ -84,10 +84,10 @@ fn check_use(
             inst.operands,
             &None,
             &[
-                Step::Word(0),
-                Step::Constant(start as u64),
-                Step::Word(start),
-                Step::Constant(inst.site as u64),
+                StackOp::Word(0),
+                StackOp::Constant(start as u64),
+                StackOp::Word(start),
+                StackOp::Constant(inst.site as u64),
             ],
         ),
     }
@@ -140,7 +140,7 @@ fn check_printf(
 }
 
 /// Checks the uses of an operation at a site; `main` says whether it stands in the function `main`, and `external` which
-/// external it calls. The one error is running out of memory.
+/// external it calls.
 pub fn check(
     builder: &mut Builder,
     site: u32,

@@ -16,5 +16,5 @@ mod uses;
 
 pub use blind::count_blind;
 pub use checks::check;
-pub use planes::{save, set_planes};
+pub use planes::{save, update_shadow};
 pub use results::define;

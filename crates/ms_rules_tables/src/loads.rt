@@ -5,25 +5,25 @@ ghost use Rattle.ms_ir.specs.{declared.syntax.Operand.{Operand as OperandOf}, La
 ghost use Rattle.ms_ir.specs.declared.syntax.Operand.TheVariants as operand;
 ghost use Rattle.ms_ir.specs.declared.syntax.Op.TheVariants as operation;
 ghost use Rattle.ms_ir.specs.declared.calls.RuntimeFn.TheVariants as function;
-ghost use Rattle.ms_tasks.specs.Tasks.{Leaf, Fetches, Calls, mask_name as mask_name_of, origin_name as origin_name_of};
-ghost use Rattle.ms_tasks.specs.Environments.{tracked_at, word_of, widened};
-ghost use Rattle.ms_tasks.specs.ResultTasks.{define_tasks, shadow_address};
+ghost use Rattle.ms_pass_tasks.specs.Tasks.{Leaf, Fetches, Calls, mask_name as mask_name_of, origin_name as origin_name_of};
+ghost use Rattle.ms_pass_tasks.specs.Environments.{tracked_at, word_of, widened};
+ghost use Rattle.ms_pass_tasks.specs.ResultTasks.{define_tasks, shadow_address};
 ghost use Rattle.ms_rules_builder.specs.{Made.{with_tasks}, Steps.{inputs_of, tracked_of}};
 
 use ms_bits::NoMemory;
 use ms_ir::RuntimeFn;
 use ms_ir::areas::SHADOW_BITS;
-use ms_rules_builder::Step::{Constant, Inserted, ToNumber, ToPointer, Widen, Word};
+use ms_rules_builder::StackOp::{Constant, Inserted, ToNumber, ToPointer, Widen, Word};
 use ms_rules_builder::{
-    Builder, Inputs, Operation, Step, TrackedOperand, Width, mask_name, origin_name,
+    Builder, Inputs, Operation, StackOp, TrackedOperand, Width, mask_name, origin_name,
 };
 
 // The address of the shadow of what the address names.
-const SHADOW: [Step; 5] = [
+const SHADOW: [StackOp; 5] = [
     Word(0),
     ToNumber,
     Constant(SHADOW_BITS),
-    Step::Two(Operation::Xor, Width::Bits(64)),
+    StackOp::Two(Operation::Xor, Width::Bits(64)),
     ToPointer,
 ];
 

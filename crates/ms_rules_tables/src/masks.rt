@@ -4,48 +4,48 @@ ghost use Rattle.std.specs.Prelude.{◌≡◌, ◌≢◌, ℕ, true, List, [], �
 ghost use Rattle.ms_bits.specs.declared.operations.BinOp.TheVariants as binary;
 ghost use Rattle.ms_bits.specs.declared.word_functions.WordFn.TheVariants as word;
 ghost use Rattle.ms_bits.specs.WordFunctions.{bits_of as width_bits};
-ghost use Rattle.ms_tasks.specs.{Tasks.{Expr}, Environments.{Tracked, tracked_at, bits_of, mask_of, word_of}};
-ghost use Rattle.ms_tasks.specs.ResultMasks.{binary_expr, cast_expr, compare_expr, ctpop_expr, ctlz_expr, cttz_expr, word_expr};
+ghost use Rattle.ms_pass_tasks.specs.{Tasks.{Expr}, Environments.{Tracked, tracked_at, bits_of, mask_of, word_of}};
+ghost use Rattle.ms_pass_tasks.specs.ResultMasks.{binary_expr, cast_expr, compare_expr, ctpop_expr, ctlz_expr, cttz_expr, word_expr};
 ghost use Rattle.ms_rules_builder.specs.Steps.{Inputs as InputsOf, is_operation, stepped, words};
 ghost use Rattle.ms_rules_tables.specs.Rules.{is_rule, on_width, args_with};
 
 use ms_bits::{BinOp, CastOp, Pred, WordFn, WordWidth};
-use ms_rules_builder::Step::{Bits, Constant, Mask, Ones, Sign, Word};
-use ms_rules_builder::{Operation, Step, Width};
+use ms_rules_builder::StackOp::{Bits, Constant, Mask, Ones, Sign, Word};
+use ms_rules_builder::{Operation, StackOp, Width};
 
-const AND: Step = Step::Two(Operation::And, Width::Own);
+const AND: StackOp = StackOp::Two(Operation::And, Width::Own);
 
-const OR: Step = Step::Two(Operation::Or, Width::Own);
+const OR: StackOp = StackOp::Two(Operation::Or, Width::Own);
 
-const XOR: Step = Step::Two(Operation::Xor, Width::Own);
+const XOR: StackOp = StackOp::Two(Operation::Xor, Width::Own);
 
-const SUB: Step = Step::Two(Operation::Sub, Width::Own);
+const SUB: StackOp = StackOp::Two(Operation::Sub, Width::Own);
 
-const IS_EQUAL: Step = Step::Test(Pred::Eq, Width::Own);
+const IS_EQUAL: StackOp = StackOp::Test(Pred::Eq, Width::Own);
 
-const IS_OTHER: Step = Step::Test(Pred::Ne, Width::Own);
+const IS_OTHER: StackOp = StackOp::Test(Pred::Ne, Width::Own);
 
-const IS_NOT_GREATER: Step = Step::Test(Pred::Ule, Width::Own);
+const IS_NOT_GREATER: StackOp = StackOp::Test(Pred::Ule, Width::Own);
 
-const IS_NOT_LESS: Step = Step::Test(Pred::Uge, Width::Own);
+const IS_NOT_LESS: StackOp = StackOp::Test(Pred::Uge, Width::Own);
 
-const PICK: Step = Step::Pick(Width::Own);
+const PICK: StackOp = StackOp::Pick(Width::Own);
 
-const AND_OF_BITS: Step = Step::Two(Operation::And, Width::Bits(1));
+const AND_OF_BITS: StackOp = StackOp::Two(Operation::And, Width::Bits(1));
 
-const XOR_OF_BITS: Step = Step::Two(Operation::Xor, Width::Bits(1));
+const XOR_OF_BITS: StackOp = StackOp::Two(Operation::Xor, Width::Bits(1));
 
 /// Of a result that is clean.
-pub const CLEAN: [Step; 1] = [Constant(0)];
+pub const CLEAN: [StackOp; 1] = [Constant(0)];
 
 /// Of a result that has the mask of the first operand, as that of a division.
-pub const FIRST: [Step; 1] = [Mask(0)];
+pub const FIRST: [StackOp; 1] = [Mask(0)];
 
 // A bit is poisoned where it is in either word: of `xor`.
-const UNION: [Step; 3] = [Mask(0), Mask(1), OR];
+const UNION: [StackOp; 3] = [Mask(0), Mask(1), OR];
 
 // Of `and`: where both bits are poisoned, or one is and the other word has a defined 1.
-const BOTH: [Step; 11] = [
+const BOTH: [StackOp; 11] = [
     Word(0),
     Mask(0),
     OR,
@@ -60,7 +60,7 @@ const BOTH: [Step; 11] = [
 ];
 
 // Of `or`: where both bits are poisoned, or one is and the other word has a defined 0.
-const EITHER: [Step; 15] = [
+const EITHER: [StackOp; 15] = [
     Word(0),
     Ones,
     XOR,
@@ -79,7 +79,7 @@ const EITHER: [Step; 15] = [
 ];
 
 // Of `eq` and `ne`: where no bit that is defined in both words differs and some bit is poisoned.
-const SAME: [Step; 17] = [
+const SAME: [StackOp; 17] = [
     Bits(0),
     Bits(1),
     XOR,
@@ -104,20 +104,26 @@ const SAME: [Step; 17] = [
 macro_rules! order {
     ([$($a:expr),*], $m:expr, [$($b:expr),*], $k:expr, $pred:expr) => {
         [
-            $($a,)* $m, OR, $m, XOR, $($b,)* $k, OR, Step::Test($pred, Width::Own),
-            $($a,)* $m, OR, $($b,)* $k, OR, $k, XOR, Step::Test($pred, Width::Own),
+            $($a,)* $m, OR, $m, XOR, $($b,)* $k, OR, StackOp::Test($pred, Width::Own),
+            $($a,)* $m, OR, $($b,)* $k, OR, $k, XOR, StackOp::Test($pred, Width::Own),
             XOR_OF_BITS,
         ]
     };
 }
 
-const UNSIGNED_GREATER: [Step; 19] = order!([Bits(1)], Mask(1), [Bits(0)], Mask(0), Pred::Ult);
+const UNSIGNED_GREATER: [StackOp; 19] = order!([Bits(1)], Mask(1), [Bits(0)], Mask(0), Pred::Ult);
 
-const UNSIGNED_NOT_LESS: [Step; 19] = order!([Bits(1)], Mask(1), [Bits(0)], Mask(0), Pred::Ule);
+const UNSIGNED_NOT_LESS: [StackOp; 19] = order!([Bits(1)], Mask(1), [Bits(0)], Mask(0), Pred::Ule);
 
-const UNSIGNED_LESS: [Step; 19] = order!([Bits(0)], Mask(0), [Bits(1)], Mask(1), Pred::Ult);
+const UNSIGNED_LESS: [StackOp; 19] = order!([Bits(0)], Mask(0), [Bits(1)], Mask(1), Pred::Ult);
 
-const UNSIGNED_NOT_GREATER: [Step; 19] = order!([Bits(0)], Mask(0), [Bits(1)], Mask(1), Pred::Ule);
+const UNSIGNED_NOT_GREATER: [StackOp; 19] = order!(
+    [Bits(0)],
+    Mask(0),
+    [Bits(1)],
+    Mask(1),
+    Pred::Ule
+);
 
 // Words with their sign bits turned are ordered as unsigned words are.
 macro_rules! signed_order {
@@ -126,16 +132,22 @@ macro_rules! signed_order {
     };
 }
 
-const SIGNED_GREATER: [Step; 27] = signed_order!(Bits(1), Mask(1), Bits(0), Mask(0), Pred::Ult);
+const SIGNED_GREATER: [StackOp; 27] = signed_order!(Bits(1), Mask(1), Bits(0), Mask(0), Pred::Ult);
 
-const SIGNED_NOT_LESS: [Step; 27] = signed_order!(Bits(1), Mask(1), Bits(0), Mask(0), Pred::Ule);
+const SIGNED_NOT_LESS: [StackOp; 27] = signed_order!(Bits(1), Mask(1), Bits(0), Mask(0), Pred::Ule);
 
-const SIGNED_LESS: [Step; 27] = signed_order!(Bits(0), Mask(0), Bits(1), Mask(1), Pred::Ult);
+const SIGNED_LESS: [StackOp; 27] = signed_order!(Bits(0), Mask(0), Bits(1), Mask(1), Pred::Ult);
 
-const SIGNED_NOT_GREATER: [Step; 27] = signed_order!(Bits(0), Mask(0), Bits(1), Mask(1), Pred::Ule);
+const SIGNED_NOT_GREATER: [StackOp; 27] = signed_order!(
+    Bits(0),
+    Mask(0),
+    Bits(1),
+    Mask(1),
+    Pred::Ule
+);
 
 /// Of a `select`: with a defined condition the mask of what is chosen, else each bit that differs or is poisoned in one.
-pub const CHOICE: [Step; 13] = [
+pub const CHOICE: [StackOp; 13] = [
     Mask(0),
     Bits(1),
     Bits(2),
@@ -153,7 +165,7 @@ pub const CHOICE: [Step; 13] = [
 
 /// The words that a shift of the mask takes: with an amount that is defined these are the mask and the amount, else all bits
 /// and 0.
-pub const SHIFT: [Step; 12] = [
+pub const SHIFT: [StackOp; 12] = [
     Mask(1),
     Constant(0),
     IS_OTHER,
@@ -169,7 +181,7 @@ pub const SHIFT: [Step; 12] = [
 ];
 
 // Every bit, where some bit of the masks of two words is set.
-const WHOLE_OF_TWO: [Step; 8] = [
+const WHOLE_OF_TWO: [StackOp; 8] = [
     Mask(0),
     Mask(1),
     OR,
@@ -181,10 +193,10 @@ const WHOLE_OF_TWO: [Step; 8] = [
 ];
 
 // What a funnel shift takes to give its mask: the masks of two words, and the amount.
-const KNOWN_AMOUNT: [Step; 3] = [Mask(0), Mask(1), Word(2)];
+const KNOWN_AMOUNT: [StackOp; 3] = [Mask(0), Mask(1), Word(2)];
 
 // The same where the amount may not be known: then all bits of both words.
-const ANY_AMOUNT: [Step; 13] = [
+const ANY_AMOUNT: [StackOp; 13] = [
     Mask(2),
     Constant(0),
     IS_OTHER,
@@ -207,13 +219,13 @@ macro_rules! ones {
     };
 }
 
-const ONES_OF_8: [Step; 6] = ones!(15);
+const ONES_OF_8: [StackOp; 6] = ones!(15);
 
-const ONES_OF_16: [Step; 6] = ones!(31);
+const ONES_OF_16: [StackOp; 6] = ones!(31);
 
-const ONES_OF_32: [Step; 6] = ones!(63);
+const ONES_OF_32: [StackOp; 6] = ones!(63);
 
-const ONES_OF_64: [Step; 6] = ones!(127);
+const ONES_OF_64: [StackOp; 6] = ones!(127);
 
 // Of `ctlz`: known where the highest bit that may be 1 is defined.
 macro_rules! leading {
@@ -225,13 +237,13 @@ macro_rules! leading {
     };
 }
 
-const LEADING_OF_8: [Step; 10] = leading!(15);
+const LEADING_OF_8: [StackOp; 10] = leading!(15);
 
-const LEADING_OF_16: [Step; 10] = leading!(31);
+const LEADING_OF_16: [StackOp; 10] = leading!(31);
 
-const LEADING_OF_32: [Step; 10] = leading!(63);
+const LEADING_OF_32: [StackOp; 10] = leading!(63);
 
-const LEADING_OF_64: [Step; 10] = leading!(127);
+const LEADING_OF_64: [StackOp; 10] = leading!(127);
 
 // Of `cttz`: known where the lowest bit that may be 1 is defined.
 macro_rules! trailing {
@@ -243,17 +255,17 @@ macro_rules! trailing {
     };
 }
 
-const TRAILING_OF_8: [Step; 16] = trailing!(15);
+const TRAILING_OF_8: [StackOp; 16] = trailing!(15);
 
-const TRAILING_OF_16: [Step; 16] = trailing!(31);
+const TRAILING_OF_16: [StackOp; 16] = trailing!(31);
 
-const TRAILING_OF_32: [Step; 16] = trailing!(63);
+const TRAILING_OF_32: [StackOp; 16] = trailing!(63);
 
-const TRAILING_OF_64: [Step; 16] = trailing!(127);
+const TRAILING_OF_64: [StackOp; 16] = trailing!(127);
 
 // Of `abs`: with a poisoned sign bit from the lowest bit on that may be 1, of a negative word that of the difference, else
 // the mask itself.
-const ABSOLUTE: [Step; 23] = [
+const ABSOLUTE: [StackOp; 23] = [
     Mask(0),
     Sign,
     IS_NOT_LESS,
@@ -291,18 +303,18 @@ macro_rules! extreme {
     };
 }
 
-const UNSIGNED_MAXIMUM: [Step; 29] = extreme!([Word(0)], [Word(1)], Mask(0), Mask(1));
+const UNSIGNED_MAXIMUM: [StackOp; 29] = extreme!([Word(0)], [Word(1)], Mask(0), Mask(1));
 
-const UNSIGNED_MINIMUM: [Step; 29] = extreme!([Word(0)], [Word(1)], Mask(1), Mask(0));
+const UNSIGNED_MINIMUM: [StackOp; 29] = extreme!([Word(0)], [Word(1)], Mask(1), Mask(0));
 
-const SIGNED_MAXIMUM: [Step; 41] = extreme!(
+const SIGNED_MAXIMUM: [StackOp; 41] = extreme!(
     [Word(0), Sign, XOR],
     [Word(1), Sign, XOR],
     Mask(0),
     Mask(1)
 );
 
-const SIGNED_MINIMUM: [Step; 41] = extreme!(
+const SIGNED_MINIMUM: [StackOp; 41] = extreme!(
     [Word(0), Sign, XOR],
     [Word(1), Sign, XOR],
     Mask(1),
@@ -310,7 +322,7 @@ const SIGNED_MINIMUM: [Step; 41] = extreme!(
 );
 
 /// The rule of the mask of an operation on two words, but a shift, a sum, a difference or a product.
-pub fn binary_rule(op: BinOp) -> &'static [Step]
+pub fn binary_rule(op: BinOp) -> &'static [StackOp]
     requires add { op ≢ binary.Add }
     requires sub { op ≢ binary.Sub }
     requires mul { op ≢ binary.Mul }
@@ -326,7 +338,7 @@ pub fn binary_rule(op: BinOp) -> &'static [Step]
 }
 
 /// The rule of the mask of a comparison.
-pub fn compare_rule(pred: Pred) -> &'static [Step]
+pub fn compare_rule(pred: Pred) -> &'static [StackOp]
     ensures rule { is_rule result.now ≡ true }
     ensures mask { (w : ℕ) (ts : List Tracked) → words (on_width w ts) result.now [] ≡ compare_expr pred w (bits_of (tracked_at 0 ts)) (mask_of (tracked_at 0 ts)) (bits_of (tracked_at 1 ts)) (mask_of (tracked_at 1 ts)) ∷ [] }
 {
@@ -345,18 +357,18 @@ pub fn compare_rule(pred: Pred) -> &'static [Step]
 
 /// The step that turns the mask of a cast's operand into that of its result, from one width to another, where these
 /// differ: the same cast, where pointers are numbers.
-pub fn cast_step(op: CastOp, from: u8, to: u8) -> Option<Step>
+pub fn cast_step(op: CastOp, from: u8, to: u8) -> Option<StackOp>
     ensures { (i : InputsOf) (m : Expr) → MatchOption result (cast_expr op from to m ≡ m) (λ s. (is_operation s ≡ true) × (stepped i s (m ∷ []) ≡ cast_expr op from to m ∷ [])) }
 {
     match op {
         CastOp::Trunc | CastOp::Zext | CastOp::Sext => {
-            Some(Step::Turn(op, Width::Bits(from), Width::Bits(to)))
+            Some(StackOp::Turn(op, Width::Bits(from), Width::Bits(to)))
         }
         CastOp::PtrToInt if to != 64 => {
-            Some(Step::Turn(CastOp::Trunc, Width::Bits(from), Width::Bits(to)))
+            Some(StackOp::Turn(CastOp::Trunc, Width::Bits(from), Width::Bits(to)))
         }
         CastOp::IntToPtr if from != 64 => {
-            Some(Step::Turn(CastOp::Zext, Width::Bits(from), Width::Bits(64)))
+            Some(StackOp::Turn(CastOp::Zext, Width::Bits(from), Width::Bits(64)))
         }
         _ => None,
     }
@@ -364,7 +376,7 @@ pub fn cast_step(op: CastOp, from: u8, to: u8) -> Option<Step>
 
 /// The rule of the mask of a number of bits that are 1.
 #[tactic(auto, unfolding(ms_bits::specs::WordFunctions::places))]
-fn ones_rule(width: WordWidth) -> &'static [Step]
+fn ones_rule(width: WordWidth) -> &'static [StackOp]
     ensures rule { is_rule result.now ≡ true }
     ensures mask { (ts : List Tracked) → words (on_width (width_bits width) ts) result.now [] ≡ ctpop_expr (width_bits width) (mask_of (tracked_at 0 ts)) ∷ [] }
 {
@@ -378,7 +390,7 @@ fn ones_rule(width: WordWidth) -> &'static [Step]
 
 /// The rule of the mask of a number of leading zeros.
 #[tactic(auto, unfolding(ms_bits::specs::WordFunctions::places))]
-fn leading_rule(width: WordWidth) -> &'static [Step]
+fn leading_rule(width: WordWidth) -> &'static [StackOp]
     ensures rule { is_rule result.now ≡ true }
     ensures mask { (ts : List Tracked) → words (on_width (width_bits width) ts) result.now [] ≡ ctlz_expr (width_bits width) (word_of (tracked_at 0 ts)) (mask_of (tracked_at 0 ts)) ∷ [] }
 {
@@ -392,7 +404,7 @@ fn leading_rule(width: WordWidth) -> &'static [Step]
 
 /// The rule of the mask of a number of trailing zeros.
 #[tactic(auto, unfolding(ms_bits::specs::WordFunctions::places))]
-fn trailing_rule(width: WordWidth) -> &'static [Step]
+fn trailing_rule(width: WordWidth) -> &'static [StackOp]
     ensures rule { is_rule result.now ≡ true }
     ensures mask { (ts : List Tracked) → words (on_width (width_bits width) ts) result.now [] ≡ cttz_expr (width_bits width) (word_of (tracked_at 0 ts)) (mask_of (tracked_at 0 ts)) ∷ [] }
 {
@@ -405,7 +417,7 @@ fn trailing_rule(width: WordWidth) -> &'static [Step]
 }
 
 /// The rule of the mask of what a function of whole words answers, at a width.
-pub fn word_rule(function: WordFn, width: WordWidth) -> &'static [Step]
+pub fn word_rule(function: WordFn, width: WordWidth) -> &'static [StackOp]
     ensures rule { is_rule result.now ≡ true }
     ensures mask { (ts : List Tracked) → words (on_width (width_bits width) ts) result.now [] ≡ word_expr function (width_bits width) (tracked_at 0 ts) (tracked_at 1 ts) (tracked_at 2 ts) ∷ [] }
 {
@@ -424,14 +436,14 @@ pub fn word_rule(function: WordFn, width: WordWidth) -> &'static [Step]
 }
 
 /// The steps that leave what a funnel shift takes to give its mask, by whether its amount is known.
-fn amount_steps(known: bool) -> &'static [Step]
+fn amount_steps(known: bool) -> &'static [StackOp]
     ensures { (w : ℕ) (ts : List Tracked) → map (λ a. a.1) (args_with known word.Fshl w (tracked_at 0 ts) (tracked_at 1 ts) (tracked_at 2 ts)) ≡ reverse (words (on_width w ts) result.now []) }
 {
     if known { &KNOWN_AMOUNT } else { &ANY_AMOUNT }
 }
 
 /// The steps that leave what a function that moves bits takes to give its mask, by whether its amount is known.
-pub fn move_steps(function: WordFn, known: bool) -> &'static [Step]
+pub fn move_steps(function: WordFn, known: bool) -> &'static [StackOp]
     ensures { (w : ℕ) (ts : List Tracked) → map (λ a. a.1) (args_with known function w (tracked_at 0 ts) (tracked_at 1 ts) (tracked_at 2 ts)) ≡ reverse (words (on_width w ts) result.now []) }
 {
     match function {

@@ -1,20 +1,20 @@
 //! The rules of origins.
 ghost use Rattle.std.specs.Prelude.{◌≡◌, ◌-◌, true, [], ◌∷◌, ◌++◌, length, map, IfOk, OnOk};
 ghost use Rattle.ms_ir.specs.declared.syntax.Ty.{Int};
-ghost use Rattle.ms_tasks.specs.{Tasks.{Sets, origin_name as origin_name_of}, ResultMasks.{first_last}};
+ghost use Rattle.ms_pass_tasks.specs.{Tasks.{Sets, origin_name as origin_name_of}, ResultMasks.{first_last}};
 ghost use Rattle.ms_rules_builder.specs.{Made.{with_tasks}, Steps.{Inputs as InputsOf, inputs_of, words, tracked_of}};
 ghost use Rattle.ms_rules_tables.specs.Rules.{is_rule, tests};
 
 use crate::rules::set_origin;
 use ms_bits::{NoMemory, Pred};
-use ms_rules_builder::Step::{Constant, Mask, Origin, Word};
-use ms_rules_builder::{Builder, Inputs, Step, TrackedOperand, Width, push_times};
+use ms_rules_builder::StackOp::{Constant, Mask, Origin, Word};
+use ms_rules_builder::{Builder, Inputs, StackOp, TrackedOperand, Width, push_times};
 use std::alloc::Global;
 
-const PICK: Step = Step::Pick(Width::Bits(32));
+const PICK: StackOp = StackOp::Pick(Width::Bits(32));
 
 /// The origin of a `select`: the condition's where this is poisoned, else that of what is chosen.
-pub const CHOICE_ORIGIN: [Step; 7] = [
+pub const CHOICE_ORIGIN: [StackOp; 7] = [
     Mask(0),
     Origin(0),
     Word(0),
@@ -24,19 +24,27 @@ pub const CHOICE_ORIGIN: [Step; 7] = [
     PICK,
 ];
 
-fn push_tests(steps: &mut Vec<Step>, operands: &[TrackedOperand<'_>]) -> Result<(), NoMemory>
+fn push_tests(steps: &mut Vec<StackOp>, operands: &[TrackedOperand<'_>]) -> Result<(), NoMemory>
     ensures { OnOk result (steps.new.items ≡ steps.old.items ++ tests (map tracked_of operands.now) (length operands.now - 1)) }
 {
     for k in (1..operands.len()).rev() {
         let width = Width::Bits(operands[k].width());
-        steps.extend_from_slice(&[Mask(k), Constant(0), Step::Test(Pred::Ne, width), Origin(k)])?;
+        steps.extend_from_slice(&[
+            Mask(k),
+            Constant(0),
+            StackOp::Test(Pred::Ne, width),
+            Origin(k),
+        ])?;
     }
     Ok(())
 }
 
 // A test of each mask from the last down, each with the operand's origin, then the first operand's origin, and a choice for
 // each test.
-fn last_origin_rule(alloc: Global, operands: &[TrackedOperand<'_>]) -> Result<Vec<Step>, NoMemory>
+fn last_origin_rule(
+    alloc: Global,
+    operands: &[TrackedOperand<'_>],
+) -> Result<Vec<StackOp>, NoMemory>
     ensures rule { IfOk result (λ v. is_rule v.items ≡ true) }
     ensures origin { IfOk result (λ v. (i : InputsOf) → i.operands ≡ map tracked_of operands.now → words i v.items [] ≡ first_last i.operands ∷ []) }
 {

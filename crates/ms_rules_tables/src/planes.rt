@@ -4,9 +4,9 @@ ghost use Rattle.ms_ir.specs.{declared.syntax.Ty.{Ty as TyOf}, Instructions.{ope
 ghost use Rattle.ms_ir.specs.{declared.syntax.Name.{Name as NameOf}, Signatures.{runtime_signature}};
 ghost use Rattle.ms_ir.specs.declared.calls.External.TheVariants as outside;
 ghost use Rattle.ms_runs.specs.World.{Here};
-ghost use Rattle.ms_tasks.specs.Environments.{Env, Given, tracked_at};
-ghost use Rattle.ms_tasks.specs.PlaneTasks.{plane_tasks, save_tasks, saved_tasks, external_tasks, fill_task};
-ghost use Rattle.ms_tasks.specs.Tasks.{Expr};
+ghost use Rattle.ms_pass_tasks.specs.Environments.{Env, Given, tracked_at};
+ghost use Rattle.ms_pass_tasks.specs.PlaneTasks.{plane_tasks, save_tasks, saved_tasks, external_tasks, fill_task};
+ghost use Rattle.ms_pass_tasks.specs.Tasks.{Expr};
 ghost use Rattle.ms_rules_tables.specs.{Pieces.{named_call, store_pieces}, Plain.{plain}, Sizes.{element_size}};
 ghost use Rattle.ms_rules_builder.specs.{Called.{calls_own, called_external}, Made.{with_tasks}};
 ghost use Rattle.ms_rules_builder.specs.Steps.{tracked_of, words};
@@ -15,7 +15,7 @@ use crate::calls::{call, store, width_at};
 use ms_bits::{NoMemory, Pred};
 use ms_ir::areas::SHADOW_BITS;
 use ms_ir::{External, Name, Op, RuntimeFn, width_of};
-use ms_rules_builder::{Builder, Inputs, Operation, Step, TrackedOperand, Width, msan_name};
+use ms_rules_builder::{Builder, Inputs, Operation, StackOp, TrackedOperand, Width, msan_name};
 
 /// Saves under the inserted name with a number what an external needs from before its call: the size of the block that
 /// `realloc` ends.
@@ -31,14 +31,13 @@ fn save_for(
         External::Realloc => {
             let name = msan_name(builder.alloc(), number)?;
             let inputs = Inputs::plain(operands, 0, &None);
-            builder.call(Some(name), RuntimeFn::Size, &inputs, &[Step::Word(0)])
+            builder.call(Some(name), RuntimeFn::Size, &inputs, &[StackOp::Word(0)])
         }
         _ => Ok(()),
     }
 }
 
-/// Saves under the inserted name with a number what an external needs from before its call. The one error is running out of
-/// memory.
+/// Saves under the inserted name with a number what an external needs from before its call.
 pub fn save(
     builder: &mut Builder,
     number: u64,
@@ -60,7 +59,7 @@ fn call_named(
     function: RuntimeFn,
     operands: &[TrackedOperand<'_>],
     name: &Option<Name>,
-    steps: &[Step],
+    steps: &[StackOp],
 ) -> Result<(), NoMemory>
     ensures { (args : List (TyOf × Expr)) → map (λ a. a.0) args ≡ (runtime_signature function).params → map (λ a. a.1) args ≡ reverse (words (plain (map tracked_of operands.now) name.now) steps.now []) → OnOk result (builder.new ≡ with_tasks builder.old (named_call function name.now args)) }
 {
@@ -80,20 +79,20 @@ fn set_stored(
     ensures { OnOk result (builder.new ≡ with_tasks builder.old (store_pieces site width (map tracked_of operands.now))) }
 {
     let mask_at_shadow = [
-        Step::Mask(0),
-        Step::Word(1),
-        Step::ToNumber,
-        Step::Constant(SHADOW_BITS),
-        Step::Two(Operation::Xor, Width::Bits(64)),
-        Step::ToPointer,
+        StackOp::Mask(0),
+        StackOp::Word(1),
+        StackOp::ToNumber,
+        StackOp::Constant(SHADOW_BITS),
+        StackOp::Two(Operation::Xor, Width::Bits(64)),
+        StackOp::ToPointer,
     ];
     store(builder, width, operands, &mask_at_shadow)?;
     let origin = [
-        Step::Word(1),
-        Step::Mask(0),
-        Step::Widen(width),
-        Step::Origin(0),
-        Step::Constant(site as u64),
+        StackOp::Word(1),
+        StackOp::Mask(0),
+        StackOp::Widen(width),
+        StackOp::Origin(0),
+        StackOp::Constant(site as u64),
     ];
     call(builder, RuntimeFn::StoreOrigin, operands, &None, &origin)
 }
@@ -107,12 +106,12 @@ fn set_filled(
     ensures { OnOk result (builder.new ≡ with_tasks builder.old (fill_task site (tracked_at 0 (map tracked_of operands.now)) (tracked_at 1 (map tracked_of operands.now)) (tracked_at 2 (map tracked_of operands.now)))) }
 {
     let steps = [
-        Step::Word(0),
-        Step::Word(2),
-        Step::Mask(1),
-        Step::Widen(width_at(operands, 1)),
-        Step::Origin(1),
-        Step::Constant(site as u64),
+        StackOp::Word(0),
+        StackOp::Word(2),
+        StackOp::Mask(1),
+        StackOp::Widen(width_at(operands, 1)),
+        StackOp::Origin(1),
+        StackOp::Constant(site as u64),
     ];
     call(builder, RuntimeFn::Fill, operands, &None, &steps)
 }
@@ -125,15 +124,15 @@ fn set_created(
 ) -> Result<(), NoMemory>
     ensures { (site root saved : ℕ) → OnOk result (builder.new ≡ with_tasks builder.old (external_tasks site root saved name.now outside.PthreadCreate (map tracked_of operands.now))) }
 {
-    let none = Step::Constant(0);
+    let none = StackOp::Constant(0);
     let steps = [
-        Step::Word(0),
-        Step::Result,
+        StackOp::Word(0),
+        StackOp::Result,
         none,
-        Step::Test(Pred::Eq, Width::Bits(32)),
-        Step::Constant(8),
+        StackOp::Test(Pred::Eq, Width::Bits(32)),
+        StackOp::Constant(8),
         none,
-        Step::Pick(Width::Bits(64)),
+        StackOp::Pick(Width::Bits(64)),
     ];
     call_named(builder, RuntimeFn::Unpoison, operands, name, &steps)
 }
@@ -148,10 +147,10 @@ fn set_joined(
     ensures { (root saved : ℕ) → OnOk result (builder.new ≡ with_tasks builder.old (external_tasks site root saved name.now outside.PthreadJoin (map tracked_of operands.now))) }
 {
     let steps = [
-        Step::Word(1),
-        Step::Word(0),
-        Step::Result,
-        Step::Constant(site as u64),
+        StackOp::Word(1),
+        StackOp::Word(0),
+        StackOp::Result,
+        StackOp::Constant(site as u64),
     ];
     call_named(builder, RuntimeFn::ThreadResult, operands, name, &steps)
 }
@@ -168,29 +167,34 @@ fn set_external(
 ) -> Result<(), NoMemory>
     ensures { OnOk result (builder.new ≡ with_tasks builder.old (external_tasks site root saved name.now external (map tracked_of operands.now))) }
 {
-    let root = Step::Constant(root);
-    let start = Step::Constant(0);
+    let root = StackOp::Constant(root);
+    let start = StackOp::Constant(0);
     match external {
         External::Malloc => {
-            let steps = [Step::Result, start, Step::Word(0), root];
+            let steps = [StackOp::Result, start, StackOp::Word(0), root];
             call_named(builder, RuntimeFn::Poison, operands, name, &steps)
         }
         External::Realloc => {
-            let steps = [Step::Result, Step::Inserted(saved), Step::Word(1), root];
+            let steps = [
+                StackOp::Result,
+                StackOp::Inserted(saved),
+                StackOp::Word(1),
+                root,
+            ];
             call_named(builder, RuntimeFn::Poison, operands, name, &steps)
         }
         External::Read => {
-            let steps = [Step::Word(1), Step::Result];
+            let steps = [StackOp::Word(1), StackOp::Result];
             call_named(builder, RuntimeFn::Unpoison, operands, name, &steps)
         }
         External::PthreadCreate => set_created(builder, name, operands),
         External::PthreadJoin => set_joined(builder, site, name, operands),
         External::LifetimeStart => {
-            let steps = [Step::Word(1), start, Step::Word(0), root];
+            let steps = [StackOp::Word(1), start, StackOp::Word(0), root];
             call(builder, RuntimeFn::Poison, operands, name, &steps)
         }
         External::Memcpy | External::Memmove | External::LlvmMemcpy | External::LlvmMemmove => {
-            let steps = [Step::Word(0), Step::Word(1), Step::Word(2)];
+            let steps = [StackOp::Word(0), StackOp::Word(1), StackOp::Word(2)];
             call(builder, RuntimeFn::Copy, operands, name, &steps)
         }
         External::Memset | External::LlvmMemset => set_filled(builder, site, operands),
@@ -199,9 +203,8 @@ fn set_external(
 }
 
 /// Sets shadow and origins after an operation that calls no function of the module. `root` is the number of its own root,
-/// `saved` that of the inserted name with what was saved, and `size` the size of an element of an `alloca`. The one error
-/// is running out of memory.
-pub fn set_planes(
+/// `saved` that of the inserted name with what was saved, and `size` the size of an element of an `alloca`.
+pub fn update_shadow(
     builder: &mut Builder,
     site: u32,
     root: u64,
@@ -219,13 +222,13 @@ pub fn set_planes(
     match op {
         Op::Alloca { count_ty, .. } => {
             let steps = [
-                Step::Result,
-                Step::Constant(0),
-                Step::Constant(size),
-                Step::Word(0),
-                Step::Widen(width_of(count_ty)),
-                Step::Two(Operation::Mul, Width::Bits(64)),
-                Step::Constant(root),
+                StackOp::Result,
+                StackOp::Constant(0),
+                StackOp::Constant(size),
+                StackOp::Word(0),
+                StackOp::Widen(width_of(count_ty)),
+                StackOp::Two(Operation::Mul, Width::Bits(64)),
+                StackOp::Constant(root),
             ];
             call_named(builder, RuntimeFn::Poison, operands, name, &steps)
         }

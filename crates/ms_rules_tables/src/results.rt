@@ -7,10 +7,10 @@ ghost use Rattle.ms_ir.specs.{declared.syntax.Operand.{Operand as OperandOf}, Si
 ghost use Rattle.ms_ir.specs.Layout.{width_of as width_of_type};
 ghost use Rattle.ms_ir.specs.declared.syntax.Op.TheVariants as operation;
 ghost use Rattle.ms_ir.specs.declared.calls.RuntimeFn.TheVariants as called;
-ghost use Rattle.ms_tasks.specs.Tasks.{Expr, Sets, Calls, mask_name as mask_name_of, origin_name as origin_name_of};
-ghost use Rattle.ms_tasks.specs.Environments.{number, is_zero, tracked_at, bits_of, mask_of};
-ghost use Rattle.ms_tasks.specs.ResultMasks.{address_expr, answer_expr, answer_origin_expr, cast_expr, compare_expr, sum_expr, word_expr, first_last};
-ghost use Rattle.ms_tasks.specs.ResultTasks.{binary_tasks, external_move, called_tasks, shift_task, word_tasks, define_tasks, result_width as result_width_of};
+ghost use Rattle.ms_pass_tasks.specs.Tasks.{Expr, Sets, Calls, mask_name as mask_name_of, origin_name as origin_name_of};
+ghost use Rattle.ms_pass_tasks.specs.Environments.{number, is_zero, tracked_at, bits_of, mask_of};
+ghost use Rattle.ms_pass_tasks.specs.ResultMasks.{address_expr, answer_expr, answer_origin_expr, cast_expr, compare_expr, sum_expr, word_expr, first_last};
+ghost use Rattle.ms_pass_tasks.specs.ResultTasks.{binary_tasks, external_move, called_tasks, shift_task, word_tasks, define_tasks, result_width as result_width_of};
 ghost use Rattle.ms_rules_builder.specs.{Called.{calls_own}, Made.{with_tasks}, Steps.{inputs_of, tracked_of, words}};
 ghost use Rattle.ms_rules_tables.specs.{Widths.{HasWidths}, Rules.{is_rule, defined, moves, answered}};
 
@@ -23,8 +23,8 @@ use crate::origins::{CHOICE_ORIGIN, set_last_origin};
 use crate::rules::{attempt_mask, set_mask, set_origin};
 use ms_bits::{BinOp, BitMove, CastOp, NoMemory, Pred, WordFn, WordWidth};
 use ms_ir::{External, Name, Op, RuntimeFn, Ty, width_of};
-use ms_rules_builder::Step::Mask;
-use ms_rules_builder::{Builder, Inputs, Step, TrackedOperand, Widening, mask_name};
+use ms_rules_builder::StackOp::Mask;
+use ms_rules_builder::{Builder, Inputs, StackOp, TrackedOperand, Widening, mask_name};
 
 // The origin and the mask of a value, of a width, get the words of rules.
 fn define_word(
@@ -32,8 +32,8 @@ fn define_word(
     value: u32,
     width: u8,
     inputs: &Inputs<'_>,
-    origin: &[Step],
-    mask: &[Step],
+    origin: &[StackOp],
+    mask: &[StackOp],
 ) -> Result<(), NoMemory>
     requires origin { is_rule origin.now ≡ true }
     requires mask { is_rule mask.now ≡ true }
@@ -49,7 +49,7 @@ fn define_joined(
     value: u32,
     width: u8,
     inputs: &Inputs<'_>,
-    mask: &[Step],
+    mask: &[StackOp],
 ) -> Result<(), NoMemory>
     requires { is_rule mask.now ≡ true }
     ensures { (e : Expr) → words (inputs_of inputs.now) mask.now [] ≡ e ∷ [] → OnOk result (builder.new ≡ with_tasks builder.old (defined value width (first_last (inputs_of inputs.now).operands) e)) }
@@ -216,7 +216,7 @@ fn call_move(
     value: u32,
     kind: BitMove,
     inputs: &Inputs<'_>,
-    steps: &[Step],
+    steps: &[StackOp],
 ) -> Result<(), NoMemory>
     ensures { (args : List (TyOf × Expr)) → map (λ a. a.0) args ≡ (runtime_signature (called.Move kind)).params → map (λ a. a.1) args ≡ reverse (words (inputs_of inputs.now) steps.now []) → OnOk result (builder.new ≡ with_tasks builder.old (Calls (Some (mask_name_of value)) (called.Move kind) args ∷ [])) }
 {
@@ -333,8 +333,8 @@ fn define_call(
     )
 }
 
-/// Defines the mask and the origin of the function's value with a number, which an operation sets; `own` says that it calls
-/// a function of the module, which hands both over itself. The one error is running out of memory.
+/// Defines the mask and the origin of the function's value with a number, which an operation sets; `own` says that it calls a
+/// function of the module, which hands both over itself.
 pub fn define(
     builder: &mut Builder,
     value: u32,

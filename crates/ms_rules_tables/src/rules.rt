@@ -1,13 +1,13 @@
 //! Rules that set names.
 ghost use Rattle.std.specs.Prelude.{◌≡◌, true, [], ◌∷◌, OnOk};
 ghost use Rattle.ms_ir.specs.declared.syntax.Ty.{Int};
-ghost use Rattle.ms_tasks.specs.Tasks.{Expr, Sets, Tries, mask_name as mask_name_of, origin_name as origin_name_of};
+ghost use Rattle.ms_pass_tasks.specs.Tasks.{Expr, Sets, Tries, mask_name as mask_name_of, origin_name as origin_name_of};
 ghost use Rattle.ms_rules_builder.specs.{Made.{with_tasks}, Steps.{inputs_of, words}};
 ghost use Rattle.ms_rules_tables.specs.Rules.{is_rule};
 
 use ms_bits::{BinOp, NoMemory};
 use ms_ir::Name;
-use ms_rules_builder::{Builder, Inputs, Step, mask_name, origin_name};
+use ms_rules_builder::{Builder, Inputs, StackOp, mask_name, origin_name};
 
 // A name of a width gets the word of a rule.
 fn set(
@@ -15,7 +15,7 @@ fn set(
     name: Name,
     width: u8,
     inputs: &Inputs<'_>,
-    rule: &[Step],
+    rule: &[StackOp],
 ) -> Result<(), NoMemory>
     requires { is_rule rule.now ≡ true }
     ensures { (e : Expr) → words (inputs_of inputs.now) rule.now [] ≡ e ∷ [] → OnOk result (builder.new ≡ with_tasks builder.old (Sets name (Int width) e ∷ [])) }
@@ -32,7 +32,7 @@ pub fn set_origin(
     builder: &mut Builder,
     value: u32,
     inputs: &Inputs<'_>,
-    rule: &[Step],
+    rule: &[StackOp],
 ) -> Result<(), NoMemory>
     requires { is_rule rule.now ≡ true }
     ensures { (e : Expr) → words (inputs_of inputs.now) rule.now [] ≡ e ∷ [] → OnOk result (builder.new ≡ with_tasks builder.old (Sets (origin_name_of value) (Int 32) e ∷ [])) }
@@ -47,7 +47,7 @@ pub fn set_mask(
     value: u32,
     width: u8,
     inputs: &Inputs<'_>,
-    rule: &[Step],
+    rule: &[StackOp],
 ) -> Result<(), NoMemory>
     requires { is_rule rule.now ≡ true }
     ensures { (e : Expr) → words (inputs_of inputs.now) rule.now [] ≡ e ∷ [] → OnOk result (builder.new ≡ with_tasks builder.old (Sets (mask_name_of value) (Int width) e ∷ [])) }
@@ -63,7 +63,7 @@ pub fn attempt_mask(
     op: BinOp,
     width: u8,
     inputs: &Inputs<'_>,
-    steps: &[Step],
+    steps: &[StackOp],
 ) -> Result<(), NoMemory>
     ensures { (a b : Expr) → words (inputs_of inputs.now) steps.now [] ≡ b ∷ a ∷ [] → OnOk result (builder.new ≡ with_tasks builder.old (Tries (mask_name_of value) op (Int width) a b ∷ [])) }
 {

@@ -17,4 +17,3 @@ pub mod Shadow
 pub mod LowEqual
 pub mod Faithful
 pub mod Verdict
-pub mod ExampleRuns

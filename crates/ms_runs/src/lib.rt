@@ -4,7 +4,7 @@
 pub mod copying;
 pub mod formats;
 pub mod runs;
-pub mod shared;
+pub mod thread_safety;
 
 pub use formats::{Cut, Piece};
 pub use runs::{End, Origin, Report, RunResult, Setup};

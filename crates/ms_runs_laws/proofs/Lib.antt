@@ -11,3 +11,7 @@ pub mod PlanesApart
 pub mod OutputGrows
 pub mod SameOutput
 pub mod UnreportedEnds
+pub mod FollowedParts
+pub mod FollowedFrames
+pub mod FollowedPlanes
+pub mod FollowedSteps

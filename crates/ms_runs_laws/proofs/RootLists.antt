@@ -145,27 +145,27 @@ funcs_stay func site (f ∷ fs) =
 pub roots_stay : (m : Module) → roots_of (strip m) ≡ roots_of m
 roots_stay m = ap (λ func. funcs_roots func 1 (map strip_func m.funcs)) (λ i x. func_kept m.funcs x i) ∙ funcs_stay (func_index m.funcs) 1 m.funcs
 
--- ---- the roots of an instruction stand together, behind those that are counted before it
+-- ---- the roots of an instruction stand together, after those that are counted before it
 
 record Placed (whole part : List Root) (n : ℕ) : Type 0 where
   front : List Root
-  behind : List Root
-  is : whole ≡ front ++ (part ++ behind)
+  after : List Root
+  is : whole ≡ front ++ (part ++ after)
   length_is : length front ≡ n
 
 placed_first : (a rest part : List Root) (n : ℕ) → Placed a part n → Placed (a ++ rest) part n
 placed_first a rest part n h = record {
   front = h.front;
-  behind = h.behind ++ rest;
-  is = ap (λ l. l ++ rest) h.is ∙ append_assoc h.front (part ++ h.behind) rest ∙ ap (λ l. h.front ++ l) (append_assoc part h.behind rest);
+  after = h.after ++ rest;
+  is = ap (λ l. l ++ rest) h.is ∙ append_assoc h.front (part ++ h.after) rest ∙ ap (λ l. h.front ++ l) (append_assoc part h.after rest);
   length_is = h.length_is;
 }
 
 placed_later : (a rest part : List Root) (k n : ℕ) → length a ≡ k → Placed rest part n → Placed (a ++ rest) part (k + n)
 placed_later a rest part k n e h = record {
   front = a ++ h.front;
-  behind = h.behind;
-  is = ap (λ l. a ++ l) h.is ∙ sym (append_assoc a h.front (part ++ h.behind));
+  after = h.after;
+  is = ap (λ l. a ++ l) h.is ∙ sym (append_assoc a h.front (part ++ h.after));
   length_is = length-append a h.front ∙ ap₂ (λ x y. x + y) e h.length_is;
 }
 
@@ -178,7 +178,7 @@ insts_placed func [] p site inst e = absurd (none-some inst e)
 insts_placed func (i ∷ is) zero site inst e =
     let at : site ≡ site + 0 = omega arith in
     placed_at _ (inst_roots func site i) _ 0 0 (ap₂ (λ n x. inst_roots func n x) at (same_Some i inst e)) refl
-    (record { front = []; behind = insts_roots func (site + one_unmarked i) is; is = refl; length_is = refl })
+    (record { front = []; after = insts_roots func (site + one_unmarked i) is; is = refl; length_is = refl })
 insts_placed func (i ∷ is) (suc p) site inst e =
     let at : site + one_unmarked i + over_insts one_unmarked (take p is) ≡ site + (one_unmarked i + over_insts one_unmarked (take p is)) = omega arith in
     placed_at _ _ _ _ _ (ap (λ n. inst_roots func n inst) at) refl
@@ -252,17 +252,17 @@ module_placed m f b p inst e = by_func (func_at m f) refl
                 assoc : (u v w : ℕ) → u + (v + w) ≡ u + v + w
                 assoc u v w = omega arith
 
-get_in : (front part behind : List Root) (k : ℕ) → k < length part → slice_get (front ++ (part ++ behind)) (length front + k) ≡ slice_get part k
-get_in [] part behind k l = subst (λ n. slice_get (part ++ behind) n ≡ slice_get part k) (first k) (in_part part k l)
+get_in : (front part after : List Root) (k : ℕ) → k < length part → slice_get (front ++ (part ++ after)) (length front + k) ≡ slice_get part k
+get_in [] part after k l = subst (λ n. slice_get (part ++ after) n ≡ slice_get part k) (first k) (in_part part k l)
   where
     first : (n : ℕ) → n ≡ 0 + n
     first n = omega arith
 
-    in_part : (xs : List Root) (n : ℕ) → n < length xs → slice_get (xs ++ behind) n ≡ slice_get xs n
+    in_part : (xs : List Root) (n : ℕ) → n < length xs → slice_get (xs ++ after) n ≡ slice_get xs n
     in_part [] n h = absurd (omega arith)
     in_part (x ∷ xs) zero h = refl
     in_part (x ∷ xs) (suc n) h = in_part xs n (omega arith)
-get_in (x ∷ front) part behind k l = subst (λ n. slice_get (x ∷ (front ++ (part ++ behind))) n ≡ slice_get part k) (next (length front) k) (get_in front part behind k l)
+get_in (x ∷ front) part after k l = subst (λ n. slice_get (x ∷ (front ++ (part ++ after))) n ≡ slice_get part k) (next (length front) k) (get_in front part after k l)
   where
     next : (a n : ℕ) → suc (a + n) ≡ suc a + n
     next a n = omega arith
@@ -275,7 +275,7 @@ root_placed m f b p k inst e l =
     let part = inst_roots (func_index m.funcs) (site_at m f b p) inst in
     numbered (root_at (func_index m.funcs) m f b p + k)
     ∙ ap₂ (λ r n. slice_get r (n + k)) h.is (sym h.length_is)
-    ∙ get_in h.front part h.behind k (subst (λ n. k < n) (sym (inst_counted (func_index m.funcs) (site_at m f b p) inst)) l)
+    ∙ get_in h.front part h.after k (subst (λ n. k < n) (sym (inst_counted (func_index m.funcs) (site_at m f b p) inst)) l)
   where
     numbered : (n : ℕ) → root_numbered m (n + 1) ≡ slice_get (roots_of m) n
     numbered n =

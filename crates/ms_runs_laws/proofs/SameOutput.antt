@@ -23,7 +23,8 @@ use Rattle.ms_runs.specs.Shadow.{read_poisoned, shadow_reading, planes, ShadowSt
 use Rattle.ms_runs.specs.Faithful.{Fair, Faithful, Prefix, Undisturbed}
 use Rattle.ms_runs_laws.proofs.Numbering.{no_marks}
 use Rattle.ms_runs_laws.proofs.PlainPart.{bare, bare_effect, bare_act}
-use Rattle.ms_runs_laws.proofs.ShownSteps.{values_only, bare_frame, bare_moved, shown, words_shown, given_bare, moves_shown}
+use Rattle.ms_runs_laws.proofs.ShownSteps.{bare_moved, shown, words_shown, given_bare, moves_shown}
+use Rattle.ms_runs_laws.specs.Follows.{bare_frame, words}
 use Rattle.ms_runs_laws.proofs.OutputGrows.{nothing_more, run_adds}
 use Rattle.ms_runs_laws.proofs.PlanesApart.{Passes, planes_show, uses_pass, blind_shows}
 
@@ -109,9 +110,9 @@ act_steps : (d : Rules) (s : Setting) (m : Module) (i : Inst) (fr : Frame Poison
     → bare u ≡ bare w → bare v ≡ bare w
     → Steps v.output
     (shadow_moved (shadow_act d s m i (here s m fr) (read_all (read_poisoned s fr.values) (operands i.op) (here s m fr).root) fr below u))
-    (and_then (plain_state cells (after_effect plain_reading s m (here s m fr).site i.result (read_all (plain_reading.read s (values_only fr.values)) (operands i.op) (here s m fr).root)
-    (λ x y. x) (λ x y. y) (keeping i.op (act s (here s m fr) i.op (read_all (plain_reading.read s (values_only fr.values)) (operands i.op) (here s m fr).root) v) (bare_frame fr)) (map bare_frame below)
-    (act s (here s m fr) i.op (read_all (plain_reading.read s (values_only fr.values)) (operands i.op) (here s m fr).root) v))) More)
+    (and_then (plain_state cells (after_effect plain_reading s m (here s m fr).site i.result (read_all (plain_reading.read s (words fr.values)) (operands i.op) (here s m fr).root)
+    (λ x y. x) (λ x y. y) (keeping i.op (act s (here s m fr) i.op (read_all (plain_reading.read s (words fr.values)) (operands i.op) (here s m fr).root) v) (bare_frame fr)) (map bare_frame below)
+    (act s (here s m fr) i.op (read_all (plain_reading.read s (words fr.values)) (operands i.op) (here s m fr).root) v))) More)
 act_steps d s m i fr below cells w v u p q =
     steps_from cells
     (shadow_act d s m i h ps fr below u)
@@ -132,15 +133,15 @@ act_steps d s m i fr below cells w v u p q =
     ps = read_all (read_poisoned s fr.values) (operands i.op) (here s m fr).root
 
     vs : List ℕ
-    vs = read_all (plain_reading.read s (values_only fr.values)) (operands i.op) (here s m fr).root
+    vs = read_all (plain_reading.read s (words fr.values)) (operands i.op) (here s m fr).root
 
 pub checked_steps : (d : Rules) (s : Setting) (m : Module) (i : Inst) (fr : Frame Poisoned) (below : List (Frame Poisoned)) (cells : ℕ → ℕ) (w v : World) (e : Effect)
     → bare v ≡ bare w → Passes w e
     → Steps v.output
     (shadow_moved (after_checks d s m i (here s m fr) (read_all (read_poisoned s fr.values) (operands i.op) (here s m fr).root) fr below e))
-    (and_then (plain_state cells (after_effect plain_reading s m (here s m fr).site i.result (read_all (plain_reading.read s (values_only fr.values)) (operands i.op) (here s m fr).root)
-    (λ x y. x) (λ x y. y) (keeping i.op (act s (here s m fr) i.op (read_all (plain_reading.read s (values_only fr.values)) (operands i.op) (here s m fr).root) v) (bare_frame fr)) (map bare_frame below)
-    (act s (here s m fr) i.op (read_all (plain_reading.read s (values_only fr.values)) (operands i.op) (here s m fr).root) v))) More)
+    (and_then (plain_state cells (after_effect plain_reading s m (here s m fr).site i.result (read_all (plain_reading.read s (words fr.values)) (operands i.op) (here s m fr).root)
+    (λ x y. x) (λ x y. y) (keeping i.op (act s (here s m fr) i.op (read_all (plain_reading.read s (words fr.values)) (operands i.op) (here s m fr).root) v) (bare_frame fr)) (map bare_frame below)
+    (act s (here s m fr) i.op (read_all (plain_reading.read s (words fr.values)) (operands i.op) (here s m fr).root) v))) More)
 checked_steps d s m i fr below cells w v (Does x) q p =
     act_steps d s m i fr below cells w v (count_blind mask x) ((blind_shows mask x).same ∙ p.same) q
   where
@@ -172,7 +173,7 @@ first_steps d s m (i ∷ is) fr below cells w v k q =
     ps = read_all (read_poisoned s fr.values) (operands i.op) (here s m fr).root
 
     vs : List ℕ
-    vs = read_all (plain_reading.read s (values_only fr.values)) (operands i.op) (here s m fr).root
+    vs = read_all (plain_reading.read s (words fr.values)) (operands i.op) (here s m fr).root
 
 frames_step : (d : Rules) (s : Setting) (m : Module) → NoMarks m → (fs : List (Frame Poisoned)) (cells : ℕ → ℕ) (w v : World) → bare v ≡ bare w
     → Steps v.output (shadow_moved (shadow_frames d s m fs w)) (plain_step s m (record { frames = map bare_frame fs; slots = cells; world = v }))

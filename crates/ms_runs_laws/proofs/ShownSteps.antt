@@ -21,13 +21,8 @@ use Rattle.ms_runs.specs.Act.{operand_word, plain_reading}
 use Rattle.ms_runs.specs.Poisoned.{Poisoned, clean}
 use Rattle.ms_runs.specs.Shadow.{read_poisoned, shadow_reading}
 use Rattle.ms_bits.specs.declared.traps.Trap.TheVariants.{Depth}
+use Rattle.ms_runs_laws.specs.Follows.{words, bare_frame}
 use Rattle.ms_runs_laws.proofs.PlainPart.{bare, bare_effect}
-
-abbrev pub values_only : (Name → Poisoned) → (Name → ℕ)
-values_only f = λ x. (f x).value
-
-abbrev pub bare_frame : Frame Poisoned → Frame ℕ
-bare_frame fr = record { func = fr.func; block = fr.block; place = fr.place; values = values_only fr.values; mark = fr.mark; heap = fr.heap }
 
 abbrev pub bare_moved : Outcome ℕ → Outcome ℕ
 bare_moved (On fs w) = On fs (bare w)
@@ -40,33 +35,33 @@ shown (Over e w) = Over e (bare w)
 -- ---- reading
 
 abbrev read_word : Setting → (Name → Poisoned) → ℕ → Ty → Operand → ℕ
-read_word s f n t o = operand_word s (values_only f) (width_of t) o
+read_word s f n t o = operand_word s (words f) (width_of t) o
 
 pub words_shown : (s : Setting) (f : Name → Poisoned) (os : List (Ty × Operand)) (n : ℕ)
-    → map (λ p. p.value) (read_all (read_poisoned s f) os n) ≡ read_all (plain_reading.read s (values_only f)) os n
+    → map (λ p. p.value) (read_all (read_poisoned s f) os n) ≡ read_all (plain_reading.read s (words f)) os n
 words_shown s f [] n = refl
 words_shown s f (o ∷ os) n = ap (λ k. read_word s f n o.0 o.1 ∷ k) (words_shown s f os (n + one_undef o.1))
 
-value_if : (t : Bool) (p q : Poisoned) → (if t then p else q).value ≡ (if t then p.value else q.value)
+pub value_if : (t : Bool) (p q : Poisoned) → (if t then p else q).value ≡ (if t then p.value else q.value)
 value_if true p q = refl
 value_if false p q = refl
 
-put_shown : (f : Name → Poisoned) (x : Name) (p : Poisoned) → values_only (with_value f x p) ≡ with_value (values_only f) x p.value
+pub put_shown : (f : Name → Poisoned) (x : Name) (p : Poisoned) → words (with_value f x p) ≡ with_value (words f) x p.value
 put_shown f x p = fun_ext (λ y. value_if (name_eq y x) p (f y))
 
-edge_shown : (s : Setting) (f : Name → Poisoned) (t : Ty) (from : Name) (es : List (Operand × Name)) (n : ℕ)
-    → (read_edge (read_poisoned s f) clean t from es n).value ≡ read_edge (plain_reading.read s (values_only f)) 0 t from es n
+pub edge_shown : (s : Setting) (f : Name → Poisoned) (t : Ty) (from : Name) (es : List (Operand × Name)) (n : ℕ)
+    → (read_edge (read_poisoned s f) clean t from es n).value ≡ read_edge (plain_reading.read s (words f)) 0 t from es n
 edge_shown s f t from [] n = refl
 edge_shown s f t from (e ∷ es) n = by_test (name_eq e.1 from) (edge_shown s f t from es (n + one_undef e.0))
   where
-    by_test : (b : Bool) → (read_edge (read_poisoned s f) clean t from es (n + one_undef e.0)).value ≡ read_edge (plain_reading.read s (values_only f)) 0 t from es (n + one_undef e.0)
+    by_test : (b : Bool) → (read_edge (read_poisoned s f) clean t from es (n + one_undef e.0)).value ≡ read_edge (plain_reading.read s (words f)) 0 t from es (n + one_undef e.0)
         → (if b then read_poisoned s f n t e.0 else read_edge (read_poisoned s f) clean t from es (n + one_undef e.0)).value
-        ≡ (if b then read_word s f n t e.0 else read_edge (plain_reading.read s (values_only f)) 0 t from es (n + one_undef e.0))
+        ≡ (if b then read_word s f n t e.0 else read_edge (plain_reading.read s (words f)) 0 t from es (n + one_undef e.0))
     by_test true h = refl
     by_test false h = h
 
 -- a choice by whether an instruction is a phi
-at_phi : {A B : Type 0} (show : A → B) (o : Op) (f : Ty → List (Operand × Name) → A) (y : A) (g : Ty → List (Operand × Name) → B) (z : B)
+pub at_phi : {A B : Type 0} (show : A → B) (o : Op) (f : Ty → List (Operand × Name) → A) (y : A) (g : Ty → List (Operand × Name) → B) (z : B)
     → ((t : Ty) (es : List (Operand × Name)) → show (f t es) ≡ g t es) → show y ≡ z
     → show (elim o [ op.Phi t es ↦ f t es | _ ↦ y ]) ≡ elim o [ op.Phi t es ↦ g t es | _ ↦ z ]
 at_phi show (op.Phi t es) f y g z p q = p t es
@@ -86,27 +81,27 @@ at_phi show (op.Switch t x other cases) f y g z p q = q
 at_phi show (op.Ret x) f y g z p q = q
 at_phi show op.Unreachable f y g z p q = q
 
-phis_shown : (s : Setting) (old : Name → Poisoned) (from : Name) (is : List Inst) (n : ℕ) (new : Name → Poisoned)
-    → values_only (phis (read_poisoned s old) clean s.func from is n new) ≡ phis (plain_reading.read s (values_only old)) 0 s.func from is n (values_only new)
+pub phis_shown : (s : Setting) (old : Name → Poisoned) (from : Name) (is : List Inst) (n : ℕ) (new : Name → Poisoned)
+    → words (phis (read_poisoned s old) clean s.func from is n new) ≡ phis (plain_reading.read s (words old)) 0 s.func from is n (words new)
 phis_shown s old from [] n new = refl
 phis_shown s old from (i ∷ is) n new =
-    at_phi values_only i.op
+    at_phi words i.op
     (λ t es. phis (read_poisoned s old) clean s.func from is (n + roots_in s.func i) (with_value new (unwrap_or i.result (Number 0)) (read_edge (read_poisoned s old) clean t from es n)))
     new
-    (λ t es. phis (plain_reading.read s (values_only old)) 0 s.func from is (n + roots_in s.func i) (with_value (values_only new) (unwrap_or i.result (Number 0)) (read_edge (plain_reading.read s (values_only old)) 0 t from es n)))
-    (values_only new)
+    (λ t es. phis (plain_reading.read s (words old)) 0 s.func from is (n + roots_in s.func i) (with_value (words new) (unwrap_or i.result (Number 0)) (read_edge (plain_reading.read s (words old)) 0 t from es n)))
+    (words new)
     (λ t es. phis_shown s old from is (n + roots_in s.func i) _
-    ∙ ap (phis (plain_reading.read s (values_only old)) 0 s.func from is (n + roots_in s.func i))
-    (put_shown new (unwrap_or i.result (Number 0)) _ ∙ ap (with_value (values_only new) (unwrap_or i.result (Number 0))) (edge_shown s old t from es n)))
+    ∙ ap (phis (plain_reading.read s (words old)) 0 s.func from is (n + roots_in s.func i))
+    (put_shown new (unwrap_or i.result (Number 0)) _ ∙ ap (with_value (words new) (unwrap_or i.result (Number 0))) (edge_shown s old t from es n)))
     refl
 
 -- ---- frames
 
-frame_put : (fr : Frame Poisoned) (x : Option Name) (p : Poisoned) → bare_frame (put fr x p) ≡ put (bare_frame fr) x p.value
+pub frame_put : (fr : Frame Poisoned) (x : Option Name) (p : Poisoned) → bare_frame (put fr x p) ≡ put (bare_frame fr) x p.value
 frame_put fr None p = refl
 frame_put fr (Some x) p = ap (λ f. record { func = fr.func; block = fr.block; place = fr.place + 1; values = f; mark = fr.mark; heap = fr.heap }) (put_shown fr.values x p)
 
-pub bind_shown : (ps : List (Ty × Name)) (vs : List Poisoned) → values_only (bind clean ps vs) ≡ bind 0 ps (map (λ p. p.value) vs)
+pub bind_shown : (ps : List (Ty × Name)) (vs : List Poisoned) → words (bind clean ps vs) ≡ bind 0 ps (map (λ p. p.value) vs)
 bind_shown [] vs = refl
 bind_shown (p ∷ ps) [] = refl
 bind_shown (p ∷ ps) (v ∷ vs) = put_shown (bind clean ps vs) p.1 v ∙ ap (λ f. with_value f p.1 v.value) (bind_shown ps vs)
@@ -119,7 +114,7 @@ pub frames_length : (fs : List (Frame Poisoned)) → length (map bare_frame fs) 
 frames_length [] = refl
 frames_length (f ∷ fs) = ap (λ n. suc n) (frames_length fs)
 
-jump_shown : (s : Setting) (m : Module) (to : Name) (fr : Frame Poisoned) → bare_frame (jumped shadow_reading s m to fr) ≡ jumped plain_reading s m to (bare_frame fr)
+pub jump_shown : (s : Setting) (m : Module) (to : Name) (fr : Frame Poisoned) → bare_frame (jumped shadow_reading s m to fr) ≡ jumped plain_reading s m to (bare_frame fr)
 jump_shown s m to fr =
     ap (λ f. record {
       func = fr.func;

@@ -1,3 +1,4 @@
 pub mod Formulas
 pub mod Inside
 pub mod Marks
+pub mod Follows

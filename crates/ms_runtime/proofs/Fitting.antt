@@ -18,11 +18,11 @@ use Rattle.ms_runs.specs.World.{World, Setting, Effect, Gives, Does, Ends}
 use Rattle.ms_runs.specs.Threads.{fibers_of}
 use Rattle.ms_runs.specs.Runtime.{runtime}
 use Rattle.ms_runs.specs.Control.{Frame}
-use Rattle.ms_valid.specs.Valid.{Valid}
-use Rattle.ms_good_laws.specs.GoodStates.{IsBelow}
-use Rattle.ms_good_laws.specs.Straight.{HaveTypes}
-use Rattle.ms_good_laws.proofs.FibersKept.{Kept, runtime_keeps}
-use Rattle.ms_good_laws.proofs.ExternalEffects.{first_param}
+use Rattle.ms_check_valid.specs.Valid.{Valid}
+use Rattle.ms_runs_good_laws.specs.GoodStates.{IsBelow}
+use Rattle.ms_runs_good_laws.specs.Straight.{HaveTypes}
+use Rattle.ms_runs_good_laws.proofs.FibersKept.{Kept, runtime_keeps}
+use Rattle.ms_runs_good_laws.proofs.ExternalEffects.{first_param}
 use Rattle.ms_host.specs.State.{WorldState, Beside}
 use Rattle.ms_host.specs.Answers.{FitsFirst, Answered, IsExternal, effect_asked, asked_effect}
 use Rattle.ms_host.specs.declared.calls.Asked.{Asked}
@@ -107,7 +107,7 @@ pub within_room : (u : Setup) (limit : ℕ) (a : Answer) (r : Running) → u.rep
 within_room u limit (answer.Resumed v) r e h = subst (λ (k : ℕ). length r.told.reports < k) (sym e) h
 within_room u limit (answer.Ended x) r e h = tt
 
--- behind the answer of a runtime function the fibers are those of before
+-- after the answer of a runtime function the fibers are those of before
 answered_fibers : (w : World) (e : Effect) → Kept w e → (beside : Beside) (a : Answer) (after : WorldState) → Answered beside e a after → beside.fibers ≡ fibers_of w
 answered_fibers w (Gives v world) k beside (answer.Resumed (Some n)) after h = sym h.1.fibers ∙ k.kept
 answered_fibers w (Does world) k beside (answer.Resumed None) after h = sym h.fibers ∙ k.kept

@@ -17,12 +17,12 @@ use Rattle.ms_runs.specs.World.{World, result, stuck}
 use Rattle.ms_runs.specs.Memory.{end_block, end_blocks}
 use Rattle.ms_runs.specs.Control.{Frame, release, given_back}
 use Rattle.ms_runs.specs.Plain.{PlainState, go_on, run, plain, plain_start, Stop}
-use Rattle.ms_good_laws.proofs.ThreadsApart.{none_called}
-use Rattle.ms_good_laws.proofs.Frames.{same_insts}
-use Rattle.ms_valid.specs.Formed.{Formed}
-use Rattle.ms_valid.specs.Valid.{Valid}
-use Rattle.ms_code.specs.declared.code.Program.{Program}
-use Rattle.ms_code.specs.Compiled.{Compiled}
+use Rattle.ms_runs_good_laws.proofs.ThreadsApart.{none_called}
+use Rattle.ms_runs_good_laws.proofs.Frames.{same_insts}
+use Rattle.ms_check_valid.specs.Formed.{Formed}
+use Rattle.ms_check_valid.specs.Valid.{Valid}
+use Rattle.ms_machine_code.specs.declared.code.Program.{Program}
+use Rattle.ms_machine_code.specs.Compiled.{Compiled}
 use Rattle.ms_host.specs.State.{WorldState, Beside, nothing_beside}
 use Rattle.ms_host.specs.Shows.{Shows}
 use Rattle.ms_host.specs.declared.calls.Asked.{Asked}
@@ -41,7 +41,7 @@ use Rattle.ms_machine.proofs.Programs.{frames_to, frames_from, state_to, state_f
 use Rattle.ms_runtime.specs.declared.runs.Running.{Running}
 use Rattle.ms_runtime.specs.Served.{IsBeside, CanAnswer}
 use Rattle.ms_runtime.specs.Answering.{AnsweredFor}
-use Rattle.ms_runtime.specs.Going.{ahead, Begins, Going, LeftBehind, HasSlack, Asking, Paused, Answers, Over}
+use Rattle.ms_runtime.specs.Going.{ahead, Begins, Going, LeftAfter, HasSlack, Asking, Paused, Answers, Over}
 
 -- ---- numbers
 
@@ -96,13 +96,13 @@ module _ (m : Module) (u : Setup) (beside : Beside) (state : PlainState) (r r' :
   pub slack_is : HasSlack call.asked r'.world.made r'.budget.left
   slack_is = slack_by call.asked h.counted
 
-  behind_by : (a : Asked) → Counts a r.budget.left (r'.budget.left + h.done) → (rest : ℕ) × (LeftBehind a rest r'.budget.left × (rest + h.done + 1 ≡ r.budget.left))
-  behind_by (asked.External e) c = (r'.budget.left, (refl, omega (arith, c)))
-  behind_by (asked.Runtime f) c = (r'.budget.left - 1, (omega (arith, c, h.few), omega (arith, c, h.few)))
+  after_by : (a : Asked) → Counts a r.budget.left (r'.budget.left + h.done) → (rest : ℕ) × (LeftAfter a rest r'.budget.left × (rest + h.done + 1 ≡ r.budget.left))
+  after_by (asked.External e) c = (r'.budget.left, (refl, omega (arith, c)))
+  after_by (asked.Runtime f) c = (r'.budget.left - 1, (omega (arith, c, h.few), omega (arith, c, h.few)))
 
-  -- the steps that are left behind it
-  pub behind : (rest : ℕ) × (LeftBehind call.asked rest r'.budget.left × (rest + h.done + 1 ≡ r.budget.left))
-  behind = behind_by call.asked h.counted
+  -- the steps that are left after it
+  pub after : (rest : ℕ) × (LeftAfter call.asked rest r'.budget.left × (rest + h.done + 1 ≡ r.budget.left))
+  after = after_by call.asked h.counted
 
 -- ---- ends
 
@@ -180,7 +180,7 @@ module _ (m : Module) (u : Setup) where
 
       pub going_asks : Paused m u call r'
       going_asks =
-          let b : (rest : ℕ) × (LeftBehind call.asked rest r'.budget.left × (rest + h.done + 1 ≡ r.budget.left)) = behind m u g.beside g.state r r' g.keeping.room call h made in
+          let b : (rest : ℕ) × (LeftAfter call.asked rest r'.budget.left × (rest + h.done + 1 ≡ r.budget.left)) = after m u g.beside g.state r r' g.keeping.room call h made in
           record {
             calm = g.calm;
             lone = g.lone;
@@ -239,7 +239,7 @@ module _ (m : Module) (u : Setup) where
         stops_step (asked.External x) last h = h.0
         stops_step (asked.Runtime f) last h = h.step
 
-    -- or the run goes on behind it
+    -- or the run goes on after it
     pub asked_goes_on : (value : Option ℕ) → AnsweredFor m u call a.within (answer.Resumed value) r r' → (r'' : Running)
         → r''.world ≡ r'.world → r''.depot ≡ r'.depot → r''.told ≡ r'.told → r''.budget ≡ r'.budget → r''.printf ≡ r'.printf → r''.fiber.frame.at ≡ r'.fiber.frame.at + 1 → KeepsOwn r'.fiber r''.fiber
         → ((frame : Frame ℕ) (below : List (Frame ℕ)) → AllStandFor m (frames_of r'.fiber) (frame ∷ below) → Waits m u frame call → AllStandFor m (frames_of r''.fiber) (answered m value frame ∷ below))
@@ -284,7 +284,7 @@ module _ (m : Module) (u : Setup) where
         less : ahead m r'' < ahead m r
         less = one_nearer r.budget.left r''.budget.left r.fiber.frame.at r''.fiber.frame.at (over_funcs (λ inst. 1) m.funcs) left_is (at ∙ ap (λ f. f.frame.at + 1) x.fiber) (at_below r call a)
 
-        by_asked : (of : Asked) → LeftBehind of b.rest r.budget.left → Resumes m u of a.within on.next → goes r''.budget.left on.next ≡ plain m u
+        by_asked : (of : Asked) → LeftAfter of b.rest r.budget.left → Resumes m u of a.within on.next → goes r''.budget.left on.next ≡ plain m u
         by_asked (asked.External e) c h = ap (λ (n : ℕ). goes n on.next) (left_is ∙ sym c) ∙ sym (ap (go_on (goes b.rest)) h.0) ∙ b.same
         by_asked (asked.Runtime f) c h = ap (λ (n : ℕ). goes n on.next) (left_is ∙ sym c) ∙ sym (ap (go_on (goes b.rest)) h.step) ∙ b.same
 

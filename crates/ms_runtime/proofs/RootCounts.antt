@@ -15,8 +15,8 @@ use Rattle.ms_ir.specs.declared.calls.External.{External}
 use Rattle.ms_ir.specs.declared.calls.External.TheVariants.{Malloc, Realloc, LifetimeStart}
 use Rattle.ms_ir.specs.Instructions.{operands, count_undefs, makes_unset, external_named, is_root, roots_in, one_unmarked, func_index, over_insts, over_blocks, over_funcs, count_roots}
 use Rattle.ms_ir.specs.Roots.{undef_roots, call_roots, own_roots, inst_roots, insts_roots, blocks_roots, funcs_roots, roots_of}
-use Rattle.ms_valid.specs.Formed.{Formed, count_written}
-use Rattle.ms_good_laws.proofs.Starting.{roots_few}
+use Rattle.ms_check_valid.specs.Formed.{Formed, count_written}
+use Rattle.ms_runs_good_laws.proofs.Starting.{roots_few}
 
 undefs_counted : (site : ℕ) (os : List (Ty × Operand)) → length (undef_roots site os) ≡ count_undefs os
 undefs_counted site [] = refl

@@ -52,9 +52,9 @@ pub record Going (m : Module) (u : Setup) (r : Running) : Type 0 where
   pub same : run (λ (s : PlainState). s.world) (step_of m u) r.budget.left state ≡ plain m u
 
 -- the steps that are left after the one within which a call is asked for
-abbrev pub LeftBehind : Asked → (rest left : ℕ) → Type 0
-LeftBehind (asked.External e) rest left = rest ≡ left
-LeftBehind (asked.Runtime f) rest left = suc rest ≡ left
+abbrev pub LeftAfter : Asked → (rest left : ℕ) → Type 0
+LeftAfter (asked.External e) rest left = rest ≡ left
+LeftAfter (asked.Runtime f) rest left = suc rest ≡ left
 
 -- room for what an external may make
 abbrev pub HasSlack : Asked → (made left : ℕ) → Type 0
@@ -78,7 +78,7 @@ pub record Paused (m : Module) (u : Setup) (call : HostCall) (r : Running) : Typ
   pub asking : Asking m u call r
   pub lone : asking.beside.fibers ≡ no_fibers
   pub rest : ℕ
-  pub counted : LeftBehind call.asked rest r.budget.left
+  pub counted : LeftAfter call.asked rest r.budget.left
   pub same : go_on (run (λ (s : PlainState). s.world) (step_of m u) rest) (step_of m u asking.within) ≡ plain m u
 
 -- a run has ended so, and this is what it returns

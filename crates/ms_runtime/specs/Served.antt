@@ -16,7 +16,7 @@ use Rattle.ms_host.specs.declared.calls.Answer.{Answer}
 use Rattle.ms_host.specs.declared.calls.Answer.TheVariants.{Resumed, Ended}
 use Rattle.ms_host.specs.State.{WorldState, Beside}
 use Rattle.ms_host.specs.Answers.{Answered}
-use Rattle.ms_runtime.specs.declared.reports.Use.{Use}
+use Rattle.ms_runtime.specs.declared.reports.ReportedUse.{ReportedUse}
 
 -- a setting has so many roots, and ends a run at so many reports
 pub record IsFor (setting : Setting) (roots limit : ℕ) : Type 0 where
@@ -65,7 +65,7 @@ FitsAsked (asked.Runtime f) args = Fits f args
 FitsAsked (asked.External e) args = ⊥
 
 -- the use that the arguments of a check speak of
-abbrev pub use_in : List ℕ → Use
+abbrev pub use_in : List ℕ → ReportedUse
 use_in args = record { mask = get_or args 0 0; width = get_or args 1 0; origin = get_or args 2 0; kind = get_or args 3 0; part = get_or args 4 0; site = get_or args 5 0 }
 
 -- an effect that gives no value was followed, and what is kept beside the world stays

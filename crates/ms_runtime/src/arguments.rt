@@ -4,7 +4,7 @@ ghost use Rattle.ms_bits.specs.WordFunctions.{moved as moved_of};
 ghost use Rattle.ms_ir.specs.declared.calls.RuntimeFn.TheVariants.{Check};
 ghost use Rattle.ms_runtime.specs.Served.{Fits, use_in};
 
-use crate::reports::Use;
+use crate::reports::ReportedUse;
 use ms_bits::{BitMove, move_bits};
 
 /// The argument at a place; 0 where it is missing.
@@ -30,11 +30,11 @@ pub(crate) fn low_byte(args: &[u64], k: usize) -> u8
 }
 
 /// The use that a call of `__msan_check` speaks of.
-pub(crate) fn use_of(args: &[u64]) -> Use
+pub(crate) fn use_of(args: &[u64]) -> ReportedUse
     requires { Fits Check args.now }
     ensures { result ≡ use_in args.now }
 {
-    Use {
+    ReportedUse {
         mask: word(args, 0),
         width: small(args, 1),
         origin: small(args, 2),

@@ -15,7 +15,7 @@ use std::mem::replace;
 
 /// A use of a word, of which the bits that are 1 in the mask are uninitialised.
 #[derive(Clone, Copy)]
-pub(crate) struct Use {
+pub(crate) struct ReportedUse {
     pub(crate) mask: u64,
     /// The width of the word, in bits.
     pub(crate) width: u32,
@@ -29,7 +29,7 @@ pub(crate) struct Use {
     pub(crate) site: u32,
 }
 
-/// One item more at a list's end. The one error is running out of memory, after which the list is as before.
+/// One item more at a list's end. Where memory runs out the list is as before.
 fn push<T: Drop>(alloc: Global, items: &mut List<T>, item: T) -> Result<(), NoMemory>
     ensures pushed { OnOk result (items.new ≡ items.old ++ item ∷ []) }
     ensures unchanged { OnErr result (items.new ≡ items.old) }
@@ -42,14 +42,12 @@ fn push<T: Drop>(alloc: Global, items: &mut List<T>, item: T) -> Result<(), NoMe
 }
 
 /// Reports a use where its mask isn't 0: the run ends where the reports come to `limit`, and else goes on.
-///
-/// The one error is running out of memory.
 pub(crate) fn check(
     alloc: Global,
     depot: &Depot,
     told: &mut RunResult,
     limit: u32,
-    used: &Use,
+    used: &ReportedUse,
 ) -> Result<Answer, NoMemory>
     requires { length told.old.reports < limit }
     ensures served { (setting : Setting) (beside : Beside) (w : WorldState) (meant : Meant) → IsFor setting depot.now.roots limit → IsBeside depot.now told.old beside → Shows w beside meant → IfOk result (λ a. Served (check_of setting used.now.mask used.now.width used.now.origin used.now.kind used.now.part used.now.site meant) a w depot.now told.new) }
@@ -79,8 +77,6 @@ pub(crate) fn check(
 
 /// Reports a byte of memory that was found poisoned, if one was: the run ends where the reports come to `limit`, and
 /// else goes on.
-///
-/// The one error is running out of memory.
 pub(crate) fn check_byte(
     alloc: Global,
     depot: &Depot,
@@ -98,7 +94,7 @@ pub(crate) fn check_byte(
     let Some(byte) = found else {
         return Ok(Answer::Resumed(None));
     };
-    let used = Use {
+    let used = ReportedUse {
         mask: byte.mask,
         width: 8,
         origin: byte.origin,

@@ -44,7 +44,7 @@ fn no_caller() -> End
 }
 
 impl Running {
-    /// What the call that is asked for comes to.
+    /// The effect of a host call.
     pub fn answer_of(
         &mut self,
         alloc: Global,
@@ -55,7 +55,7 @@ impl Running {
         requires asking { IsAsking m.now reports call.now self.old }
         ensures answered { (u : SetupOf) → u.reports ≡ reports → (q : Asking m.now u call.now self.old) → IfOk result (λ a. AnsweredFor m.now u call.now q.within a self.old self.new) }
     {
-        m.is_valid();
+        m.law_valid();
         match call.asked {
             Asked::External(External::Printf) => {
                 self.printf
@@ -73,8 +73,8 @@ impl Running {
         }
     }
 
-    /// Answers a call. Says how the run ends, if it does.
-    fn go_behind(
+    /// Answers a host call and goes on after it. Returns how the run ends, if it does.
+    fn answer_call(
         &mut self,
         alloc: Global,
         m: &CheckedModule,
@@ -84,7 +84,7 @@ impl Running {
         requires paused { IsPaused m.now reports call self.old }
         ensures turned { (u : SetupOf) → u.reports ≡ reports → Paused m.now u call self.old → IfOk result (λ end. Turned m.now u (ahead m.now self.old) end self.new) }
     {
-        m.is_valid();
+        m.law_valid();
         let _code = m.program();
         match self.answer_of(alloc, m, &call, reports)? {
             Answer::Ended(end) => Ok(Some(end)),
@@ -96,8 +96,8 @@ impl Running {
         }
     }
 
-    /// Goes on to the next pause, and returns it. Says how the run ends, if it does.
-    fn turn(
+    /// Runs to the next pause, and answers the call there. Returns how the run ends, if it does.
+    fn run_to_pause(
         &mut self,
         alloc: Global,
         m: &CheckedModule,
@@ -109,7 +109,7 @@ impl Running {
         match advance(alloc, m, &mut self.fiber, &mut self.world, &mut self.budget)? {
             Pause::Spent => Ok(Some(End::Spent)),
             Pause::Ended(end) => Ok(Some(end)),
-            Pause::Asked(call) => self.go_behind(alloc, m, call, reports),
+            Pause::Asked(call) => self.answer_call(alloc, m, call, reports),
             Pause::Finished { .. } => Ok(Some(no_caller())),
         }
     }
@@ -129,12 +129,12 @@ impl Running {
 }
 
 /// A run at its start.
-pub fn begun(alloc: Global, m: &CheckedModule, setup: &Setup) -> Result<Running, NoMemory>
+pub fn start_run(alloc: Global, m: &CheckedModule, setup: &Setup) -> Result<Running, NoMemory>
     requires limits { WithinLimits setup.now }
     ensures begins { IfOk result (Begins m.now setup.now) }
     ensures going { is_threaded m.now ≡ false → IfOk result (Going m.now setup.now) }
 {
-    m.is_valid();
+    m.law_valid();
     let code = m.module();
     let count = roots(alloc, code)?.as_slice().len();
     let printf = CallSites::of(alloc, code)?;
@@ -154,7 +154,7 @@ pub fn begun(alloc: Global, m: &CheckedModule, setup: &Setup) -> Result<Running,
     })
 }
 
-/// Runs a checked module without thread calls. Ok is what its plain run returns; the one error is running out of memory.
+/// Runs a checked module without thread calls. Ok is what its plain run returns.
 ///
 /// A step takes as long in a large module as in a small one; a call of `printf` adds a binary search among the calls of
 /// `printf` in the module, which are listed once, at the start.
@@ -163,9 +163,9 @@ pub fn run(alloc: Global, m: &CheckedModule, setup: &Setup) -> Result<RunResult,
     requires alone { is_threaded m.now ≡ false }
     ensures { IfOk result (λ r. r ≡ plain m.now setup.now) }
 {
-    let mut running = begun(alloc, m, setup)?;
+    let mut running = start_run(alloc, m, setup)?;
     loop {
-        if let Some(end) = running.turn(alloc, m, setup.reports)? {
+        if let Some(end) = running.run_to_pause(alloc, m, setup.reports)? {
             return Ok(running.into_result(end));
         }
     }

@@ -22,7 +22,7 @@ use std::alloc::Global;
 /// whether the run goes on. It ends exactly where the number of reports comes to `limit`. `__msan_thread_result` changes nothing,
 /// which is its meaning where no thread was made.
 ///
-/// The one error is running out of memory, and the run is over then.
+/// Where memory runs out the run is over.
 pub fn serve(
     alloc: Global,
     call: &HostCall,
@@ -50,11 +50,11 @@ pub fn serve(
     ) {
         return report(alloc, function, args, world, depot, told, limit);
     }
-    let value = change(function, args, world, depot, told)?;
+    let value = serve_update(function, args, world, depot, told)?;
     Ok(Answer::Resumed(value))
 }
 
-/// What one of the four checks comes to.
+/// The effect of one of the four checks.
 fn report(
     alloc: Global,
     function: RuntimeFn,
@@ -83,8 +83,8 @@ fn report(
     }
 }
 
-/// What a runtime function that is no check comes to: it may give a value, and the run goes on.
-fn change(
+/// The effect of a runtime function that is no check: it may give a value, and the run goes on.
+fn serve_update(
     function: RuntimeFn,
     args: &[u64],
     world: &mut World,

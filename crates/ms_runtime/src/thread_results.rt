@@ -12,7 +12,7 @@ use ms_depot::Depot;
 use ms_host::World;
 
 /// The 8 shadow bytes at an address become a mask, where they are good, and the cells that get a poisoned byte get an origin,
-/// chained at a site; else nothing changes. The one error is running out of memory.
+/// chained at a site; else nothing changes.
 pub fn thread_result(
     addr: u64,
     mask: u64,

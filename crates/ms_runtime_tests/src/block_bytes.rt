@@ -258,7 +258,7 @@ verdict: clean
 ~
 0
 ====
-# The copied byte shares its cell with the three that are poisoned behind it.
+# The copied byte shares its cell with the three that are poisoned after it.
 check f~
 define i32 @main() {
   %1 = call ptr @malloc(i64 5)

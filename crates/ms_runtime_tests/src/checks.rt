@@ -204,7 +204,7 @@ verdict: poisoned
 ~
 77
 ====
-# Behind a zero byte nothing is read.
+# After a zero byte nothing is read.
 check f~
 define i32 @main() {
   %1 = alloca [2 x i8]

@@ -318,7 +318,7 @@ define i32 @main() { br label %l l: %i = phi i32 [ 1, %0 ], [ %j, %l ] %s = phi 
 exit 5050~
 0
 ====
-# A value of the turn before, used behind the loop.
+# A value of the turn before, used after the loop.
 define i32 @main() { br label %l l: %i = phi i32 [ 0, %0 ], [ %j, %l ] %j = add i32 %i, 1 %c = icmp ult i32 %j, 3 br i1 %c, label %l, label %e e: %v = phi i32 [ %i, %l ] ret i32 %v }~
 ~
 exit 2~

@@ -42,7 +42,7 @@ define i32 @main() { %p = call ptr @malloc(i64 5) %q = getelementptr i8, ptr %p,
 trap bad-address at site 3 in @main~
 3
 ====
-# A block too large is refused and takes nothing. The last 16 bytes are one block, behind which there is no room, also once another is given back.
+# A block too large is refused and takes nothing. The last 16 bytes are one block, after which there is no room, also once another is given back.
 define i32 @main() { %p = call ptr @malloc(i64 67108865) %a = icmp eq ptr %p, null %q = call ptr @calloc(i64 67108833, i64 1) %r = call ptr @malloc(i64 17) %b = icmp eq ptr %r, null %s = call ptr @malloc(i64 16) %u = getelementptr i8, ptr %s, i64 15 store i8 7, ptr %u call void @free(ptr %q) %t = call ptr @malloc(i64 0) %c = icmp eq ptr %t, null %d = and i1 %a, %b %e = and i1 %d, %c %f = zext i1 %e to i32 %v = load i8, ptr %u %w = zext i8 %v to i32 %x = add i32 %f, %w ret i32 %x }~
 ~
 exit 8~

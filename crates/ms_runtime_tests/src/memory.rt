@@ -544,7 +544,7 @@ exit 16777215~
 exit 8796~
 0
 ====
-# Room: at least 16 bytes each, and one behind the other in the order of the text.
+# Room: at least 16 bytes each, and one after the other in the order of the text.
 @a = global i8 1 @b = constant [17 x i8] zeroinitializer @c = global i8 2 define i32 @main() { %a = ptrtoint ptr @c to i64 %b = sub i64 %a, 123145302310912 %d = trunc i64 %b to i32 ret i32 %d }~
 ~
 exit 48~

@@ -1,7 +1,7 @@
 //! Rows of what `check` says of bytes that are compared, and of strings. Masks, sites and origins were worked out by hand.
 
 /// Bytes that are compared are checked.
-pub static COMPARED: &[u8] = br#"# Also behind the first byte that differs.
+pub static COMPARED: &[u8] = br#"# Also after the first byte that differs.
 check f~
 @s = global [2 x i8] c"ab"
 define i32 @main() {

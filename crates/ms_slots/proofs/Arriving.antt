@@ -13,14 +13,14 @@ use Rattle.ms_runs.specs.World.{World, Setting, Here}
 use Rattle.ms_runs.specs.Control.{with_value}
 use Rattle.ms_runs.specs.Act.{operand_word}
 use Rattle.ms_runs.specs.Plain.{in_slots}
-use Rattle.ms_tasks.specs.Tasks.{msan_name, Task, inserted, tasks_code}
-use Rattle.ms_tasks.specs.Meaning.{run_marked}
-use Rattle.ms_tasks.specs.Environments.{mask_type}
-use Rattle.ms_tasks.specs.SlotTasks.{param_mask, param_origin, result_mask_slot, result_origin_slot}
-use Rattle.ms_tasks.specs.Match.{SlotAddresses, mask_slot, origin_slot}
-use Rattle.ms_tasks.proofs.InsertedNames.{with_here, with_other, msan_name_one}
-use Rattle.ms_tasks.proofs.OperandWords.{word_less}
-use Rattle.ms_tasks.proofs.Slots.{mask_inside, origin_inside, result_inside, answer_inside, size_small, stored_word}
+use Rattle.ms_pass_tasks.specs.Tasks.{msan_name, Task, inserted, tasks_code}
+use Rattle.ms_pass_tasks.specs.Meaning.{run_marked}
+use Rattle.ms_pass_tasks.specs.Environments.{mask_type}
+use Rattle.ms_pass_tasks.specs.SlotTasks.{param_mask, param_origin, result_mask_slot, result_origin_slot}
+use Rattle.ms_pass_tasks.specs.Match.{SlotAddresses, mask_slot, origin_slot}
+use Rattle.ms_pass_tasks.proofs.InsertedNames.{with_here, with_other, msan_name_one}
+use Rattle.ms_pass_tasks.proofs.OperandWords.{word_less}
+use Rattle.ms_pass_tasks.proofs.Slots.{mask_inside, origin_inside, result_inside, answer_inside, size_small, stored_word}
 use Rattle.ms_slots.specs.Places.{store_tasks, load_tasks, store_arguments, load_parameters}
 use Rattle.ms_slots.specs.Arrival.{AreWords, Stores, Loads, HasArrived, ArgumentsArrive, ResultArrives}
 use Rattle.ms_slots.proofs.Slots.{param_mask_at, param_origin_at, result_mask_at, result_origin_at, put_slot, fetch_slot}

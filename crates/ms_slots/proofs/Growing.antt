@@ -6,8 +6,8 @@ use Rattle.std.proofs.lemmas.Result.{on_ok_weaker}
 use Rattle.ms_ir.specs.declared.syntax.Ty.{Ty}
 use Rattle.ms_ir.specs.declared.syntax.Inst.{Inst}
 use Rattle.ms_ir.specs.declared.syntax.Operand.{Operand}
-use Rattle.ms_tasks.specs.Tasks.{Task, InsertedCode, tasks_code}
-use Rattle.ms_tasks.proofs.Marked.{tasks_append, tasks_append_next}
+use Rattle.ms_pass_tasks.specs.Tasks.{Task, InsertedCode, tasks_code}
+use Rattle.ms_pass_tasks.proofs.Marked.{tasks_append, tasks_append_next}
 use Rattle.ms_rules_builder.specs.Made.{with_tasks}
 use Rattle.ms_slots.specs.Places.{store_arguments, load_parameters, made}
 

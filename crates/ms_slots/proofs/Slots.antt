@@ -17,11 +17,11 @@ use Rattle.ms_runs.specs.Memory.{is_good, set_shadow}
 use Rattle.ms_runs.specs.Control.{with_value}
 use Rattle.ms_runs.specs.Act.{operand_word}
 use Rattle.ms_runs.specs.Plain.{shadow_bits, in_slots, load_marked, store_marked}
-use Rattle.ms_tasks.specs.Tasks.{inserted}
-use Rattle.ms_tasks.specs.Meaning.{Values, run_marked, marked_next}
-use Rattle.ms_tasks.specs.SlotTasks.{param_mask, param_origin, result_mask_slot, result_origin_slot}
-use Rattle.ms_tasks.specs.Match.{SlotAddresses, mask_slot, origin_slot}
-use Rattle.ms_tasks.proofs.Slots.{slot_of}
+use Rattle.ms_pass_tasks.specs.Tasks.{inserted}
+use Rattle.ms_pass_tasks.specs.Meaning.{Values, run_marked, marked_next}
+use Rattle.ms_pass_tasks.specs.SlotTasks.{param_mask, param_origin, result_mask_slot, result_origin_slot}
+use Rattle.ms_pass_tasks.specs.Match.{SlotAddresses, mask_slot, origin_slot}
+use Rattle.ms_pass_tasks.proofs.Slots.{slot_of}
 
 -- ---- where the slots are
 

@@ -6,9 +6,9 @@ use Rattle.ms_ir.specs.declared.syntax.Operand.{Operand}
 use Rattle.ms_ir.specs.Layout.{width_of}
 use Rattle.ms_runs.specs.World.{World, Setting, Here}
 use Rattle.ms_runs.specs.Act.{operand_word}
-use Rattle.ms_tasks.specs.Tasks.{msan_name, Task, tasks_code}
-use Rattle.ms_tasks.specs.Meaning.{Went, run_marked}
-use Rattle.ms_tasks.specs.SlotTasks.{result_mask_slot, result_origin_slot}
+use Rattle.ms_pass_tasks.specs.Tasks.{msan_name, Task, tasks_code}
+use Rattle.ms_pass_tasks.specs.Meaning.{Went, run_marked}
+use Rattle.ms_pass_tasks.specs.SlotTasks.{result_mask_slot, result_origin_slot}
 use Rattle.ms_slots.specs.Places.{store_tasks, load_tasks, store_arguments, load_parameters}
 
 -- types of at most 64 bits

@@ -3,19 +3,19 @@ use Rattle.std.specs.Prelude.{ℕ, suc, ◌+◌, ◌*◌, List, [], ◌∷◌, �
 use Rattle.ms_ir.specs.declared.syntax.Ty.{Ty, Int}
 use Rattle.ms_ir.specs.declared.syntax.Operand.{Operand}
 use Rattle.ms_ir.specs.declared.syntax.Inst.{Inst}
-use Rattle.ms_tasks.specs.Tasks.{msan_name, Task, Leaf, Fetches, Puts, InsertedCode}
-use Rattle.ms_tasks.specs.Environments.{mask_type}
-use Rattle.ms_tasks.specs.SlotTasks.{param_mask, param_origin, result_mask_slot, result_origin_slot}
-use Rattle.ms_slots.specs.declared.places.Handover.{Handover}
-use Rattle.ms_slots.specs.declared.places.Handover.TheVariants as place
+use Rattle.ms_pass_tasks.specs.Tasks.{msan_name, Task, Leaf, Fetches, Puts, InsertedCode}
+use Rattle.ms_pass_tasks.specs.Environments.{mask_type}
+use Rattle.ms_pass_tasks.specs.SlotTasks.{param_mask, param_origin, result_mask_slot, result_origin_slot}
+use Rattle.ms_slots.specs.declared.places.WordSlot.{WordSlot}
+use Rattle.ms_slots.specs.declared.places.WordSlot.TheVariants as place
 
 -- the slot of a mask
-abbrev pub mask_slot : Handover → Operand
+abbrev pub mask_slot : WordSlot → Operand
 mask_slot (place.Parameter k) = param_mask k
 mask_slot place.Result = result_mask_slot
 
 -- the slot of an origin
-abbrev pub origin_slot : Handover → Operand
+abbrev pub origin_slot : WordSlot → Operand
 origin_slot (place.Parameter k) = param_origin k
 origin_slot place.Result = result_origin_slot
 

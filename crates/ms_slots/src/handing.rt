@@ -1,17 +1,17 @@
 //! What is handed over to a callee or a caller.
 ghost use Rattle.std.specs.Prelude.{◌≡◌, map, OnOk};
-ghost use Rattle.ms_tasks.specs.SlotTasks as slots;
+ghost use Rattle.ms_pass_tasks.specs.SlotTasks as slots;
 ghost use Rattle.ms_rules_builder.specs.{Made.{with_tasks}, Steps.{tracked_of}};
 ghost use Rattle.ms_slots.specs.Places.{mask_slot, origin_slot};
 
-use crate::places::Handover;
+use crate::places::WordSlot;
 use crate::words::{store_mask, store_origin};
 use ms_bits::NoMemory;
 use ms_rules_builder::{Builder, TrackedOperand};
 
 fn hand(
     builder: &mut Builder,
-    place: Handover,
+    place: WordSlot,
     operand: &TrackedOperand<'_>,
 ) -> Result<(), NoMemory>
     ensures { OnOk result (builder.new ≡ with_tasks builder.old (slots.give_tasks (mask_slot place) (origin_slot place) (tracked_of operand.now))) }
@@ -22,7 +22,7 @@ fn hand(
     store_origin(builder, place, origin)
 }
 
-/// Hands over the masks and origins of the arguments of a call. The one error is running out of memory.
+/// Hands over the masks and origins of the arguments of a call.
 pub fn hand_arguments(
     builder: &mut Builder,
     operands: &[TrackedOperand<'_>],
@@ -30,17 +30,17 @@ pub fn hand_arguments(
     ensures { OnOk result (builder.new ≡ with_tasks builder.old (slots.give_arguments 0 (map tracked_of operands.now))) }
 {
     for (place, operand) in operands.iter().enumerate() {
-        hand(builder, Handover::Parameter(place as u64), operand)?;
+        hand(builder, WordSlot::Parameter(place as u64), operand)?;
     }
     Ok(())
 }
 
-/// Hands over the mask and the origin of what is returned, if something is. The one error is running out of memory.
+/// Hands over the mask and the origin of what is returned, if something is.
 pub fn hand_result(builder: &mut Builder, operands: &[TrackedOperand<'_>]) -> Result<(), NoMemory>
     ensures { OnOk result (builder.new ≡ with_tasks builder.old (slots.give_result (map tracked_of operands.now))) }
 {
     match operands.first() {
-        Some(operand) => hand(builder, Handover::Result, operand),
+        Some(operand) => hand(builder, WordSlot::Result, operand),
         None => Ok(()),
     }
 }

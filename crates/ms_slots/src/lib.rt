@@ -8,7 +8,7 @@ mod places;
 mod taking;
 mod words;
 
-pub use arrival::{arguments_arrive, result_arrives};
+pub use arrival::{law_arguments_arrive, law_result_arrives};
 pub use handing::{hand_arguments, hand_result};
 pub use lists::{give_result, pass_arguments, take_parameters, take_result};
 pub use taking::{fetch_parameter, fetch_result};

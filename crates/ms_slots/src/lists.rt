@@ -1,12 +1,12 @@
 //! The code that hands over or takes over all arguments of a call, or a result, as lists of marked instructions.
 //!
-//! Numbers are those of inserted results. The one error of each function is running out of memory.
+//! Numbers are those of inserted results.
 ghost use Rattle.std.specs.Prelude.{◌≡◌, ◌<◌, ◌≤◌, ◌+◌, ◌*◌, ◌^◌, length, IfOk, OnOk};
-ghost use Rattle.ms_tasks.specs.{Tasks.{tasks_code}, SlotTasks.{result_mask_slot, result_origin_slot}};
+ghost use Rattle.ms_pass_tasks.specs.{Tasks.{tasks_code}, SlotTasks.{result_mask_slot, result_origin_slot}};
 ghost use Rattle.ms_rules_builder.specs.Made.{with_tasks};
 ghost use Rattle.ms_slots.specs.Places.{mask_slot, origin_slot, store_tasks, load_tasks, store_arguments, load_parameters, made};
 
-use crate::places::Handover;
+use crate::places::WordSlot;
 use crate::words::{load_word, store_mask, store_origin};
 use ms_bits::{Duplicate, List, NoMemory};
 use ms_ir::{Inst, Operand, Ty, width_of};
@@ -15,7 +15,7 @@ use std::alloc::Global;
 
 fn store_word(
     builder: &mut Builder,
-    place: Handover,
+    place: WordSlot,
     ty: &Ty,
     mask: &Operand,
     origin: &Operand,
@@ -32,7 +32,7 @@ fn store_words(builder: &mut Builder, args: &[(Ty, Operand, Operand)]) -> Result
     ensures { OnOk result (builder.new ≡ with_tasks builder.old (store_arguments 0 args.now)) }
 {
     for (place, (ty, mask, origin)) in args.iter().enumerate() {
-        store_word(builder, Handover::Parameter(place as u64), ty, mask, origin)?;
+        store_word(builder, WordSlot::Parameter(place as u64), ty, mask, origin)?;
     }
     Ok(())
 }
@@ -42,7 +42,7 @@ fn load_words(builder: &mut Builder, params: &[Ty], next: u32) -> Result<(), NoM
 {
     for (place, ty) in params.iter().enumerate() {
         let number = u64::from(next) + 2 * place as u64;
-        load_word(builder, Handover::Parameter(place as u64), number, ty)?;
+        load_word(builder, WordSlot::Parameter(place as u64), number, ty)?;
     }
     Ok(())
 }
@@ -89,7 +89,7 @@ pub fn give_result(
     ensures { IfOk result (λ r. made r ≡ tasks_code (store_tasks result_mask_slot result_origin_slot (ty.now, mask.now, origin.now)) next) }
 {
     let mut builder = Builder::new(alloc, u64::from(next));
-    store_word(&mut builder, Handover::Result, ty, mask, origin)?;
+    store_word(&mut builder, WordSlot::Result, ty, mask, origin)?;
     Ok((List::from_vec(builder.into_insts()), next))
 }
 
@@ -101,6 +101,6 @@ pub fn take_result(alloc: Global, ty: &Ty, next: u32) -> Result<(List<Inst>, u32
 {
     let after = next + 2;
     let mut builder = Builder::new(alloc, u64::from(after));
-    load_word(&mut builder, Handover::Result, u64::from(next), ty)?;
+    load_word(&mut builder, WordSlot::Result, u64::from(next), ty)?;
     Ok((List::from_vec(builder.into_insts()), after))
 }

@@ -9,12 +9,12 @@ use ms_bits::{Boxed, List, NoMemory, SmallBytes};
 use ms_ir::{Name, Operand, Slot, Ty};
 use std::alloc::Global;
 
-/// Where the mask and the origin of a word are handed over.
+/// The slots in which the mask and the origin of a word are handed over.
 #[derive(Clone, Copy)]
-pub enum Handover {
-    /// Those of an argument with a place, from 0.
+pub enum WordSlot {
+    /// The mask and origin of an argument with a place, from 0.
     Parameter(u64),
-    /// Those of a result.
+    /// The mask and origin of a result.
     Result,
 }
 
@@ -57,24 +57,24 @@ fn item_of_slot(alloc: Global, slot: Slot, width: u8, place: u64) -> Result<Oper
     Ok(Operand::Offset(name, steps))
 }
 
-impl Handover {
-    /// The slot of the mask. The one error is running out of memory.
+impl WordSlot {
+    /// The slot of the mask.
     pub fn mask_slot(self, alloc: Global) -> Result<Operand, NoMemory>
         ensures { IfOk result (λ o. o ≡ mask_slot self) }
     {
         match self {
-            Handover::Parameter(place) => item_of_slot(alloc, Slot::ParamMasks, 64, place),
-            Handover::Result => whole_slot(alloc, Slot::RetvalMask),
+            WordSlot::Parameter(place) => item_of_slot(alloc, Slot::ParamMasks, 64, place),
+            WordSlot::Result => whole_slot(alloc, Slot::RetvalMask),
         }
     }
 
-    /// The slot of the origin. The one error is running out of memory.
+    /// The slot of the origin.
     pub fn origin_slot(self, alloc: Global) -> Result<Operand, NoMemory>
         ensures { IfOk result (λ o. o ≡ origin_slot self) }
     {
         match self {
-            Handover::Parameter(place) => item_of_slot(alloc, Slot::ParamOrigins, 32, place),
-            Handover::Result => whole_slot(alloc, Slot::RetvalOrigin),
+            WordSlot::Parameter(place) => item_of_slot(alloc, Slot::ParamOrigins, 32, place),
+            WordSlot::Result => whole_slot(alloc, Slot::RetvalOrigin),
         }
     }
 }

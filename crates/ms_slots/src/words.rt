@@ -1,13 +1,11 @@
 //! The code that puts a word's mask and origin into two slots, or takes them from there.
-//!
-//! The one error of each function is running out of memory.
 ghost use Rattle.std.specs.Prelude.{◌≡◌, ◌<◌, ◌+◌, ◌^◌, [], ◌∷◌, OnOk};
 ghost use Rattle.ms_ir.specs.declared.syntax.Ty.{Int};
-ghost use Rattle.ms_tasks.specs.Tasks.{msan_name, Leaf, Fetches, Puts};
+ghost use Rattle.ms_pass_tasks.specs.Tasks.{msan_name, Leaf, Fetches, Puts};
 ghost use Rattle.ms_rules_builder.specs.Made.{with_tasks};
 ghost use Rattle.ms_slots.specs.Places.{mask_slot, origin_slot, load_tasks};
 
-use crate::places::Handover;
+use crate::places::WordSlot;
 use ms_bits::NoMemory;
 use ms_ir::{Name, Op, Operand, Ty, width_of};
 use ms_rules_builder::{Builder, msan_name};
@@ -43,7 +41,7 @@ fn load(builder: &mut Builder, name: Name, width: u8, addr: Operand) -> Result<(
 /// A mask of a width goes into its slot.
 pub fn store_mask(
     builder: &mut Builder,
-    place: Handover,
+    place: WordSlot,
     width: u8,
     mask: Operand,
 ) -> Result<(), NoMemory>
@@ -54,14 +52,14 @@ pub fn store_mask(
 }
 
 /// An origin goes into its slot.
-pub fn store_origin(builder: &mut Builder, place: Handover, origin: Operand) -> Result<(), NoMemory>
+pub fn store_origin(builder: &mut Builder, place: WordSlot, origin: Operand) -> Result<(), NoMemory>
     ensures { OnOk result (builder.new ≡ with_tasks builder.old (Puts (Int 32) (Leaf origin) (Leaf (origin_slot place)) ∷ [])) }
 {
     let slot = place.origin_slot(builder.alloc())?;
     store(builder, ORIGIN_WIDTH, origin, slot)
 }
 
-fn load_mask(builder: &mut Builder, place: Handover, number: u64, width: u8) -> Result<(), NoMemory>
+fn load_mask(builder: &mut Builder, place: WordSlot, number: u64, width: u8) -> Result<(), NoMemory>
     ensures { OnOk result (builder.new ≡ with_tasks builder.old (Fetches (msan_name number) (Int width) (Leaf (mask_slot place)) ∷ [])) }
 {
     let name = msan_name(builder.alloc(), number)?;
@@ -69,7 +67,7 @@ fn load_mask(builder: &mut Builder, place: Handover, number: u64, width: u8) -> 
     load(builder, name, width, slot)
 }
 
-fn load_origin(builder: &mut Builder, place: Handover, number: u64) -> Result<(), NoMemory>
+fn load_origin(builder: &mut Builder, place: WordSlot, number: u64) -> Result<(), NoMemory>
     ensures { OnOk result (builder.new ≡ with_tasks builder.old (Fetches (msan_name number) (Int 32) (Leaf (origin_slot place)) ∷ [])) }
 {
     let name = msan_name(builder.alloc(), number)?;
@@ -80,7 +78,7 @@ fn load_origin(builder: &mut Builder, place: Handover, number: u64) -> Result<()
 /// A mask of a type and an origin come out of their slots, as the inserted result with a number and the one after it.
 pub fn load_word(
     builder: &mut Builder,
-    place: Handover,
+    place: WordSlot,
     number: u64,
     ty: &Ty,
 ) -> Result<(), NoMemory>

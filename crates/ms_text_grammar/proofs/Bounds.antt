@@ -16,8 +16,8 @@ use Rattle.ms_ir.specs.declared.syntax.Name.TheVariants as name
 use Rattle.ms_ir.specs.declared.syntax.Op.{Op}
 use Rattle.ms_ir.specs.declared.forms.Form.{Form}
 use Rattle.ms_text_grammar.specs.declared.refusals.Cause.{Cause}
-use Rattle.ms_text_grammar.specs.declared.states.Body.{Body}
-use Rattle.ms_text_grammar.specs.declared.states.Parts.{Parts}
+use Rattle.ms_text_grammar.specs.declared.states.BodySoFar.{BodySoFar}
+use Rattle.ms_text_grammar.specs.declared.states.ModuleSoFar.{ModuleSoFar}
 use Rattle.ms_text_grammar.specs.declared.symbols.Symbol.{Symbol}
 use Rattle.ms_text_grammar.specs.declared.symbols.Symbol.TheVariants as s
 use Rattle.ms_text_grammar.specs.Lexemes.{Lexeme}
@@ -25,7 +25,7 @@ use Rattle.ms_text_grammar.specs.Steps.{Rule, refuse, word, binary_op, cast_op}
 use Rattle.ms_text_grammar.specs.Insts.{Marked}
 use Rattle.ms_text_grammar.specs.Bodies.{is_open, opened, opened_as, opened_by, max_instructions, name_or, line_begins, line_begins_by, begins_instruction, with_value, with_effect, with_end, with_call, is_void_call}
 use Rattle.ms_text_grammar.specs.Lines.{value_line, marked_line, phi_line, call_line, effect_line, end_line, instruction_by, operation_by, instruction, named_line, record_line, line_by, line, is_whole, blocks}
-use Rattle.ms_text_grammar.specs.Functions.{body_behind, function}
+use Rattle.ms_text_grammar.specs.Functions.{body_after, function}
 use Rattle.ms_text_grammar.specs.Modules.{instructions_of, max_functions, max_globals, entity_begins, entity_begins_by, entity, entity_by, with_global, with_declaration, with_function, no_parts, module_rule}
 use Rattle.ms_text_grammar.specs.Texts.{Reads, ReadsUpTo}
 use Rattle.ms_text_grammar.specs.Bounds.{instructions_among, WithinLimits}
@@ -43,22 +43,22 @@ instructions_more : (bs : List Block) (b : Block) → instructions_of (bs ++ b �
 instructions_more [] b = omega arith
 instructions_more (c ∷ bs) b = let rest = instructions_more bs b in omega (arith, rest)
 
-abbrev pub inside : Body → ℕ
+abbrev pub inside : BodySoFar → ℕ
 inside b = instructions_of b.blocks + length b.insts
 
 -- before a body, and within it, stand as many instructions as it counts, and those are not too many
-pub record Kept (form : Form) (before : ℕ) (b : Body) : Type 0 where
+pub record Kept (form : Form) (before : ℕ) (b : BodySoFar) : Type 0 where
   pub all : before + inside b ≡ b.count
   pub few : b.count ≤ max_instructions form
   pub closed : is_open b.name ≡ false → length b.insts ≡ 0
 
 -- one instruction more
-pub record Grown (a b : Body) : Type 0 where
+pub record Grown (a b : BodySoFar) : Type 0 where
   pub more : inside b ≡ inside a + 1
   pub count : b.count ≡ a.count + 1
   pub ended : is_open b.name ≡ false → length b.insts ≡ 0
 
-module _ (a : Body) (open_here : is_open a.name ≡ true) where
+module _ (a : BodySoFar) (open_here : is_open a.name ≡ true) where
   not_closed : {A : Type 0} → is_open a.name ≡ false → A
   not_closed h = absurd (true≢false (sym open_here ∙ h))
 
@@ -88,7 +88,7 @@ module _ (a : Body) (open_here : is_open a.name ≡ true) where
 
   -- ---- one line
 
-  module _ (form : Form) (ts : List Lexeme) (v : Body) (rest : List Lexeme) where
+  module _ (form : Form) (ts : List Lexeme) (v : BodySoFar) (rest : List Lexeme) where
     value_line_grows : (result : Option Name) (rule : Rule Op) → ReadsUpTo (value_line form a result rule) ts v rest → Grown a v
     unfolding value_line
     value_line_grows result rule h = subst (Grown a) (sym h.3.0) (value_grows result false h.0)
@@ -141,12 +141,12 @@ module _ (a : Body) (open_here : is_open a.name ≡ true) where
     unfolding instruction
     instruction_grows result x h = by_operation result x (binary_op x) (cast_op x) h
 
-pub named_line_grows : (form : Form) (a : Body) (open_here : is_open a.name ≡ true) (n : Name) (ts : List Lexeme) (v : Body) (rest : List Lexeme)
+pub named_line_grows : (form : Form) (a : BodySoFar) (open_here : is_open a.name ≡ true) (n : Name) (ts : List Lexeme) (v : BodySoFar) (rest : List Lexeme)
     → ReadsUpTo (named_line form a n) ts v rest → Grown a v
 unfolding named_line
 named_line_grows form a o n ts v rest h = instruction_grows a o form h.3.1 v rest (Some n) h.3.0 h.3.3
 
-pub record_line_is : (form : Form) (a : Body) (ts : List Lexeme) (v : Body) (rest : List Lexeme) → ReadsUpTo (record_line form a) ts v rest → v ≡ a
+pub record_line_is : (form : Form) (a : BodySoFar) (ts : List Lexeme) (v : BodySoFar) (rest : List Lexeme) → ReadsUpTo (record_line form a) ts v rest → v ≡ a
 unfolding record_line
 record_line_is form a ts v rest h = h.3.3.0
 
@@ -154,30 +154,30 @@ record_line_is form a ts v rest h = h.3.3.0
 
 module _ (form : Form) (before : ℕ) where
   -- a label or an unlabelled block opens where none is open
-  opens_kept : (b : Body) (n : Name) (k : ℕ) → is_open b.name ≡ false → Kept form before b → Kept form before (opened_as b n k)
+  opens_kept : (b : BodySoFar) (n : Name) (k : ℕ) → is_open b.name ≡ false → Kept form before b → Kept form before (opened_as b n k)
   opens_kept b n k shut h =
       let empty = h.closed shut in
       let whole = h.all in
       record { all = omega (arith, empty, whole); few = h.few; closed = λ e. refl }
 
-  open_kept_by : (b : Body) (n : Option Name) → b.name ≡ n → Kept form before b → Kept form before (opened_by n b) × (is_open (opened_by n b).name ≡ true)
+  open_kept_by : (b : BodySoFar) (n : Option Name) → b.name ≡ n → Kept form before b → Kept form before (opened_by n b) × (is_open (opened_by n b).name ≡ true)
   open_kept_by b (Some n) e h = (h, ap is_open e)
   open_kept_by b None e h = (opens_kept b (name.Number b.next) 1 (ap is_open e) h, refl)
 
-  open_kept : (b : Body) → Kept form before b → Kept form before (opened b) × (is_open (opened b).name ≡ true)
+  open_kept : (b : BodySoFar) → Kept form before b → Kept form before (opened b) × (is_open (opened b).name ≡ true)
   unfolding opened
   open_kept b h = open_kept_by b b.name refl h
 
-  open_count_by : (b : Body) (n : Option Name) → (opened_by n b).count ≡ b.count
+  open_count_by : (b : BodySoFar) (n : Option Name) → (opened_by n b).count ≡ b.count
   open_count_by b (Some n) = refl
   open_count_by b None = refl
 
-  open_count : (b : Body) → (opened b).count ≡ b.count
+  open_count : (b : BodySoFar) → (opened b).count ≡ b.count
   unfolding opened
   open_count b = open_count_by b b.name
 
   -- there is room for one more
-  grown_kept : (a b : Body) → Kept form before a → a.count < max_instructions form → Grown a b → Kept form before b
+  grown_kept : (a b : BodySoFar) → Kept form before a → a.count < max_instructions form → Grown a b → Kept form before b
   grown_kept a b h room g =
       let whole = h.all in
       let more = g.more in
@@ -202,7 +202,7 @@ if_goes : (b : Bool) (v : Result Bool Cause) → cond b v (Ok false) ≡ Ok true
 if_goes true v h = h
 if_goes false v h = absurd cc
 
-module _ (form : Form) (before : ℕ) (b : Body) (k : Kept form before b) (t : Lexeme) (ts : List Lexeme) (v : Body) (rest : List Lexeme) where
+module _ (form : Form) (before : ℕ) (b : BodySoFar) (k : Kept form before b) (t : Lexeme) (ts : List Lexeme) (v : BodySoFar) (rest : List Lexeme) where
   room : ltb b.count (max_instructions form) ≡ true → (opened b).count < max_instructions form
   room e =
       let less = ltb-true b.count (max_instructions form) e in
@@ -242,7 +242,7 @@ module _ {S : Type 0} (begins : S → Lexeme → Result Bool Cause) (R : S → L
 
 -- ---- functions
 
-pub blocks_end : (b : Bool) (body : Body) (mid : List Lexeme) (v : List Block) (rest : List Lexeme)
+pub blocks_end : (b : Bool) (body : BodySoFar) (mid : List Lexeme) (v : List Block) (rest : List Lexeme)
     → ReadsUpTo (cond b (word s.CloseBrace >> give body.blocks) refuse) mid v rest → (b ≡ true) × (v ≡ body.blocks)
 blocks_end true body mid v rest h = (refl, h.3.0)
 blocks_end false body mid v rest h = absurd (no_value _ v h.0)
@@ -251,7 +251,7 @@ pub not_open : (a b : Bool) → (not a && b) ≡ true → a ≡ false
 not_open true b h = absurd (true≢false (sym h))
 not_open false b h = refl
 
-blocks_bound : (form : Form) (before : ℕ) (start : Body) (ts : List Lexeme) (v : List Block) (rest : List Lexeme)
+blocks_bound : (form : Form) (before : ℕ) (start : BodySoFar) (ts : List Lexeme) (v : List Block) (rest : List Lexeme)
     → Kept form before start → ReadsUpTo (blocks form start) ts v rest → before + instructions_of v ≤ max_instructions form
 unfolding blocks
 blocks_bound form before start ts v rest k h =
@@ -269,10 +269,10 @@ pub function_bound : (form : Form) (before : ℕ) (ts : List Lexeme) (f : Func) 
     → before ≤ max_instructions form → ReadsUpTo (function form before) ts f rest → before + instructions_of f.blocks ≤ max_instructions form
 unfolding function
 function_bound form before ts f rest small h =
-    let behind = h.3.3.3.3.3.3.3 in
-    let start : Kept form before (body_behind h.3.3.3.3.0 before) = record { all = omega arith; few = small; closed = λ e. refl } in
-    let bound = blocks_bound form before (body_behind h.3.3.3.3.0 before) h.3.3.3.3.3.3.1 behind.0 behind.1 start behind.2 in
-    let same = ap (λ g. instructions_of g.blocks) behind.3.0 in
+    let after = h.3.3.3.3.3.3.3 in
+    let start : Kept form before (body_after h.3.3.3.3.0 before) = record { all = omega arith; few = small; closed = λ e. refl } in
+    let bound = blocks_bound form before (body_after h.3.3.3.3.0 before) h.3.3.3.3.3.3.1 after.0 after.1 start after.2 in
+    let same = ap (λ g. instructions_of g.blocks) after.3.0 in
     omega (arith, bound, same)
 
 -- ---- modules
@@ -282,11 +282,11 @@ among_more [] f = omega arith
 among_more (g ∷ fs) f = let rest = among_more fs f in omega (arith, rest)
 
 -- what the entities so far keep
-pub record KeptParts (form : Form) (p : Parts) : Type 0 where
+pub record KeptParts (form : Form) (p : ModuleSoFar) : Type 0 where
   pub all : instructions_among p.«module».funcs ≡ p.count
   pub bounds : WithinLimits form p.«module»
 
-module _ (form : Form) (p : Parts) (k : KeptParts form p) where
+module _ (form : Form) (p : ModuleSoFar) (k : KeptParts form p) where
   global_kept : (g : GlobalVar) → length p.«module».globals < max_globals → KeptParts form (with_global p g)
   global_kept g room =
       let e = length_more p.«module».globals g in
@@ -311,7 +311,7 @@ module _ (form : Form) (p : Parts) (k : KeptParts form p) where
       let few = k.bounds.instructions in
       omega (arith, whole, few)
 
-  module _ (t : Lexeme) (ts : List Lexeme) (v : Parts) (rest : List Lexeme) where
+  module _ (t : Lexeme) (ts : List Lexeme) (v : ModuleSoFar) (rest : List Lexeme) where
     same_kept : v ≡ p → KeptParts form v
     same_kept e = subst (KeptParts form) (sym e) k
 

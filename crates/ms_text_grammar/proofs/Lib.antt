@@ -5,3 +5,11 @@ pub mod Ends
 pub mod Bounds
 pub mod Wider
 pub mod WiderBodies
+pub mod CutBack
+pub mod LinesApart
+pub mod WholeTokens
+pub mod WholeNames
+pub mod SpelledBack
+pub mod WholeKinds
+pub mod WholeLayout
+pub mod WholeModules

@@ -17,9 +17,9 @@ use Rattle.ms_ir.specs.declared.forms.Form.TheVariants.{Plain, Instrumented}
 use Rattle.ms_text_grammar.specs.declared.refusals.Cause.{Cause}
 use Rattle.ms_text_grammar.specs.declared.refusals.Cause.TheVariants as r
 use Rattle.ms_text_grammar.specs.declared.refusals.Outside.TheVariants as outside
-use Rattle.ms_text_grammar.specs.declared.states.Body.{Body}
+use Rattle.ms_text_grammar.specs.declared.states.BodySoFar.{BodySoFar}
 use Rattle.ms_text_grammar.specs.declared.states.Parameters.{Parameters}
-use Rattle.ms_text_grammar.specs.declared.states.Parts.{Parts}
+use Rattle.ms_text_grammar.specs.declared.states.ModuleSoFar.{ModuleSoFar}
 use Rattle.ms_text_grammar.specs.declared.symbols.Symbol.{Symbol}
 use Rattle.ms_text_grammar.specs.declared.symbols.Symbol.TheVariants as s
 use Rattle.ms_text_grammar.specs.Lexemes.{Lexeme, name_in, lexemes_of}
@@ -252,7 +252,7 @@ ret_under = next same (λ t. ret_value_under t)
 
 -- ---- lines
 
-module _ (b : Body) where
+module _ (b : BodySoFar) where
   value_line_under : (result : Option Name) {f g : Rule Op} → Under f g → Under (value_line Plain b result f) (value_line Instrumented b result g)
   unfolding value_line
   value_line_under result p = next (with_suffixes_under p) (λ m. same)
@@ -313,7 +313,7 @@ module _ (b : Body) where
   unfolding record_line
   record_line_under = next same (λ u. next (balanced_under _) (λ w. same))
 
-line_by_under : (b : Body) (x : Symbol) (t : Lexeme) → Under (line_by Plain b x t) (line_by Instrumented b x t)
+line_by_under : (b : BodySoFar) (x : Symbol) (t : Lexeme) → Under (line_by Plain b x t) (line_by Instrumented b x t)
 line_by_under b s.Label t = same
 line_by_under b s.NumberedLabel t = same
 line_by_under b s.DebugGroup t = record_line_under (opened b)
@@ -321,7 +321,7 @@ line_by_under b s.Local t = named_line_under (opened b) _
 line_by_under b s.NumberedLocal t = named_line_under (opened b) _
 line_by_under b x t = instruction_under (opened b) None x
 
-line_under : (b : Body) (t : Lexeme) → Under (line Plain b t) (line Instrumented b t)
+line_under : (b : BodySoFar) (t : Lexeme) → Under (line Plain b t) (line Instrumented b t)
 unfolding line
 line_under b t = line_by_under b t.symbol t
 
@@ -334,10 +334,10 @@ room_under true true v e a f h = h
 room_under true false v e a f h = absurd (true≢false (sym (f refl)))
 room_under false q v e a f h = absurd cc
 
-counted_under : (b : Body) (v : Verdict Bool) (a : Bool) → counted Plain b v ≡ Ok a → counted Instrumented b v ≡ Ok a
+counted_under : (b : BodySoFar) (v : Verdict Bool) (a : Bool) → counted Plain b v ≡ Ok a → counted Instrumented b v ≡ Ok a
 counted_under b v a h = room_under (ltb b.count (max_instructions Plain)) (ltb b.count (max_instructions Instrumented)) v _ a (more_room b.count) h
 
-line_begins_by_under : (b : Body) (x : Symbol) (t : Lexeme) (a : Bool) → line_begins_by Plain b x t ≡ Ok a → line_begins_by Instrumented b x t ≡ Ok a
+line_begins_by_under : (b : BodySoFar) (x : Symbol) (t : Lexeme) (a : Bool) → line_begins_by Plain b x t ≡ Ok a → line_begins_by Instrumented b x t ≡ Ok a
 line_begins_by_under b s.Label t a h =
     else_under (is_open b.name) (Ok false) a (λ d g. unreserved_under (reserved_local Plain (name_in t)) (reserved_local Instrumented (name_in t)) _ d (local_less (name_in t)) g) h
 line_begins_by_under b s.Local t a h =
@@ -349,11 +349,11 @@ line_begins_by_under b s.NumberedLabel t a h = h
 line_begins_by_under b s.DebugGroup t a h = h
 line_begins_by_under b x t a h = then_under (begins_instruction x) (Ok false) a (counted_under b (Ok true)) h
 
-line_begins_under : (b : Body) (t : Lexeme) (a : Bool) → line_begins Plain b t ≡ Ok a → line_begins Instrumented b t ≡ Ok a
+line_begins_under : (b : BodySoFar) (t : Lexeme) (a : Bool) → line_begins Plain b t ≡ Ok a → line_begins Instrumented b t ≡ Ok a
 unfolding line_begins
 line_begins_under b t a h = then_under (numbers_left b.next) (Err r.Numbering) a (line_begins_by_under b t.symbol t) h
 
-blocks_under : (start : Body) → Under (blocks Plain start) (blocks Instrumented start)
+blocks_under : (start : BodySoFar) → Under (blocks Plain start) (blocks Instrumented start)
 unfolding blocks
 blocks_under start = next (repeated (λ b t d h. line_begins_under b t d h) (λ b t. line_under b t)) (λ body. same)
 
@@ -444,11 +444,11 @@ entity_begins_by_under m s.NumberedLocal t a h = mapped_under _ (local_by Plain 
 entity_begins_by_under m s.Global t a h = unreserved_under (reserved_global Plain (name_in t)) (reserved_global Instrumented (name_in t)) _ a (global_less (name_in t)) h
 entity_begins_by_under m x t a h = h
 
-entity_begins_under : (p : Parts) (t : Lexeme) (a : Bool) → entity_begins Plain p t ≡ Ok a → entity_begins Instrumented p t ≡ Ok a
+entity_begins_under : (p : ModuleSoFar) (t : Lexeme) (a : Bool) → entity_begins Plain p t ≡ Ok a → entity_begins Instrumented p t ≡ Ok a
 unfolding entity_begins
 entity_begins_under p t a h = entity_begins_by_under p.«module» t.symbol t a h
 
-entity_by_under : (p : Parts) (x : Symbol) (t : Lexeme) → Under (entity_by Plain p x t) (entity_by Instrumented p x t)
+entity_by_under : (p : ModuleSoFar) (x : Symbol) (t : Lexeme) → Under (entity_by Plain p x t) (entity_by Instrumented p x t)
 entity_by_under p s.SourceFilename t = same
 entity_by_under p s.Target t = same
 entity_by_under p s.Attributes t = next group_under (λ u. same)
@@ -459,7 +459,7 @@ entity_by_under p s.Declare t = next declaration_under (λ d. same)
 entity_by_under p s.Define t = next (function_under p.count) (λ f. same)
 entity_by_under p x t = next metadata_under (λ u. same)
 
-entity_under : (p : Parts) (t : Lexeme) → Under (entity Plain p t) (entity Instrumented p t)
+entity_under : (p : ModuleSoFar) (t : Lexeme) → Under (entity Plain p t) (entity Instrumented p t)
 unfolding entity
 entity_under p t = entity_by_under p t.symbol t
 

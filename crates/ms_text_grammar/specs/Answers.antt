@@ -1,5 +1,5 @@
 -- What reading a text comes to, as a function: examples compute with it, and the laws say that it is what the relations say.
-use Rattle.std.specs.Prelude.{ℕ, ◌-◌, nat_lt, Bool, true, false, if◌then◌else◌, List, [], ◌∷◌, length, map, Option, Some, None, Result, Ok, Err}
+use Rattle.std.specs.Prelude.{ℕ, ◌-◌, nat_lt, if◌then◌else◌, List, [], ◌∷◌, length, map, Option, Some, None, Result, Ok, Err}
 use Rattle.ms_lex.specs.declared.kinds.Token.{Token}
 use Rattle.ms_lex.specs.declared.errors.LexError.{LexError}
 use Rattle.ms_lex.specs.Tokens.{Text, tokens_of}
@@ -14,7 +14,6 @@ use Rattle.ms_text_grammar.specs.Lexemes.{Lexeme, end_of_text, lexemes_of}
 use Rattle.ms_text_grammar.specs.Functions.{function}
 use Rattle.ms_text_grammar.specs.Modules.{module_rule}
 use Rattle.ms_text_grammar.specs.Texts.{max_tokens, place_in}
-use Rattle.ms_text_grammar.specs.ExampleTexts.{operations, flagged}
 
 -- what a text comes to
 pub data Answer : Type 0 where
@@ -77,17 +76,3 @@ function_stop_in form before text (Ok tokens) = stop_of (length tokens) (run end
 -- where, after `define`, a function stops that so many instructions stand before
 abbrev pub function_stop : Form → ℕ → Text → Option (ℕ × Cause)
 function_stop form before text = function_stop_in form before text (tokens_of text (max_tokens form))
-
--- whether a text is read
-abbrev pub is_read : Answer → Bool
-is_read (reads m) = true
-is_read _ = false
-
--- of words with texts, those of which the text is read
-abbrev pub read_ones : Form → List (Text × Text) → List Text
-read_ones form [] = []
-read_ones form (row ∷ rest) = if is_read (answer_of form row.1) then row.0 ∷ read_ones form rest else read_ones form rest
-
--- the operations whose text with a flag is read
-abbrev pub carriers : Text → List Text
-carriers flag = read_ones Plain (map (λ o. (o.0, flagged flag o)) operations)

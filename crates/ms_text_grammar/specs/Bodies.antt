@@ -13,7 +13,7 @@ use Rattle.ms_text_grammar.specs.declared.symbols.Symbol.{Symbol}
 use Rattle.ms_text_grammar.specs.declared.symbols.Symbol.TheVariants as s
 use Rattle.ms_text_grammar.specs.declared.refusals.Cause.TheVariants as r
 use Rattle.ms_text_grammar.specs.declared.refusals.Limit.TheVariants as limit
-use Rattle.ms_text_grammar.specs.declared.states.Body.{Body}
+use Rattle.ms_text_grammar.specs.declared.states.BodySoFar.{BodySoFar}
 use Rattle.ms_text_grammar.specs.Lexemes.{Lexeme, name_in}
 use Rattle.ms_text_grammar.specs.Steps.{Verdict, binary_op, cast_op, is_some_op}
 use Rattle.ms_text_grammar.specs.Names.{reserved_local, name_fits}
@@ -27,16 +27,16 @@ is_open None = false
 is_open (Some n) = true
 
 -- a block begins under this name, which took so many numbers
-abbrev pub opened_as : Body → Name → ℕ → Body
+abbrev pub opened_as : BodySoFar → Name → ℕ → BodySoFar
 opened_as body n numbers = record body { name = Some n; insts = []; phis = true; next = body.next + numbers }
 
 -- a block that no label begins takes a number
-abbrev pub opened_by : Option Name → Body → Body
+abbrev pub opened_by : Option Name → BodySoFar → BodySoFar
 opened_by (Some n) body = body
 opened_by None body = opened_as body (name.Number body.next) 1
 
 -- the block in which a line stands: the open one, or an unlabelled one
-unfoldable pub opened : Body → Body
+unfoldable pub opened : BodySoFar → BodySoFar
 opened body = opened_by body.name body
 
 -- ---- which token begins a line, and what refuses it there
@@ -47,7 +47,7 @@ max_instructions Plain = 2 ^ 17
 max_instructions Instrumented = 2 ^ 22
 
 -- room for one more instruction
-abbrev pub counted : Form → Body → Verdict Bool → Verdict Bool
+abbrev pub counted : Form → BodySoFar → Verdict Bool → Verdict Bool
 counted form body verdict = if nat_lt body.count (max_instructions form) then verdict else Err (r.Limit limit.Instructions)
 
 -- a name that is short enough
@@ -82,11 +82,11 @@ begins_instruction s.Unreachable = true
 begins_instruction symbol = is_some_op (binary_op symbol) || is_some_op (cast_op symbol)
 
 -- a word begins an instruction, if there is room for one
-abbrev pub word_begins : Form → Body → Symbol → Verdict Bool
+abbrev pub word_begins : Form → BodySoFar → Symbol → Verdict Bool
 word_begins form body symbol = if begins_instruction symbol then counted form body (Ok true) else Ok false
 
 -- A label stands only where no block is open. A result's name or number begins an instruction, as a word does.
-abbrev pub line_begins_by : Form → Body → Symbol → Lexeme → Verdict Bool
+abbrev pub line_begins_by : Form → BodySoFar → Symbol → Lexeme → Verdict Bool
 line_begins_by form body s.Label t = if is_open body.name then Ok false else unreserved form (name_in t) (short (name_in t))
 line_begins_by form body s.NumberedLabel t = if is_open body.name then Ok false else numbered body.next (name_in t) (Ok true)
 line_begins_by form body s.DebugGroup t = Ok true
@@ -100,7 +100,7 @@ abbrev pub numbers_left : ℕ → Bool
 numbers_left next = nat_lt next (2 ^ 32 - 2)
 
 -- whether a line begins with this token
-unfoldable pub line_begins : Form → Body → Lexeme → Verdict Bool
+unfoldable pub line_begins : Form → BodySoFar → Lexeme → Verdict Bool
 line_begins form body t = if numbers_left body.next then line_begins_by form body t.symbol t else Err r.Numbering
 
 -- ---- what a line adds
@@ -117,17 +117,17 @@ numbers_of (Some (name.Number n)) = 1
 numbers_of None = 1
 
 -- an instruction with a result, whose number is used up unless it has a name of text
-abbrev pub with_value : Body → Option Name → Bool → Marked → Body
+abbrev pub with_value : BodySoFar → Option Name → Bool → Marked → BodySoFar
 with_value body result phis m =
     record body { insts = body.insts ++ record { op = m.0; result = Some (name_or result body.next); marked = m.1 } ∷ []; next = body.next + numbers_of result; count = body.count + 1; phis = phis }
 
 -- an instruction without a result
-abbrev pub with_effect : Body → Marked → Body
+abbrev pub with_effect : BodySoFar → Marked → BodySoFar
 with_effect body m =
     record body { insts = body.insts ++ record { op = m.0; result = None; marked = m.1 } ∷ []; count = body.count + 1; phis = false }
 
 -- a terminator ends the block
-abbrev pub with_end : Body → Marked → Body
+abbrev pub with_end : BodySoFar → Marked → BodySoFar
 with_end body m =
     record body { blocks = body.blocks ++ record { name = name_or body.name 0; insts = body.insts ++ record { op = m.0; result = None; marked = m.1 } ∷ [] } ∷ []; name = None; insts = []; count = body.count + 1; phis = false }
 
@@ -137,5 +137,5 @@ is_void_call (op.Call None callee args) = true
 is_void_call _ = false
 
 -- a call has a result unless its type is `void`
-abbrev pub with_call : Body → Option Name → Marked → Body
+abbrev pub with_call : BodySoFar → Option Name → Marked → BodySoFar
 with_call body result m = if is_void_call m.0 then with_effect body m else with_value body result false m

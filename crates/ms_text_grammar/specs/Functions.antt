@@ -13,7 +13,7 @@ use Rattle.ms_text_grammar.specs.declared.symbols.Symbol.TheVariants as s
 use Rattle.ms_text_grammar.specs.declared.refusals.Cause.TheVariants as r
 use Rattle.ms_text_grammar.specs.declared.refusals.Limit.TheVariants as limit
 use Rattle.ms_text_grammar.specs.declared.states.Parameters.{Parameters}
-use Rattle.ms_text_grammar.specs.declared.states.Body.{Body}
+use Rattle.ms_text_grammar.specs.declared.states.BodySoFar.{BodySoFar}
 use Rattle.ms_text_grammar.specs.Lexemes.{Lexeme, is, name_in}
 use Rattle.ms_text_grammar.specs.Steps.{Rule, Verdict, within, next_symbol, skip, word, listed}
 use Rattle.ms_text_grammar.specs.Names.{global, local_name}
@@ -51,13 +51,13 @@ unfoldable pub parameter_name : Form → ℕ → Rule Name
 parameter_name form number = next_symbol >>= parameter_name_by form number
 
 -- the next number after a parameter
-abbrev pub next_behind : Name → ℕ → ℕ
-next_behind (name.Number n) next = next + 1
-next_behind (name.Text text) next = next
+abbrev pub next_after : Name → ℕ → ℕ
+next_after (name.Number n) next = next + 1
+next_after (name.Text text) next = next
 
 -- one parameter more
 abbrev pub with_parameter : Parameters → Ty → Name → Parameters
-with_parameter ps type n = record ps { found = ps.found ++ (type, n) ∷ []; next = next_behind n ps.next }
+with_parameter ps type n = record ps { found = ps.found ++ (type, n) ∷ []; next = next_after n ps.next }
 
 -- value type, attributes, and a local's name or nothing
 unfoldable pub typed_parameter : Form → Parameters → Rule Parameters
@@ -133,8 +133,8 @@ unfoldable pub function_tail : Form → Rule (Unit {0})
 function_tail form = loop (tail_begins form) (λ u t. tail_rest form t.symbol) tt
 
 -- the body of a function, in front of which the text has so many instructions
-abbrev pub body_behind : Parameters → ℕ → Body
-body_behind ps before = record { blocks = []; name = None; insts = []; next = ps.next; count = before; phis = false }
+abbrev pub body_after : Parameters → ℕ → BodySoFar
+body_after ps before = record { blocks = []; name = None; insts = []; next = ps.next; count = before; phis = false }
 
 -- after `define`
 unfoldable pub function : Form → ℕ → Rule Func
@@ -146,5 +146,5 @@ function form before = do
   ps ← parameters form false
   function_tail form
   word s.OpenBrace
-  all ← blocks form (body_behind ps before)
+  all ← blocks form (body_after ps before)
   give (record { name = n; ret = result; params = ps.found; blocks = all })

@@ -26,7 +26,7 @@ use Rattle.ms_text_grammar.specs.declared.symbols.Symbol.TheVariants as s
 use Rattle.ms_text_grammar.specs.declared.refusals.Cause.TheVariants as r
 use Rattle.ms_text_grammar.specs.declared.refusals.Limit.TheVariants as limit
 use Rattle.ms_text_grammar.specs.declared.refusals.Outside.TheVariants as outside
-use Rattle.ms_text_grammar.specs.declared.states.Edges.{Edges}
+use Rattle.ms_text_grammar.specs.declared.states.PhiEdges.{PhiEdges}
 use Rattle.ms_text_grammar.specs.declared.states.Indices.{Indices}
 use Rattle.ms_text_grammar.specs.Lexemes.{Lexeme, is, name_in, width_in, same_symbol}
 use Rattle.ms_text_grammar.specs.Steps.{Rule, Verdict, refusal, within, next_symbol, stop, skip, sees, word, listed}
@@ -403,7 +403,7 @@ call_rule form named first = do
 -- ---- phis
 
 -- before the first edge
-abbrev pub no_edges : Edges
+abbrev pub no_edges : PhiEdges
 no_edges = record { found = []; ended = false }
 
 -- after `[`
@@ -416,7 +416,7 @@ edge form type = do
   give (v, from)
 
 -- an edge after its comma, or else what is attached begins
-abbrev pub edge_by : Form → Ty → List (Operand × Name) → Symbol → Rule Edges
+abbrev pub edge_by : Form → Ty → List (Operand × Name) → Symbol → Rule PhiEdges
 edge_by form type found s.OpenBracket = do
   skip
   e ← edge form type
@@ -424,11 +424,11 @@ edge_by form type found s.OpenBracket = do
 edge_by form type found symbol = give (record { found = found; ended = true })
 
 -- after a comma
-unfoldable pub edge_turn : Form → Ty → List (Operand × Name) → Rule Edges
+unfoldable pub edge_turn : Form → Ty → List (Operand × Name) → Rule PhiEdges
 edge_turn form type found = next_symbol >>= edge_by form type found
 
 -- a comma, unless what is attached began after the one before
-abbrev pub edge_begins : Edges → Lexeme → Verdict Bool
+abbrev pub edge_begins : PhiEdges → Lexeme → Verdict Bool
 edge_begins edges t = Ok (not edges.ended && is s.Comma t)
 
 -- value-type '[' value ',' local ']', and more of them after commas

@@ -12,7 +12,13 @@ pub mod Functions
 pub mod Modules
 pub mod Texts
 pub mod Bounds
-pub mod ExampleTexts
 pub mod Answers
-pub mod ExampleModules
 pub mod Pieces
+pub mod LayoutPieces
+pub mod LayoutNames
+pub mod LayoutTypes
+pub mod LayoutValues
+pub mod LayoutInsts
+pub mod LayoutModules
+pub mod LayoutApart
+pub mod Layout

@@ -16,7 +16,7 @@ use Rattle.ms_text_grammar.specs.declared.symbols.Symbol.TheVariants as s
 use Rattle.ms_text_grammar.specs.declared.refusals.Cause.TheVariants as r
 use Rattle.ms_text_grammar.specs.declared.refusals.Limit.TheVariants as limit
 use Rattle.ms_text_grammar.specs.declared.refusals.Outside.TheVariants as outside
-use Rattle.ms_text_grammar.specs.declared.states.Parts.{Parts}
+use Rattle.ms_text_grammar.specs.declared.states.ModuleSoFar.{ModuleSoFar}
 use Rattle.ms_text_grammar.specs.Lexemes.{Lexeme, is, name_in}
 use Rattle.ms_text_grammar.specs.Steps.{Rule, Verdict, refusal, judge_map, next_symbol, skip, sees, word, comma_begins}
 use Rattle.ms_text_grammar.specs.Names.{reserved_global, name_fits, local_by}
@@ -152,7 +152,7 @@ entity_begins_by form m s.Define t = room_for_function m
 entity_begins_by form m symbol t = Ok false
 
 -- whether an entity begins with this token
-unfoldable pub entity_begins : Form → Parts → Lexeme → Verdict Bool
+unfoldable pub entity_begins : Form → ModuleSoFar → Lexeme → Verdict Bool
 entity_begins form parts t = entity_begins_by form parts.«module» t.symbol t
 
 -- the instructions of a list of blocks
@@ -161,23 +161,23 @@ instructions_of [] = 0
 instructions_of (b ∷ rest) = length b.insts + instructions_of rest
 
 -- one named type more
-abbrev pub with_type : Parts → Name × Ty → Parts
+abbrev pub with_type : ModuleSoFar → Name × Ty → ModuleSoFar
 with_type parts t = record parts { «module» = record parts.«module» { types = parts.«module».types ++ t ∷ [] } }
 
 -- one global more
-abbrev pub with_global : Parts → GlobalVar → Parts
+abbrev pub with_global : ModuleSoFar → GlobalVar → ModuleSoFar
 with_global parts g = record parts { «module» = record parts.«module» { globals = parts.«module».globals ++ g ∷ [] } }
 
 -- one declaration more
-abbrev pub with_declaration : Parts → Decl → Parts
+abbrev pub with_declaration : ModuleSoFar → Decl → ModuleSoFar
 with_declaration parts d = record parts { «module» = record parts.«module» { decls = parts.«module».decls ++ d ∷ [] } }
 
 -- one function more, with its instructions
-abbrev pub with_function : Parts → Func → Parts
+abbrev pub with_function : ModuleSoFar → Func → ModuleSoFar
 with_function parts f = record { «module» = record parts.«module» { funcs = parts.«module».funcs ++ f ∷ [] }; count = parts.count + instructions_of f.blocks }
 
 -- after its first token
-abbrev pub entity_by : Form → Parts → Symbol → Lexeme → Rule Parts
+abbrev pub entity_by : Form → ModuleSoFar → Symbol → Lexeme → Rule ModuleSoFar
 entity_by form parts s.SourceFilename t = source_filename >> give parts
 entity_by form parts s.Target t = target_entity >> give parts
 entity_by form parts s.Attributes t = attribute_group form >> give parts
@@ -189,13 +189,13 @@ entity_by form parts s.Define t = function form parts.count >>= λ f. give (with
 entity_by form parts symbol t = metadata_entity form >> give parts
 
 -- an entity after its first token
-unfoldable pub entity : Form → Parts → Lexeme → Rule Parts
+unfoldable pub entity : Form → ModuleSoFar → Lexeme → Rule ModuleSoFar
 entity form parts t = entity_by form parts t.symbol t
 
 -- ---- modules
 
 -- before the first entity
-abbrev pub no_parts : Parts
+abbrev pub no_parts : ModuleSoFar
 no_parts = record { «module» = record { types = []; globals = []; decls = []; funcs = [] }; count = 0 }
 
 -- the end of the text, and nothing else

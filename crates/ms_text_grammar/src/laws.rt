@@ -10,7 +10,7 @@ ghost use Rattle.ms_text_grammar.specs.{Lexemes.{Lexeme}, Modules.{instructions_
 ghost use Rattle.ms_text_grammar.specs.Texts.{HasTokens, Reads, ReadsUpTo, Stops, max_bytes};
 
 /// A text reads as one module, or stops at one token for one cause, and never both.
-pub fn one_reading_or_stop()
+pub fn law_one_reading_or_stop()
     ensures one_reading { (form : Form) (text : Text) (m n : Module) → Reads form text m → Reads form text n → m ≡ n }
     ensures one_stop { (form : Form) (text : Text) (j k : ℕ) (c d : Cause)
         → Stops form text j c → Stops form text k d → (j ≡ k) × (c ≡ d) }
@@ -21,7 +21,7 @@ pub fn one_reading_or_stop()
 {}
 
 /// The function that finds it out says what the relations say, of every text that isn't too long.
-pub fn answers_are_exact()
+pub fn law_answers_are_exact()
     ensures read { (form : Form) (text : Text) (m : Module)
         → length text ≤ max_bytes form → (answer_of form text ≡ reads m) ↔ Reads form text m }
     ensures stopped { (form : Form) (text : Text) (k : ℕ) (c : Cause)
@@ -29,13 +29,13 @@ pub fn answers_are_exact()
 {}
 
 /// What is read keeps the limits on what is counted.
-pub fn limits_are_kept()
+pub fn law_limits_are_kept()
     ensures of_a_module { (form : Form) (text : Text) (m : Module) → Reads form text m → WithinLimits form m }
     ensures of_a_function { (form : Form) (before : ℕ) (ts : List Lexeme) (f : Func) (rest : List Lexeme)
         → before ≤ max_instructions form → ReadsUpTo (function form before) ts f rest → before + instructions_of f.blocks ≤ max_instructions form }
 {}
 
 /// Every text of the plain form is one of the instrumented form, of the same module.
-pub fn plain_is_instrumented()
+pub fn law_plain_is_instrumented()
     ensures same_module { (text : Text) (m : Module) → Reads Plain text m → Reads Instrumented text m }
 {}

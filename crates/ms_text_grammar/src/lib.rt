@@ -1,13 +1,14 @@
-//! The grammar of the text form of LLVM modules, in the two forms that this repository reads, written once as data:
-//! what a text reads as, and at which token, and why, it stops. The readers are proved exact against it.
+//! The text form of LLVM modules, written once as data. The grammar, in the two forms that this repository reads: what a text reads
+//! as, and at which token, and why, it stops. The layout: which tokens a module is written as, and which bytes stand between them.
+//! The readers are proved exact against the one, the writer against the other.
 #![tactic(auto)]
 
-pub mod examples;
 pub mod laws;
+pub mod layout_laws;
 pub mod refusals;
 pub mod states;
 pub mod symbols;
 
 pub use refusals::{Cause, Limit, Outside};
-pub use states::{Body, Edges, Indices, Parameters, Parts};
+pub use states::{BodySoFar, Indices, ModuleSoFar, Parameters, PhiEdges};
 pub use symbols::Symbol;

@@ -3,9 +3,9 @@
 use ms_bits::List;
 use ms_ir::{Block, Inst, Module, Name, Operand, Ty};
 
-/// The edges of a phi. A comma begins either an edge or the metadata after the phi.
+/// The edges of a phi, as far as they are read. A comma begins either an edge or the metadata after the phi.
 #[derive(Drop)]
-pub struct Edges {
+pub struct PhiEdges {
     pub found: List<(Operand, Name)>,
     /// A comma was read, and no edge stands after it.
     pub ended: bool,
@@ -30,9 +30,9 @@ pub struct Parameters {
     pub dots: bool,
 }
 
-/// The body of a function.
+/// The body of a function, as far as it is read.
 #[derive(Drop)]
-pub struct Body {
+pub struct BodySoFar {
     /// The blocks that have ended.
     pub blocks: List<Block>,
     /// The name of the open block; none after a terminator.
@@ -47,9 +47,9 @@ pub struct Body {
     pub phis: bool,
 }
 
-/// The entities of a module.
+/// The entities of a module, as far as they are read.
 #[derive(Drop)]
-pub struct Parts {
+pub struct ModuleSoFar {
     pub module: Module,
     /// The instructions of its functions.
     pub count: u32,

@@ -16,10 +16,10 @@ use Rattle.ms_text_grammar.specs.declared.symbols.Symbol.TheVariants as s
 use Rattle.ms_text_grammar.specs.Lexemes.{Lexeme, same_symbol}
 use Rattle.ms_text_grammar.specs.Insts.{is_set, with_flag, flags_of, binary_carries, cast_carries, compare_carries, binary_rule, compare_rule, cast_rule, select_rule, freeze_rule}
 use Rattle.ms_text_grammar.specs.Texts.{ReadsUpTo}
-use Rattle.ms_valid.specs.FormedCode.{is_width, is_value_type, are_among, binary_flags, cast_flags}
+use Rattle.ms_check_valid.specs.FormedCode.{is_width, is_value_type, are_among, binary_flags, cast_flags}
 use Rattle.ms_text_laws.proofs.Sound.{AllSound}
 use Rattle.ms_text_laws.proofs.FormedTypes.{value_is_type}
-use Rattle.ms_text_laws.proofs.Yields.{Yields, given, chained, behind, looped, begun}
+use Rattle.ms_text_laws.proofs.Yields.{Yields, given, chained, after, looped, begun}
 use Rattle.ms_text_laws.proofs.Parts.{GivesValue, op_is, operand_more, one_operand, two_operands, int_type_read, value_type_read, value_read}
 
 -- ---- flags
@@ -61,7 +61,7 @@ flags_read : (carries : Symbol → Bool) (all : Flags) → carried carries ≡ a
 flags_read carries all e =
     record { each = λ ts v rest sound h. subst (λ f. are_among v f ≡ true) e (all_among v (carried carries) ((some_among carries).each ts v rest sound h)) }
 
--- the flags that an operation may carry are those that may be read behind it
+-- the flags that an operation may carry are those that may be read after it
 binary_carried : (o : BinOp) → carried (binary_carries o) ≡ binary_flags o
 unfolding binary_carries same_symbol
 binary_carried binary.Add = refl
@@ -97,7 +97,7 @@ binary_yields : (form : Form) (o : BinOp) → Yields (binary_rule form o) GivesV
 unfolding binary_rule
 binary_yields form o =
     chained (flags_read (binary_carries o) (binary_flags o) (binary_carried o)) (λ flags f. chained int_type_read (λ width w.
-    chained (value_read form (Int width) w) (λ a p. behind (λ comma. chained (value_read form (Int width) w) (λ b q.
+    chained (value_read form (Int width) w) (λ a p. after (λ comma. chained (value_read form (Int width) w) (λ b q.
     given (op_is (op.Binary o flags (Int width) a b) (and_from (is_width width) (are_among flags (binary_flags o)) w f) (two_operands (Int width) (Int width) a b p q) refl, refl, refl, refl))))))
 
 pub binary_read : (form : Form) (o : BinOp) (ts : List Lexeme) (v : Op) (rest : List Lexeme) → AllSound ts → ReadsUpTo (binary_rule form o) ts v rest → GivesValue v
@@ -107,7 +107,7 @@ cast_yields : (form : Form) (o : CastOp) → Yields (cast_rule form o) GivesValu
 unfolding cast_rule
 cast_yields form o =
     chained (flags_read (cast_carries o) (cast_flags o) (cast_carried o)) (λ flags f. chained value_type_read (λ from t.
-    chained (value_read form from (value_is_type from t)) (λ a p. behind (λ word. chained value_type_read (λ to u.
+    chained (value_read form from (value_is_type from t)) (λ a p. after (λ word. chained value_type_read (λ to u.
     let types = and_from (is_value_type from) (is_value_type to) t u in
     let shape = and_from (is_value_type from && is_value_type to) (are_among flags (cast_flags o)) types f in
     given (op_is (op.Cast o flags from a to) shape (one_operand from a p) refl, refl, refl, refl))))))
@@ -118,8 +118,8 @@ cast_read form o = (cast_yields form o).each
 compare_yields : (form : Form) → Yields (compare_rule form) GivesValue
 unfolding compare_rule
 compare_yields form =
-    chained (flags_read compare_carries (record no_flags { samesign = true }) compare_carried) (λ flags f. behind (λ predicate. chained value_type_read (λ t w.
-    chained (value_read form t (value_is_type t w)) (λ a p. behind (λ comma. chained (value_read form t (value_is_type t w)) (λ b q.
+    chained (flags_read compare_carries (record no_flags { samesign = true }) compare_carried) (λ flags f. after (λ predicate. chained value_type_read (λ t w.
+    chained (value_read form t (value_is_type t w)) (λ a p. after (λ comma. chained (value_read form t (value_is_type t w)) (λ b q.
     given (op_is (op.Icmp predicate flags t a b) (and_from (is_value_type t) (are_among flags (record no_flags { samesign = true })) w f) (two_operands t t a b p q) refl, refl, refl, refl)))))))
 
 pub compare_read : (form : Form) (ts : List Lexeme) (v : Op) (rest : List Lexeme) → AllSound ts → ReadsUpTo (compare_rule form) ts v rest → GivesValue v
@@ -128,8 +128,8 @@ compare_read form = (compare_yields form).each
 select_yields : (form : Form) → Yields (select_rule form) GivesValue
 unfolding select_rule
 select_yields form =
-    behind (λ bit. chained (value_read form (Int 1) refl) (λ c r. behind (λ comma. chained value_type_read (λ t w.
-    chained (value_read form t (value_is_type t w)) (λ a p. behind (λ again. behind (λ same. chained (value_read form t (value_is_type t w)) (λ b q.
+    after (λ bit. chained (value_read form (Int 1) refl) (λ c r. after (λ comma. chained value_type_read (λ t w.
+    chained (value_read form t (value_is_type t w)) (λ a p. after (λ again. after (λ same. chained (value_read form t (value_is_type t w)) (λ b q.
     given (op_is (op.Select c t a b) w (operand_more (Int 1) c ((t, a) ∷ (t, b) ∷ []) r (two_operands t t a b p q)) refl, refl, refl, refl)))))))))
 
 pub select_read : (form : Form) (ts : List Lexeme) (v : Op) (rest : List Lexeme) → AllSound ts → ReadsUpTo (select_rule form) ts v rest → GivesValue v

@@ -125,18 +125,18 @@ pub by_symbol : {B : Type 0} {k : Symbol → Rule B} → ((x : Symbol) → Blame
 by_symbol q = chained symbol_seen q
 
 -- a token that is passed, and a word
-pub behind_token : {B : Type 0} {k : Unit {0} → Rule B} → ((u : Unit {0}) → Blames (k u)) → Blames (seq skip k)
-behind_token q = chained skipped q
+pub after_token : {B : Type 0} {k : Unit {0} → Rule B} → ((u : Unit {0}) → Blames (k u)) → Blames (seq skip k)
+after_token q = chained skipped q
 
-pub behind_word : {B : Type 0} {k : Unit {0} → Rule B} (x : Symbol) → ((u : Unit {0}) → Blames (k u)) → Blames (seq (word x) k)
-behind_word x q = chained (word_taken x) q
+pub after_word : {B : Type 0} {k : Unit {0} → Rule B} (x : Symbol) → ((u : Unit {0}) → Blames (k u)) → Blames (seq (word x) k)
+after_word x q = chained (word_taken x) q
 
 -- ---- lists
 
 pub listed_blame : {S : Type 0} (closing : Symbol) (going : S → Bool) (item : S → Rule S) (a : S) → ((s : S) → Blames (item s)) → Blames (listed closing going item a)
 unfolding listed
 listed_blame closing going item a each =
-    chained (sight closing) (λ empty. either empty (behind_token (λ u. given)) (chained (each a) (λ first. chained (looped (λ s t. tt) (λ s t. each s)) (λ all. behind_word _ (λ u. given)))))
+    chained (sight closing) (λ empty. either empty (after_token (λ u. given)) (chained (each a) (λ first. chained (looped (λ s t. tt) (λ s t. each s)) (λ all. after_word _ (λ u. given)))))
 
 pub items_blame : {A : Type 0} (closing : Symbol) (item : Rule A) → Blames item → Blames (items closing item)
 unfolding items

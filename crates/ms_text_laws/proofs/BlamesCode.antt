@@ -16,7 +16,7 @@ use Rattle.ms_ir.specs.declared.forms.Form.{Form}
 use Rattle.ms_text_grammar.specs.declared.refusals.Limit.TheVariants as limit
 use Rattle.ms_text_grammar.specs.declared.refusals.Outside.TheVariants as outside
 use Rattle.ms_text_grammar.specs.declared.refusals.Cause.TheVariants as r
-use Rattle.ms_text_grammar.specs.declared.states.Body.{Body}
+use Rattle.ms_text_grammar.specs.declared.states.BodySoFar.{BodySoFar}
 use Rattle.ms_text_grammar.specs.declared.symbols.Symbol.{Symbol}
 use Rattle.ms_text_grammar.specs.declared.symbols.Symbol.TheVariants as s
 use Rattle.ms_text_grammar.specs.Lexemes.{Lexeme, is, name_in}
@@ -27,7 +27,7 @@ use Rattle.ms_text_grammar.specs.Values.{value}
 use Rattle.ms_text_grammar.specs.Insts.{Marked, with_suffixes, flags_of, binary_rule, known, predicate_by, predicate_word, compare_rule, cast_rule, bit_type, spells, other_type, same_type, select_rule, freeze_rule, address, load_rule, store_rule, index_by, index_turn, gep_rule, alloca_rule, call_type, is_i32, variadic_type, callee_type, is_printf, callee_by, callee, max_parameters, argument, arguments, debug_rest, call_attribute, call_end, call_word, call_rule, edge, edge_by, edge_turn, phi_rule, target, branch_on, branch_rule, case_rest, switch_rule, ret_value, ret_rule}
 use Rattle.ms_text_grammar.specs.Bodies.{is_open, opened, max_instructions, counted, short, numbered, unreserved, begins_instruction, line_begins_by, numbers_left, line_begins}
 use Rattle.ms_text_grammar.specs.Lines.{value_line, marked_line, phi_line, call_line, effect_line, end_line, instruction_by, operation_by, instruction, gives_value, named_line, record_line, line_by, line, is_whole, blocks}
-use Rattle.ms_text_laws.proofs.Blames.{IsNamed, cause, refusal_is, if_named, or_refused, within_named, Blames, given, judged, seen, chained, either, looped, refused, stopped, sight, word_taken, by_symbol, behind_token, behind_word, listed_blame}
+use Rattle.ms_text_laws.proofs.Blames.{IsNamed, cause, refusal_is, if_named, or_refused, within_named, Blames, given, judged, seen, chained, either, looped, refused, stopped, sight, word_taken, by_symbol, after_token, after_word, listed_blame}
 use Rattle.ms_text_laws.proofs.BlamesParts.{global_named, local_blames, int_type_blames, value_type_named, value_type_blames, result_type_blames, type_blames, number_blames, gep_words_blame, index_type_blames, value_blames, balanced_blames, attribute_rest_blames, attributes_blame, all_suffixes_blame}
 
 module _ (form : Form) where
@@ -46,7 +46,7 @@ module _ (form : Form) where
 
   binary_blames : (o : BinOp) → Blames (binary_rule form o)
   unfolding binary_rule
-  binary_blames o = chained (flags_blame _) (λ flags. chained int_type_blames (λ width. chained (operand_blames (Int width)) (λ a. behind_word _ (λ u. chained (operand_blames (Int width)) (λ b. given)))))
+  binary_blames o = chained (flags_blame _) (λ flags. chained int_type_blames (λ width. chained (operand_blames (Int width)) (λ a. after_word _ (λ u. chained (operand_blames (Int width)) (λ b. given)))))
 
   known_named : {A : Type 0} (o : Option A) (t : Lexeme) → IsNamed (known o t)
   known_named None t = refusal_is t
@@ -58,11 +58,11 @@ module _ (form : Form) where
 
   compare_blames : Blames (compare_rule form)
   unfolding compare_rule
-  compare_blames = chained (flags_blame _) (λ flags. chained predicate_blames (λ p. chained value_type_blames (λ t. chained (operand_blames t) (λ a. behind_word _ (λ u. chained (operand_blames t) (λ b. given))))))
+  compare_blames = chained (flags_blame _) (λ flags. chained predicate_blames (λ p. chained value_type_blames (λ t. chained (operand_blames t) (λ a. after_word _ (λ u. chained (operand_blames t) (λ b. given))))))
 
   cast_blames : (o : CastOp) → Blames (cast_rule form o)
   unfolding cast_rule
-  cast_blames o = chained (flags_blame _) (λ flags. chained value_type_blames (λ t. chained (operand_blames t) (λ a. behind_word _ (λ u. chained value_type_blames (λ v. given)))))
+  cast_blames o = chained (flags_blame _) (λ flags. chained value_type_blames (λ t. chained (operand_blames t) (λ a. after_word _ (λ u. chained value_type_blames (λ v. given)))))
 
   bit_blames : Blames bit_type
   unfolding bit_type
@@ -79,8 +79,8 @@ module _ (form : Form) where
   select_blames : Blames (select_rule form)
   unfolding select_rule
   select_blames =
-      chained bit_blames (λ u. chained (operand_blames (Int 1)) (λ c. behind_word _ (λ v. chained value_type_blames (λ t. chained (operand_blames t) (λ a.
-      behind_word _ (λ w. chained (same_type_blames t) (λ x. chained (operand_blames t) (λ b. given))))))))
+      chained bit_blames (λ u. chained (operand_blames (Int 1)) (λ c. after_word _ (λ v. chained value_type_blames (λ t. chained (operand_blames t) (λ a.
+      after_word _ (λ w. chained (same_type_blames t) (λ x. chained (operand_blames t) (λ b. given))))))))
 
   freeze_blames : Blames (freeze_rule form)
   unfolding freeze_rule
@@ -90,7 +90,7 @@ module _ (form : Form) where
 
   address_blames : Blames (address form)
   unfolding address
-  address_blames = behind_word _ (λ u. behind_word _ (λ v. operand_blames Ptr))
+  address_blames = after_word _ (λ u. after_word _ (λ v. operand_blames Ptr))
 
   load_blames : Blames (load_rule form)
   unfolding load_rule
@@ -127,7 +127,7 @@ module _ (form : Form) where
 
   variadic_blames : Blames variadic_type
   unfolding variadic_type
-  variadic_blames = behind_word _ (λ u. behind_word _ (λ v. behind_word _ (λ w. behind_word _ (λ x. behind_word _ (λ y. given)))))
+  variadic_blames = after_word _ (λ u. after_word _ (λ v. after_word _ (λ w. after_word _ (λ x. after_word _ (λ y. given)))))
 
   callee_type_blames : (result : Option Ty) → Blames (callee_type result)
   unfolding callee_type
@@ -158,7 +158,7 @@ module _ (form : Form) where
 
   debug_blames : Blames (debug_rest form)
   unfolding debug_rest
-  debug_blames = chained (sight s.OpenParen) (λ has. either has (behind_token (λ u. chained (balanced_blames form s.CloseParen) (λ v. given))) given)
+  debug_blames = chained (sight s.OpenParen) (λ has. either has (after_token (λ u. chained (balanced_blames form s.CloseParen) (λ v. given))) given)
 
   call_attribute_blames : (x : Symbol) → Blames (call_attribute form x)
   call_attribute_blames s.DebugGroup = debug_blames
@@ -178,16 +178,16 @@ module _ (form : Form) where
   unfolding call_rule
   call_blames named first =
       chained (call_word_blames first) (λ u. chained (attributes_blame form) (λ v. chained (call_type_blames named) (λ ret. chained (callee_type_blames ret) (λ dotted. chained (callee_blames dotted) (λ x.
-      behind_word _ (λ w. chained (arguments_blame _) (λ args. chained call_end_blames (λ marked. given))))))))
+      after_word _ (λ w. chained (arguments_blame _) (λ args. chained call_end_blames (λ marked. given))))))))
 
   -- ---- phis
 
   edge_blames : (t : Ty) → Blames (edge form t)
   unfolding edge
-  edge_blames t = chained (operand_blames t) (λ v. behind_word _ (λ u. chained (local_blames form) (λ from. behind_word _ (λ w. given))))
+  edge_blames t = chained (operand_blames t) (λ v. after_word _ (λ u. chained (local_blames form) (λ from. after_word _ (λ w. given))))
 
   edge_by_blames : (t : Ty) (found : List (Operand × Name)) (x : Symbol) → Blames (edge_by form t found x)
-  edge_by_blames t found s.OpenBracket = behind_token (λ u. chained (edge_blames t) (λ e. given))
+  edge_by_blames t found s.OpenBracket = after_token (λ u. chained (edge_blames t) (λ e. given))
   edge_by_blames t found x = given
 
   edge_turn_blames : (t : Ty) (found : List (Operand × Name)) → Blames (edge_turn form t found)
@@ -197,19 +197,19 @@ module _ (form : Form) where
   phi_blames : Blames (phi_rule form)
   unfolding phi_rule
   phi_blames =
-      chained value_type_blames (λ t. behind_word _ (λ u. chained (edge_blames t) (λ first. chained (looped (λ e t. tt) (λ e c. edge_turn_blames t e.found)) (λ edges.
+      chained value_type_blames (λ t. after_word _ (λ u. chained (edge_blames t) (λ first. chained (looped (λ e t. tt) (λ e c. edge_turn_blames t e.found)) (λ edges.
       chained (all_suffixes_blame form edges.ended) (λ marked. given)))))
 
   -- ---- terminators
 
   target_blames : Blames (target form)
   unfolding target
-  target_blames = behind_word _ (λ u. local_blames form)
+  target_blames = after_word _ (λ u. local_blames form)
 
   branch_on_blames : Blames (branch_on form)
   unfolding branch_on
   branch_on_blames =
-      chained bit_blames (λ u. chained (operand_blames (Int 1)) (λ c. behind_word _ (λ v. chained target_blames (λ to. behind_word _ (λ w. chained target_blames (λ other. given))))))
+      chained bit_blames (λ u. chained (operand_blames (Int 1)) (λ c. after_word _ (λ v. chained target_blames (λ to. after_word _ (λ w. chained target_blames (λ other. given))))))
 
   branch_blames : Blames (branch_rule form)
   unfolding branch_rule
@@ -217,13 +217,13 @@ module _ (form : Form) where
 
   case_blames : (width : ℕ) (found : List (ℕ × Name)) → Blames (case_rest form width found)
   unfolding case_rest
-  case_blames width found = chained (number_blames width) (λ n. behind_word _ (λ u. chained target_blames (λ to. given)))
+  case_blames width found = chained (number_blames width) (λ n. after_word _ (λ u. chained target_blames (λ to. given)))
 
   switch_blames : Blames (switch_rule form)
   unfolding switch_rule
   switch_blames =
-      chained int_type_blames (λ width. chained (operand_blames (Int width)) (λ v. behind_word _ (λ u. chained target_blames (λ other. behind_word _ (λ w.
-      chained (looped (λ found t. tt) (λ found t. case_blames width found)) (λ cases. behind_word _ (λ x. given)))))))
+      chained int_type_blames (λ width. chained (operand_blames (Int width)) (λ v. after_word _ (λ u. chained target_blames (λ other. after_word _ (λ w.
+      chained (looped (λ found t. tt) (λ found t. case_blames width found)) (λ cases. after_word _ (λ x. given)))))))
 
   ret_value_blames : (t : Option Ty) → Blames (ret_value form t)
   ret_value_blames None = given
@@ -235,31 +235,31 @@ module _ (form : Form) where
 
   -- ---- lines
 
-  value_line_blames : (a : Body) (result : Option Name) (rule : Rule Op) → Blames rule → Blames (value_line form a result rule)
+  value_line_blames : (a : BodySoFar) (result : Option Name) (rule : Rule Op) → Blames rule → Blames (value_line form a result rule)
   unfolding value_line
   value_line_blames a result rule each = chained (suffixed rule each) (λ m. given)
 
-  marked_line_blames : (a : Body) (result : Option Name) (rule : Rule Marked) → Blames rule → Blames (marked_line a result rule)
+  marked_line_blames : (a : BodySoFar) (result : Option Name) (rule : Rule Marked) → Blames rule → Blames (marked_line a result rule)
   unfolding marked_line
   marked_line_blames a result rule each = chained each (λ m. given)
 
-  phi_line_blames : (a : Body) (result : Option Name) → Blames (phi_line form a result)
+  phi_line_blames : (a : BodySoFar) (result : Option Name) → Blames (phi_line form a result)
   unfolding phi_line
   phi_line_blames a result = chained phi_blames (λ m. given)
 
-  call_line_blames : (a : Body) (result : Option Name) (first : Symbol) → Blames (call_line form a result first)
+  call_line_blames : (a : BodySoFar) (result : Option Name) (first : Symbol) → Blames (call_line form a result first)
   unfolding call_line
   call_line_blames a result first = chained (call_blames (is_open result) first) (λ m. given)
 
-  effect_line_blames : (a : Body) (rule : Rule Op) → Blames rule → Blames (effect_line form a rule)
+  effect_line_blames : (a : BodySoFar) (rule : Rule Op) → Blames rule → Blames (effect_line form a rule)
   unfolding effect_line
   effect_line_blames a rule each = chained (suffixed rule each) (λ m. given)
 
-  end_line_blames : (a : Body) (rule : Rule Op) → Blames rule → Blames (end_line form a rule)
+  end_line_blames : (a : BodySoFar) (rule : Rule Op) → Blames rule → Blames (end_line form a rule)
   unfolding end_line
   end_line_blames a rule each = chained (suffixed rule each) (λ m. given)
 
-  by_word : (a : Body) (result : Option Name) (x : Symbol) → Blames (instruction_by form a result x)
+  by_word : (a : BodySoFar) (result : Option Name) (x : Symbol) → Blames (instruction_by form a result x)
   by_word a result s.Phi = phi_line_blames a result
   by_word a result s.Icmp = value_line_blames a result (compare_rule form) compare_blames
   by_word a result s.Select = value_line_blames a result (select_rule form) select_blames
@@ -278,24 +278,24 @@ module _ (form : Form) where
   by_word a result s.Unreachable = end_line_blames a (give op.Unreachable) given
   by_word a result x = refused
 
-  by_operation : (a : Body) (result : Option Name) (x : Symbol) (b : Option BinOp) (c : Option CastOp) → Blames (operation_by form a result x b c)
+  by_operation : (a : BodySoFar) (result : Option Name) (x : Symbol) (b : Option BinOp) (c : Option CastOp) → Blames (operation_by form a result x b c)
   by_operation a result x (Some b) c = value_line_blames a result (binary_rule form b) (binary_blames b)
   by_operation a result x None (Some c) = value_line_blames a result (cast_rule form c) (cast_blames c)
   by_operation a result x None None = by_word a result x
 
-  instruction_blames : (a : Body) (result : Option Name) (x : Symbol) → Blames (instruction form a result x)
+  instruction_blames : (a : BodySoFar) (result : Option Name) (x : Symbol) → Blames (instruction form a result x)
   unfolding instruction
   instruction_blames a result x = by_operation a result x (binary_op x) (cast_op x)
 
-  named_line_blames : (a : Body) (n : Name) → Blames (named_line form a n)
+  named_line_blames : (a : BodySoFar) (n : Name) → Blames (named_line form a n)
   unfolding named_line
-  named_line_blames a n = behind_word _ (λ u. chained (judged (λ t. or_refused (gives_value a.phis t.symbol) (Ok t.symbol) t tt)) (λ x. instruction_blames a (Some n) x))
+  named_line_blames a n = after_word _ (λ u. chained (judged (λ t. or_refused (gives_value a.phis t.symbol) (Ok t.symbol) t tt)) (λ x. instruction_blames a (Some n) x))
 
-  record_line_blames : (a : Body) → Blames (record_line form a)
+  record_line_blames : (a : BodySoFar) → Blames (record_line form a)
   unfolding record_line
-  record_line_blames a = behind_word _ (λ u. chained (balanced_blames form s.CloseParen) (λ v. given))
+  record_line_blames a = after_word _ (λ u. chained (balanced_blames form s.CloseParen) (λ v. given))
 
-  line_by_blames : (b : Body) (x : Symbol) (t : Lexeme) → Blames (line_by form b x t)
+  line_by_blames : (b : BodySoFar) (x : Symbol) (t : Lexeme) → Blames (line_by form b x t)
   line_by_blames b s.Label t = given
   line_by_blames b s.NumberedLabel t = given
   line_by_blames b s.DebugGroup t = record_line_blames (opened b)
@@ -303,7 +303,7 @@ module _ (form : Form) where
   line_by_blames b s.NumberedLocal t = named_line_blames (opened b) _
   line_by_blames b x t = instruction_blames (opened b) None x
 
-  line_blames : (b : Body) (t : Lexeme) → Blames (line form b t)
+  line_blames : (b : BodySoFar) (t : Lexeme) → Blames (line form b t)
   unfolding line
   line_blames b t = line_by_blames b t.symbol t
 
@@ -312,7 +312,7 @@ module _ (form : Form) where
   short_named : (text : Text) → IsNamed (short text)
   short_named text = if_named (name_fits text) (Ok true) (Err (r.Limit limit.Name)) tt (cause (r.Limit limit.Name) refl)
 
-  counted_named : (b : Body) (v : Verdict Bool) → IsNamed v → IsNamed (counted form b v)
+  counted_named : (b : BodySoFar) (v : Verdict Bool) → IsNamed v → IsNamed (counted form b v)
   counted_named b v h = if_named (nat_lt b.count (max_instructions form)) v (Err (r.Limit limit.Instructions)) h (cause (r.Limit limit.Instructions) refl)
 
   numbered_named : (n : ℕ) (text : Text) (v : Verdict Bool) → IsNamed v → IsNamed (numbered n text v)
@@ -321,7 +321,7 @@ module _ (form : Form) where
   unreserved_named : (text : Text) (v : Verdict Bool) → IsNamed v → IsNamed (unreserved form text v)
   unreserved_named text v h = if_named (reserved_local form text) (Err r.Reserved) v (cause r.Reserved refl) h
 
-  begins_named : (b : Body) (x : Symbol) (t : Lexeme) → IsNamed (line_begins_by form b x t)
+  begins_named : (b : BodySoFar) (x : Symbol) (t : Lexeme) → IsNamed (line_begins_by form b x t)
   begins_named b s.Label t = if_named (is_open b.name) (Ok false) _ tt (unreserved_named (name_in t) (short (name_in t)) (short_named (name_in t)))
   begins_named b s.NumberedLabel t = if_named (is_open b.name) (Ok false) _ tt (numbered_named b.next (name_in t) (Ok true) tt)
   begins_named b s.DebugGroup t = tt
@@ -330,10 +330,10 @@ module _ (form : Form) where
   begins_named b s.Phi t = if_named (opened b).phis _ (Ok false) (counted_named b (Ok true) tt) tt
   begins_named b x t = if_named (begins_instruction x) _ (Ok false) (counted_named b (Ok true) tt) tt
 
-  line_begins_named : (b : Body) (t : Lexeme) → IsNamed (line_begins form b t)
+  line_begins_named : (b : BodySoFar) (t : Lexeme) → IsNamed (line_begins form b t)
   unfolding line_begins
   line_begins_named b t = if_named (numbers_left b.next) (line_begins_by form b t.symbol t) (Err r.Numbering) (begins_named b t.symbol t) (cause r.Numbering refl)
 
-  pub blocks_blame : (start : Body) → Blames (blocks form start)
+  pub blocks_blame : (start : BodySoFar) → Blames (blocks form start)
   unfolding blocks
-  blocks_blame start = chained (looped line_begins_named line_blames) (λ body. either (is_whole body) (behind_word _ (λ u. given)) refused)
+  blocks_blame start = chained (looped line_begins_named line_blames) (λ body. either (is_whole body) (after_word _ (λ u. given)) refused)

@@ -12,7 +12,7 @@ use Rattle.ms_text_grammar.specs.declared.refusals.Outside.TheVariants as outsid
 use Rattle.ms_text_grammar.specs.declared.refusals.Cause.{Cause}
 use Rattle.ms_text_grammar.specs.declared.refusals.Cause.TheVariants as r
 use Rattle.ms_text_grammar.specs.declared.states.Parameters.{Parameters}
-use Rattle.ms_text_grammar.specs.declared.states.Parts.{Parts}
+use Rattle.ms_text_grammar.specs.declared.states.ModuleSoFar.{ModuleSoFar}
 use Rattle.ms_text_grammar.specs.declared.symbols.Symbol.{Symbol}
 use Rattle.ms_text_grammar.specs.declared.symbols.Symbol.TheVariants as s
 use Rattle.ms_text_grammar.specs.Lexemes.{Lexeme, is, name_in, lexemes_of}
@@ -20,10 +20,10 @@ use Rattle.ms_text_grammar.specs.Names.{reserved_global, name_fits, local_by}
 use Rattle.ms_text_grammar.specs.Types.{value_type_of}
 use Rattle.ms_text_grammar.specs.Skipped.{is_attribute, attached_by}
 use Rattle.ms_text_grammar.specs.Insts.{names_printf}
-use Rattle.ms_text_grammar.specs.Functions.{no_parameters, has_room, parameter_name_by, parameter_name, typed_parameter, parameter, parameters, linkage_rest, linkage, declaration, tail_rest, function_tail, body_behind, function}
+use Rattle.ms_text_grammar.specs.Functions.{no_parameters, has_room, parameter_name_by, parameter_name, typed_parameter, parameter, parameters, linkage_rest, linkage, declaration, tail_rest, function_tail, body_after, function}
 use Rattle.ms_text_grammar.specs.Modules.{source_filename, target_entity, attribute_group, node_by, metadata_entity, named_type, global_kind_by, global_suffix_by, global_suffix, global_variable, max_functions, max_globals, room_for_function, global_begins, entity_begins_by, entity_begins, entity_by, entity, module_rule}
 use Rattle.ms_text_grammar.specs.Texts.{Stops}
-use Rattle.ms_text_laws.proofs.Blames.{IsCause, IsNamed, cause, refusal_is, if_named, or_refused, within_named, mapped_named, Blames, given, judged, seen, chained, either, looped, skipped, sight, word_taken, by_symbol, behind_token, behind_word, listed_blame}
+use Rattle.ms_text_laws.proofs.Blames.{IsCause, IsNamed, cause, refusal_is, if_named, or_refused, within_named, mapped_named, Blames, given, judged, seen, chained, either, looped, skipped, sight, word_taken, by_symbol, after_token, after_word, listed_blame}
 use Rattle.ms_text_laws.proofs.BlamesParts.{local_named, local_by_named, global_blames, value_type_named, result_type_blames, type_blames, struct_type_blames, init_blames, balanced_blames, attribute_rest_blames, attributes_blame, attached_by_named, meta_blames, attachments_blame, kind_named}
 use Rattle.ms_text_laws.proofs.BlamesCode.{blocks_blame}
 
@@ -46,7 +46,7 @@ module _ (form : Form) where
 
   parameter_blames : (dotted : Bool) (ps : Parameters) → Blames (parameter form dotted ps)
   unfolding parameter
-  parameter_blames dotted ps = chained (seen (λ t. tt)) (λ dots. either dots (behind_token (λ u. given)) (typed_blames ps))
+  parameter_blames dotted ps = chained (seen (λ t. tt)) (λ dots. either dots (after_token (λ u. given)) (typed_blames ps))
 
   parameters_blame : (dotted : Bool) → Blames (parameters form dotted)
   unfolding parameters
@@ -65,7 +65,7 @@ module _ (form : Form) where
   declaration_blames : Blames (declaration form)
   unfolding declaration
   declaration_blames =
-      chained (attachments_blame form) (λ u. chained linkage_blames (λ v. chained result_type_blames (λ result. chained (global_blames form) (λ n. behind_word _ (λ w.
+      chained (attachments_blame form) (λ u. chained linkage_blames (λ v. chained result_type_blames (λ result. chained (global_blames form) (λ n. after_word _ (λ w.
       chained (parameters_blame (names_printf n)) (λ ps. chained (attributes_blame form) (λ x. given)))))))
 
   tail_rest_blames : (x : Symbol) → Blames (tail_rest form x)
@@ -81,26 +81,26 @@ module _ (form : Form) where
   function_blames : (before : ℕ) → Blames (function form before)
   unfolding function
   function_blames before =
-      chained linkage_blames (λ u. chained result_type_blames (λ result. chained (global_blames form) (λ n. behind_word _ (λ v. chained (parameters_blame false) (λ ps. chained tail_blames (λ w.
-      behind_word _ (λ x. chained (blocks_blame form (body_behind ps before)) (λ bs. given))))))))
+      chained linkage_blames (λ u. chained result_type_blames (λ result. chained (global_blames form) (λ n. after_word _ (λ v. chained (parameters_blame false) (λ ps. chained tail_blames (λ w.
+      after_word _ (λ x. chained (blocks_blame form (body_after ps before)) (λ bs. given))))))))
 
   -- ---- other entities
 
   group_blames : Blames (attribute_group form)
   unfolding attribute_group
-  group_blames = chained (judged (λ t. or_refused _ (Ok tt) t tt)) (λ u. behind_word _ (λ v. behind_word _ (λ w. balanced_blames form s.CloseBrace)))
+  group_blames = chained (judged (λ t. or_refused _ (Ok tt) t tt)) (λ u. after_word _ (λ v. after_word _ (λ w. balanced_blames form s.CloseBrace)))
 
   node_blames : (x : Symbol) → Blames (node_by form x)
-  node_blames s.Bang = behind_token (λ u. behind_word _ (λ v. balanced_blames form s.CloseBrace))
-  node_blames x = chained meta_blames (λ u. behind_word _ (λ v. balanced_blames form s.CloseParen))
+  node_blames s.Bang = after_token (λ u. after_word _ (λ v. balanced_blames form s.CloseBrace))
+  node_blames x = chained meta_blames (λ u. after_word _ (λ v. balanced_blames form s.CloseParen))
 
   metadata_blames : Blames (metadata_entity form)
   unfolding metadata_entity
-  metadata_blames = behind_word _ (λ u. chained (sight s.Distinct) (λ distinct. chained (either distinct skipped given) (λ v. by_symbol node_blames)))
+  metadata_blames = after_word _ (λ u. chained (sight s.Distinct) (λ distinct. chained (either distinct skipped given) (λ v. by_symbol node_blames)))
 
   named_type_blames : (n : Name) → Blames (named_type form n)
   unfolding named_type
-  named_type_blames n = behind_word _ (λ u. behind_word _ (λ v. chained (struct_type_blames form) (λ t. given)))
+  named_type_blames n = after_word _ (λ u. after_word _ (λ v. chained (struct_type_blames form) (λ t. given)))
 
   kind_by_named : (x : Symbol) (t : Lexeme) → IsNamed (global_kind_by x t)
   kind_by_named s.GlobalWord t = tt
@@ -109,8 +109,8 @@ module _ (form : Form) where
   kind_by_named x t = refusal_is t
 
   global_suffix_by_blames : (x : Symbol) → Blames (global_suffix_by form x)
-  global_suffix_by_blames s.Align = behind_token (λ u. word_taken s.Number)
-  global_suffix_by_blames s.Section = behind_token (λ u. word_taken s.Str)
+  global_suffix_by_blames s.Align = after_token (λ u. word_taken s.Number)
+  global_suffix_by_blames s.Section = after_token (λ u. word_taken s.Str)
   global_suffix_by_blames x = chained (judged (kind_named form)) (λ k. meta_blames)
 
   global_suffix_blames : Blames (global_suffix form)
@@ -120,7 +120,7 @@ module _ (form : Form) where
   global_variable_blames : (n : Name) → Blames (global_variable form n)
   unfolding global_variable
   global_variable_blames n =
-      behind_word _ (λ u. chained (looped (λ v t. tt) (λ v t. given)) (λ w. chained (judged (λ t. kind_by_named t.symbol t)) (λ constant. chained (type_blames form 32) (λ t. chained (init_blames form 32 t) (λ i.
+      after_word _ (λ u. chained (looped (λ v t. tt) (λ v t. given)) (λ w. chained (judged (λ t. kind_by_named t.symbol t)) (λ constant. chained (type_blames form 32) (λ t. chained (init_blames form 32 t) (λ i.
       chained (looped (λ v c. tt) (λ v c. global_suffix_blames)) (λ x. given))))))
 
   -- ---- which entities begin
@@ -147,14 +147,14 @@ module _ (form : Form) where
   begins_named m s.Define t = room_named m
   begins_named m x t = tt
 
-  entity_begins_named : (p : Parts) (t : Lexeme) → IsNamed (entity_begins form p t)
+  entity_begins_named : (p : ModuleSoFar) (t : Lexeme) → IsNamed (entity_begins form p t)
   unfolding entity_begins
   entity_begins_named p t = begins_named p.«module» t.symbol t
 
-  entity_by_blames : (p : Parts) (x : Symbol) (t : Lexeme) → Blames (entity_by form p x t)
+  entity_by_blames : (p : ModuleSoFar) (x : Symbol) (t : Lexeme) → Blames (entity_by form p x t)
   unfolding source_filename target_entity
-  entity_by_blames p s.SourceFilename t = chained (behind_word _ (λ u. word_taken s.Str)) (λ v. given)
-  entity_by_blames p s.Target t = chained (chained (judged (λ t. or_refused _ (Ok tt) t tt)) (λ u. behind_word _ (λ v. word_taken s.Str))) (λ w. given)
+  entity_by_blames p s.SourceFilename t = chained (after_word _ (λ u. word_taken s.Str)) (λ v. given)
+  entity_by_blames p s.Target t = chained (chained (judged (λ t. or_refused _ (Ok tt) t tt)) (λ u. after_word _ (λ v. word_taken s.Str))) (λ w. given)
   entity_by_blames p s.Attributes t = chained group_blames (λ u. given)
   entity_by_blames p s.Local t = chained (named_type_blames _) (λ x. given)
   entity_by_blames p s.NumberedLocal t = chained (named_type_blames _) (λ x. given)
@@ -163,7 +163,7 @@ module _ (form : Form) where
   entity_by_blames p s.Define t = chained (function_blames p.count) (λ f. given)
   entity_by_blames p x t = chained metadata_blames (λ u. given)
 
-  entity_blames : (p : Parts) (t : Lexeme) → Blames (entity form p t)
+  entity_blames : (p : ModuleSoFar) (t : Lexeme) → Blames (entity form p t)
   unfolding entity
   entity_blames p t = entity_by_blames p t.symbol t
 

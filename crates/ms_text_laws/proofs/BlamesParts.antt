@@ -20,7 +20,7 @@ use Rattle.ms_text_grammar.specs.Names.{reserved_global, reserved_local, name_fi
 use Rattle.ms_text_grammar.specs.Types.{int_width, is_ptr, is_width, int_type_of, int_type, value_type_by, value_type_of, value_type, result_type_by, result_type, count_by, count, flat, packed_brace, array_rest, struct_rest, packed_rest, nested, opens, type_to, struct_by, struct_type}
 use Rattle.ms_text_grammar.specs.Values.{fits, number_by, number, gep_words, max_indices, index_type_of, constant_index, constant_indices, Address, gep_from, base_by, base_to, max_within, offset, is_int_width, int_value, local_value, simple_by, simple_value, value_by, value_within, flat_init, typed, array_init, struct_init, packed_init, nested_init, init_to}
 use Rattle.ms_text_grammar.specs.Skipped.{is_closer, is_awaited, may_skip, all_closed, balanced, in_parens, string_value, attribute_rest, attributes, mark_allowed, attached_by, meta, attachments, kind_by, kind_of, attached_rest, attached, suffix_by, suffix, suffixes, suffixes_from}
-use Rattle.ms_text_laws.proofs.Blames.{IsCause, IsNamed, cause, refusal_is, if_named, or_refused, within_named, mapped_named, Blames, given, judged, chained, either, looped, refused, stopped, sight, word_taken, by_symbol, behind_token, behind_word, items_blame}
+use Rattle.ms_text_laws.proofs.Blames.{IsCause, IsNamed, cause, refusal_is, if_named, or_refused, within_named, mapped_named, Blames, given, judged, chained, either, looped, refused, stopped, sight, word_taken, by_symbol, after_token, after_word, items_blame}
 
 -- ---- names
 
@@ -84,7 +84,7 @@ unfolding value_type
 value_type_blames = judged value_type_named
 
 result_type_by_blames : (x : Symbol) → Blames (result_type_by x)
-result_type_by_blames s.Void = behind_token (λ u. given)
+result_type_by_blames s.Void = after_token (λ u. given)
 result_type_by_blames x = chained value_type_blames (λ t. given)
 
 pub result_type_blames : Blames result_type
@@ -114,7 +114,7 @@ flat_blames form x = refused
 module _ (part : Rule Ty) (each : Blames part) where
   array_blames : Blames (array_rest part)
   unfolding array_rest
-  array_blames = chained count_blames (λ n. behind_word _ (λ u. chained each (λ t. behind_word _ (λ v. given))))
+  array_blames = chained count_blames (λ n. after_word _ (λ u. chained each (λ t. after_word _ (λ v. given))))
 
   struct_blames : Blames (struct_rest part)
   unfolding struct_rest
@@ -122,12 +122,12 @@ module _ (part : Rule Ty) (each : Blames part) where
 
   packed_blames : Blames (packed_rest part)
   unfolding packed_rest
-  packed_blames = chained brace_blames (λ u. chained (items_blame s.CloseBrace part each) (λ ts. behind_word _ (λ v. given)))
+  packed_blames = chained brace_blames (λ u. chained (items_blame s.CloseBrace part each) (λ ts. after_word _ (λ v. given)))
 
   nested_blames : (form : Form) (x : Symbol) → Blames (nested form part x)
-  nested_blames form s.OpenBracket = behind_token (λ u. array_blames)
-  nested_blames form s.OpenBrace = behind_token (λ u. struct_blames)
-  nested_blames form s.Less = behind_token (λ u. packed_blames)
+  nested_blames form s.OpenBracket = after_token (λ u. array_blames)
+  nested_blames form s.OpenBrace = after_token (λ u. struct_blames)
+  nested_blames form s.Less = after_token (λ u. packed_blames)
   nested_blames form x = flat_blames form x
 
 pub type_blames : (form : Form) (depth : ℕ) → Blames (type_to form depth)
@@ -136,8 +136,8 @@ type_blames form zero = by_symbol (λ x. either (opens x) (stopped (r.Limit limi
 type_blames form (suc depth) = by_symbol (λ x. nested_blames (type_to form depth) (type_blames form depth) form x)
 
 struct_by_blames : (form : Form) (x : Symbol) → Blames (struct_by form x)
-struct_by_blames form s.OpenBrace = behind_token (λ u. struct_blames (type_to form 31) (type_blames form 31))
-struct_by_blames form s.Less = behind_token (λ u. packed_blames (type_to form 31) (type_blames form 31))
+struct_by_blames form s.OpenBrace = after_token (λ u. struct_blames (type_to form 31) (type_blames form 31))
+struct_by_blames form s.Less = after_token (λ u. packed_blames (type_to form 31) (type_blames form 31))
 struct_by_blames form x = refused
 
 pub struct_type_blames : (form : Form) → Blames (struct_type form)
@@ -171,8 +171,8 @@ constant_indices_blame = looped (λ found t. tt) (λ found t. constant_index_bla
 gep_from_blames : (form : Form) (depth : ℕ) {base : Rule Address} → Blames base → Blames (gep_from form depth base)
 unfolding gep_from
 gep_from_blames form depth p =
-    chained gep_words_blame (λ u. behind_word _ (λ v. chained (type_blames form depth) (λ t. behind_word _ (λ w. behind_word _ (λ x. chained p (λ from.
-    chained constant_indices_blame (λ indices. behind_word _ (λ y. given))))))))
+    chained gep_words_blame (λ u. after_word _ (λ v. chained (type_blames form depth) (λ t. after_word _ (λ w. after_word _ (λ x. chained p (λ from.
+    chained constant_indices_blame (λ indices. after_word _ (λ y. given))))))))
 
 base_by_blames : (form : Form) {inner : Rule Address} → Blames inner → (x : Symbol) → Blames (base_by form inner x)
 base_by_blames form p s.GetElementPtr = p
@@ -181,7 +181,7 @@ base_by_blames form p x = chained (global_blames form) (λ n. given)
 base_blames : (form : Form) (depth within : ℕ) → Blames (base_to form depth within)
 unfolding base_to
 base_blames form depth zero = by_symbol (λ x. base_by_blames form (stopped (r.Limit limit.Indices) refl) x)
-base_blames form depth (suc within) = by_symbol (λ x. base_by_blames form (behind_token (λ u. gep_from_blames form depth (base_blames form depth within))) x)
+base_blames form depth (suc within) = by_symbol (λ x. base_by_blames form (after_token (λ u. gep_from_blames form depth (base_blames form depth within))) x)
 
 offset_blames : (form : Form) (depth : ℕ) → Blames (offset form depth)
 unfolding offset
@@ -216,7 +216,7 @@ unfolding simple_value
 simple_blames form locals type = judged (λ t. simple_by_named form locals type t.symbol t)
 
 value_by_blames : (form : Form) (depth : ℕ) (locals : Bool) (type : Ty) (x : Symbol) → Blames (value_by form depth locals type x)
-value_by_blames form depth locals type s.GetElementPtr = behind_token (λ u. offset_blames form depth)
+value_by_blames form depth locals type s.GetElementPtr = after_token (λ u. offset_blames form depth)
 value_by_blames form depth locals type x = simple_blames form locals type
 
 pub value_blames : (form : Form) (depth : ℕ) (locals : Bool) (type : Ty) → Blames (value_within form depth locals type)
@@ -226,16 +226,16 @@ value_blames form depth locals type = by_symbol (value_by_blames form depth loca
 -- ---- initialisers
 
 flat_init_blames : (form : Form) (depth : ℕ) (type : Ty) (x : Symbol) → Blames (flat_init form depth type x)
-flat_init_blames form depth type s.ZeroInitializer = behind_token (λ u. given)
+flat_init_blames form depth type s.ZeroInitializer = after_token (λ u. given)
 flat_init_blames form depth type s.CText = judged (λ t. tt)
 flat_init_blames form depth type x = chained (value_blames form depth false type) (λ v. given)
 
 module _ (part : Rule (Ty × Init)) (each : Blames part) where
   nested_init_blames : (rest : Rule Init) (x : Symbol) → Blames rest → Blames (nested_init part rest x)
   unfolding array_init struct_init packed_init
-  nested_init_blames rest s.OpenBracket h = behind_token (λ u. chained (items_blame s.CloseBracket part each) (λ all. given))
-  nested_init_blames rest s.OpenBrace h = behind_token (λ u. chained (items_blame s.CloseBrace part each) (λ all. given))
-  nested_init_blames rest s.Less h = behind_token (λ u. chained brace_blames (λ v. chained (items_blame s.CloseBrace part each) (λ all. behind_word _ (λ w. given))))
+  nested_init_blames rest s.OpenBracket h = after_token (λ u. chained (items_blame s.CloseBracket part each) (λ all. given))
+  nested_init_blames rest s.OpenBrace h = after_token (λ u. chained (items_blame s.CloseBrace part each) (λ all. given))
+  nested_init_blames rest s.Less h = after_token (λ u. chained brace_blames (λ v. chained (items_blame s.CloseBrace part each) (λ all. after_word _ (λ w. given))))
   nested_init_blames rest x h = h
 
 typed_blames : (form : Form) (depth : ℕ) → ((type : Ty) → Blames (init_to form depth type)) → Blames (typed (type_to form depth) (init_to form depth))
@@ -267,11 +267,11 @@ balanced_blames form closing =
 
 in_parens_blames : (form : Form) → Blames (in_parens form)
 unfolding in_parens
-in_parens_blames form = chained (sight s.OpenParen) (λ has. either has (behind_token (λ u. balanced_blames form s.CloseParen)) given)
+in_parens_blames form = chained (sight s.OpenParen) (λ has. either has (after_token (λ u. balanced_blames form s.CloseParen)) given)
 
 string_value_blames : Blames string_value
 unfolding string_value
-string_value_blames = chained (sight s.Equals) (λ has. either has (behind_token (λ u. word_taken s.Str)) given)
+string_value_blames = chained (sight s.Equals) (λ has. either has (after_token (λ u. word_taken s.Str)) given)
 
 pub attribute_rest_blames : (form : Form) (x : Symbol) → Blames (attribute_rest form x)
 attribute_rest_blames form s.Align = word_taken s.Number
@@ -310,7 +310,7 @@ pub kind_named : (form : Form) (t : Lexeme) → IsNamed (kind_of form t)
 kind_named form t = kind_by_named form t.symbol t
 
 attached_rest_blames : (form : Form) (marked marks : Bool) (x : Symbol) → Blames (attached_rest form marked marks x)
-attached_rest_blames form marked marks s.Bang = behind_token (λ u. behind_word _ (λ v. chained (balanced_blames form s.CloseBrace) (λ w. given)))
+attached_rest_blames form marked marks s.Bang = after_token (λ u. after_word _ (λ v. chained (balanced_blames form s.CloseBrace) (λ w. given)))
 attached_rest_blames form marked marks x = chained meta_blames (λ u. chained (in_parens_blames form) (λ v. given))
 
 attached_blames : (form : Form) (marked : Bool) → Blames (attached form marked)
@@ -318,7 +318,7 @@ unfolding attached
 attached_blames form marked = chained (judged (kind_named form)) (λ marks. by_symbol (attached_rest_blames form marked marks))
 
 suffix_by_blames : (form : Form) (marked : Bool) (x : Symbol) → Blames (suffix_by form marked x)
-suffix_by_blames form marked s.Align = behind_token (λ u. behind_word _ (λ v. given))
+suffix_by_blames form marked s.Align = after_token (λ u. after_word _ (λ v. given))
 suffix_by_blames form marked x = attached_blames form marked
 
 suffix_blames : (form : Form) (marked : Bool) → Blames (suffix form marked)

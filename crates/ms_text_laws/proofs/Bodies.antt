@@ -14,21 +14,21 @@ use Rattle.ms_ir.specs.declared.syntax.Block.{Block}
 use Rattle.ms_ir.specs.declared.forms.Form.TheVariants.{Instrumented}
 use Rattle.ms_text_grammar.specs.declared.refusals.Cause.TheVariants as r
 use Rattle.ms_text_grammar.specs.declared.refusals.Limit.TheVariants as limit
-use Rattle.ms_text_grammar.specs.declared.states.Body.{Body}
+use Rattle.ms_text_grammar.specs.declared.states.BodySoFar.{BodySoFar}
 use Rattle.ms_text_grammar.specs.declared.symbols.Symbol.TheVariants as s
 use Rattle.ms_text_grammar.specs.Lexemes.{Lexeme, end_of_text, same_symbol, symbol_of, name_in}
 use Rattle.ms_text_grammar.specs.Steps.{word, binary_op, cast_op}
 use Rattle.ms_text_grammar.specs.Bodies.{is_open, opened_by, opened_as, opened, numbered, unreserved}
 use Rattle.ms_text_grammar.specs.Lines.{is_whole}
 use Rattle.ms_text_grammar.specs.Modules.{instructions_of}
-use Rattle.ms_valid.specs.FormedNames.{are_bytes, is_local_name}
-use Rattle.ms_valid.specs.FormedCode.{name_formed, is_terminator, ends_well, is_body}
+use Rattle.ms_check_valid.specs.FormedNames.{are_bytes, is_local_name}
+use Rattle.ms_check_valid.specs.FormedCode.{name_formed, is_terminator, ends_well, is_body}
 use Rattle.ms_ir.specs.Written.{result_type}
-use Rattle.ms_text_layout.specs.Pieces.{Line, sign}
-use Rattle.ms_text_layout.specs.Names.{label_token}
-use Rattle.ms_text_layout.specs.Insts.{inst_tokens, inst_line}
-use Rattle.ms_text_layout.specs.Modules.{entry_label, body_lines, block_lines, blocks_lines}
-use Rattle.ms_text_layout.proofs.WholeKinds.{not_true}
+use Rattle.ms_text_grammar.specs.LayoutPieces.{Line, sign}
+use Rattle.ms_text_grammar.specs.LayoutNames.{label_token}
+use Rattle.ms_text_grammar.specs.LayoutInsts.{inst_tokens, inst_line}
+use Rattle.ms_text_grammar.specs.LayoutModules.{entry_label, body_lines, block_lines, blocks_lines}
+use Rattle.ms_text_grammar.proofs.WholeKinds.{not_true}
 use Rattle.ms_text_laws.proofs.Limited.{Limits, short, line_begins_by, line_begins, line_by, line, blocks}
 use Rattle.ms_text_laws.proofs.Takes.{Takes, given, chain, turned, ended, chosen, word_taken, along}
 use Rattle.ms_text_laws.proofs.Spelled.{is_below, label_number_symbol, label_text_symbol, label_number_in, label_text_in, local_unreserved}
@@ -96,12 +96,12 @@ abbrev pub AreNext : ℕ → List Inst → Type 0
 AreNext k [] = Unit {0}
 AreNext k (inst ∷ rest) = IsNext k inst.result × AreNext (next_of k inst.result) rest
 
--- the number behind them
-abbrev pub next_behind : ℕ → List Inst → ℕ
-next_behind k [] = k
-next_behind k (inst ∷ rest) = next_behind (next_of k inst.result) rest
+-- the number after them
+abbrev pub next_after : ℕ → List Inst → ℕ
+next_after k [] = k
+next_after k (inst ∷ rest) = next_after (next_of k inst.result) rest
 
--- the number behind a block's name
+-- the number after a block's name
 abbrev pub next_name : ℕ → Name → ℕ
 next_name k (Number n) = k + 1
 next_name k (Called x) = k + 0
@@ -117,7 +117,7 @@ next_few k (Some (Called x)) = (omega arith, omega arith)
 
 -- ---- states
 
-record IsOpen (b : Body) (found : List Block) (n : Name) (insts : List Inst) (next count : ℕ) (phis : Bool) : Type 0 where
+record IsOpen (b : BodySoFar) (found : List Block) (n : Name) (insts : List Inst) (next count : ℕ) (phis : Bool) : Type 0 where
   blocks : b.blocks ≡ found
   name : b.name ≡ Some n
   insts_are : b.insts ≡ insts
@@ -125,13 +125,13 @@ record IsOpen (b : Body) (found : List Block) (n : Name) (insts : List Inst) (ne
   count_is : b.count ≡ count
   phis_are : b.phis ≡ phis
 
-pub record IsClosed (b : Body) (found : List Block) (next count : ℕ) : Type 0 where
+pub record IsClosed (b : BodySoFar) (found : List Block) (next count : ℕ) : Type 0 where
   pub blocks : b.blocks ≡ found
   pub name : b.name ≡ None
   pub next_is : b.next ≡ next
   pub count_is : b.count ≡ count
 
-open_opened : (b : Body) (n : Name) → b.name ≡ Some n → opened b ≡ b
+open_opened : (b : BodySoFar) (n : Name) → b.name ≡ Some n → opened b ≡ b
 unfolding opened
 open_opened b n e = ap (λ x. opened_by x b) e
 
@@ -161,39 +161,39 @@ BlocksFit limits (b ∷ bs) = BlockFits limits b × BlocksFit limits bs
 -- the names of blocks and results are numbered from k on
 abbrev pub AreNextBlocks : ℕ → List Block → Type 0
 AreNextBlocks k [] = Unit {0}
-AreNextBlocks k (b ∷ bs) = IsNextName k b.name × AreNext (next_name k b.name) b.insts × AreNextBlocks (next_behind (next_name k b.name) b.insts) bs
+AreNextBlocks k (b ∷ bs) = IsNextName k b.name × AreNext (next_name k b.name) b.insts × AreNextBlocks (next_after (next_name k b.name) b.insts) bs
 
 abbrev pub next_blocks : ℕ → List Block → ℕ
 next_blocks k [] = k
-next_blocks k (b ∷ bs) = next_blocks (next_behind (next_name k b.name) b.insts) bs
+next_blocks k (b ∷ bs) = next_blocks (next_after (next_name k b.name) b.insts) bs
 
 -- how many names of blocks and instructions there are
 abbrev pub lines_in : List Block → ℕ
 lines_in [] = 0
 lines_in (b ∷ bs) = (1 + length b.insts) + lines_in bs
 
-behind_few : (k : ℕ) (insts : List Inst) → next_behind k insts ≤ k + length insts
-behind_few k [] = omega arith
-behind_few k (inst ∷ insts) = let rest = behind_few (next_of k inst.result) insts in let one = next_few k inst.result in omega (arith, rest, one)
+after_few : (k : ℕ) (insts : List Inst) → next_after k insts ≤ k + length insts
+after_few k [] = omega arith
+after_few k (inst ∷ insts) = let rest = after_few (next_of k inst.result) insts in let one = next_few k inst.result in omega (arith, rest, one)
 
 name_few : (k : ℕ) (x : Name) → (k ≤ next_name k x) × (next_name k x ≤ k + 1)
 name_few k (Number n) = (omega arith, omega arith)
 name_few k (Called x) = (omega arith, omega arith)
 
 module _ (limits : Limits) (some : 0 < limits.indices) (dotted : Bool) where
-  abbrev Reads : Body → List Lexeme → Body → List Lexeme → Type 0
+  abbrev Reads : BodySoFar → List Lexeme → BodySoFar → List Lexeme → Type 0
   Reads b ts v rest = Loop limits some dotted b ts v rest
 
   abbrev body_tokens : List Inst → List Lexeme
   body_tokens insts = line_tokens (map (inst_line dotted) insts)
 
-  open_after : (b : Body) (inst : Inst) (found : List Block) (n : Name) (insts : List Inst) (next count : ℕ) (phis : Bool) → IsOpen b found n insts next count phis → InstFits limits inst → is_terminator inst.op ≡ false
+  open_after : (b : BodySoFar) (inst : Inst) (found : List Block) (n : Name) (insts : List Inst) (next count : ℕ) (phis : Bool) → IsOpen b found n insts next count phis → InstFits limits inst → is_terminator inst.op ≡ false
       → IsOpen (next_body b inst.result inst.op inst.marked) found n (insts ++ inst ∷ []) (next_of next inst.result) (count + 1) (is_phi inst.op)
   open_after b inst found n insts next count phis h fits e =
       rw (grown b inst.op inst.result inst.marked fits.named e)
       (record { blocks = h.blocks; name = h.name; insts_are = ap (λ xs. xs ++ inst ∷ []) h.insts_are; next_is = ap (λ k. next_of k inst.result) h.next_is; count_is = ap (λ k. k + 1) h.count_is; phis_are = refl })
 
-  closed_after : (b : Body) (inst : Inst) (found : List Block) (n : Name) (insts : List Inst) (next count : ℕ) (phis : Bool) → IsOpen b found n insts next count phis → InstFits limits inst → is_terminator inst.op ≡ true
+  closed_after : (b : BodySoFar) (inst : Inst) (found : List Block) (n : Name) (insts : List Inst) (next count : ℕ) (phis : Bool) → IsOpen b found n insts next count phis → InstFits limits inst → is_terminator inst.op ≡ true
       → IsClosed (next_body b inst.result inst.op inst.marked) (found ++ record { name = n; insts = insts ++ inst ∷ [] } ∷ []) (next_of next inst.result) (count + 1)
   closed_after b inst found n insts next count phis h fits e =
       let f = finished b inst.op inst.result inst.marked fits.named e in
@@ -207,7 +207,7 @@ module _ (limits : Limits) (some : 0 < limits.indices) (dotted : Bool) where
   no_phi : (o : Op) → is_terminator o ≡ true → is_phi o ≡ true → ⊥
   no_phi o e p = let f = end_is_no_phi o e in absurd cc
 
-  closed_same : (d : Body) (found : List Block) (n : Name) (before : List Inst) (inst : Inst) (more : List Inst) (next count : ℕ)
+  closed_same : (d : BodySoFar) (found : List Block) (n : Name) (before : List Inst) (inst : Inst) (more : List Inst) (next count : ℕ)
       → IsClosed d (found ++ record { name = n; insts = (before ++ inst ∷ []) ++ more } ∷ []) next (count + 1 + length more) → IsClosed d (found ++ record { name = n; insts = before ++ inst ∷ more } ∷ []) next (count + length (inst ∷ more))
   closed_same d found n before inst more next count k = record {
     blocks = k.blocks ∙ ap (λ xs. found ++ record { name = n; insts = xs } ∷ []) (append_assoc before (inst ∷ []) more);
@@ -216,13 +216,13 @@ module _ (limits : Limits) (some : 0 < limits.indices) (dotted : Bool) where
     count_is = k.count_is ∙ omega arith;
   }
 
-  -- What is to be shown of a state and the tokens in front of it. It passes from what is behind some tokens to what is in front of them.
-  module _ (Shown : Body → List Lexeme → Type 0) (pass : (b c : Body) (ts us : List Lexeme) → ((v : Body) (end : List Lexeme) → Reads c us v end → Reads b ts v end) → Shown c us → Shown b ts) where
+  -- What is to be shown of a state and the tokens in front of it. It passes from what is after some tokens to what is in front of them.
+  module _ (Shown : BodySoFar → List Lexeme → Type 0) (pass : (b c : BodySoFar) (ts us : List Lexeme) → ((v : BodySoFar) (end : List Lexeme) → Reads c us v end → Reads b ts v end) → Shown c us → Shown b ts) where
     -- the instructions of an open block, up to its end
-    insts_taken : (inst : Inst) (more : List Inst) (b : Body) (found : List Block) (n : Name) (before : List Inst) (next count : ℕ) (phis : Bool) (after : List Lexeme)
+    insts_taken : (inst : Inst) (more : List Inst) (b : BodySoFar) (found : List Block) (n : Name) (before : List Inst) (next count : ℕ) (phis : Bool) (after : List Lexeme)
         → IsOpen (opened b) found n before next count phis → b.next ≤ next → b.count ≡ count → Order phis (inst ∷ more) → InstsFit limits (inst ∷ more) → AreNext next (inst ∷ more)
         → next + length (inst ∷ more) < limits.numbers → count + length (inst ∷ more) ≤ limits.instructions → IsFresh after
-        → ((c : Body) → IsClosed c (found ++ record { name = n; insts = before ++ inst ∷ more } ∷ []) (next_behind next (inst ∷ more)) (count + length (inst ∷ more)) → Shown c after)
+        → ((c : BodySoFar) → IsClosed c (found ++ record { name = n; insts = before ++ inst ∷ more } ∷ []) (next_after next (inst ∷ more)) (count + length (inst ∷ more)) → Shown c after)
         → Shown b (body_tokens (inst ∷ more) ++ after)
     unfolding inst_tokens
     insts_taken inst [] b found n before next count phis after h low same order fits numbers few room fresh then =
@@ -234,24 +234,24 @@ module _ (limits : Limits) (some : 0 < limits.indices) (dotted : Bool) where
         (then (next_body (opened b) inst.result inst.op inst.marked) (closed_after (opened b) inst found n before next count phis h fits.0 last))
     insts_taken inst (second ∷ more) b found n before next count phis after h low same order fits numbers few room fresh then =
         let step = goes phis inst second more order in
-        let c : Body = next_body (opened b) inst.result inst.op inst.marked in
+        let c : BodySoFar = next_body (opened b) inst.result inst.op inst.marked in
         let o = open_after (opened b) inst found n before next count phis h fits.0 step.more in
         let still : opened c ≡ c = open_opened c n o.name in
         let bounds = next_few next inst.result in
-        let behind : List Lexeme = body_tokens (second ∷ more) ++ after in
-        pass b c _ behind
+        let later : List Lexeme = body_tokens (second ∷ more) ++ after in
+        pass b c _ later
         (λ v end p. along (append_assoc (tokens_of dotted inst.op inst.result inst.marked) (body_tokens (second ∷ more)) after)
-        (line_taken limits some dotted b inst.op inst.result inst.marked behind (omega (arith, low, few)) (omega (arith, same, room)) fits.0.op_fits fits.0.named
+        (line_taken limits some dotted b inst.op inst.result inst.marked later (omega (arith, low, few)) (omega (arith, same, room)) fits.0.op_fits fits.0.named
         (subst (λ k. ResultFits limits some dotted k inst.result) (sym h.next_is) (numbers.0, fits.0.short_name)) (λ q. h.phis_are ∙ step.phi q)
         (subst (λ ts. Fresh (head end_of_text ts).symbol) (sym (append_assoc (tokens_of dotted second.op second.result second.marked) (body_tokens more) after)) (inst_fresh dotted second.op second.result second.marked (body_tokens more ++ after) fits.1.0.named)) p))
         (insts_taken second more c found n (before ++ inst ∷ []) (next_of next inst.result) (count + 1) (is_phi inst.op) after
         (subst (λ d. IsOpen d found n (before ++ inst ∷ []) (next_of next inst.result) (count + 1) (is_phi inst.op)) (sym still) o)
         (omega (arith, o.next_is)) o.count_is step.after fits.1 numbers.1 (omega (arith, few, bounds)) (omega (arith, room)) fresh
-        (λ d k. then d (closed_same d found n before inst (second ∷ more) (next_behind next (inst ∷ second ∷ more)) count k)))
+        (λ d k. then d (closed_same d found n before inst (second ∷ more) (next_after next (inst ∷ second ∷ more)) count k)))
 
     -- the label of a block
-    label_taken : (x : Name) (c : Body) (found : List Block) (k count : ℕ) (rest : List Lexeme) → IsClosed c found k count → is_local_name x ≡ true → is_below limits.names x ≡ true → IsNextName k x → k < limits.numbers
-        → ((b : Body) → IsOpen b found x [] (next_name k x) count true → Shown b rest) → Shown c (label_token x ∷ rest)
+    label_taken : (x : Name) (c : BodySoFar) (found : List Block) (k count : ℕ) (rest : List Lexeme) → IsClosed c found k count → is_local_name x ≡ true → is_below limits.names x ≡ true → IsNextName k x → k < limits.numbers
+        → ((b : BodySoFar) → IsOpen b found x [] (next_name k x) count true → Shown b rest) → Shown c (label_token x ∷ rest)
     unfolding line_begins line
     label_taken (Number n) c found k count rest h local few number low then =
         let t : Lexeme = label_token (Number n) in
@@ -282,21 +282,21 @@ module _ (limits : Limits) (some : 0 < limits.indices) (dotted : Bool) where
         (record { blocks = h.blocks; name = ap (λ text. Some (Called text)) spelt; insts_are = refl; next_is = ap (λ k. k + 0) h.next_is; count_is = h.count_is; phis_are = refl }))
 
     -- all instructions of a block
-    all_taken : (insts : List Inst) (b : Body) (found : List Block) (n : Name) (next count : ℕ) (after : List Lexeme) → IsOpen (opened b) found n [] next count true → b.next ≤ next → b.count ≡ count
+    all_taken : (insts : List Inst) (b : BodySoFar) (found : List Block) (n : Name) (next count : ℕ) (after : List Lexeme) → IsOpen (opened b) found n [] next count true → b.next ≤ next → b.count ≡ count
         → is_body insts ≡ true → InstsFit limits insts → AreNext next insts → next + length insts < limits.numbers → count + length insts ≤ limits.instructions → IsFresh after
-        → ((c : Body) → IsClosed c (found ++ record { name = n; insts = insts } ∷ []) (next_behind next insts) (count + length insts) → Shown c after)
+        → ((c : BodySoFar) → IsClosed c (found ++ record { name = n; insts = insts } ∷ []) (next_after next insts) (count + length insts) → Shown c after)
         → Shown b (body_tokens insts ++ after)
     all_taken [] b found n next count after h low same order fits numbers few room fresh then = absurd cc
     all_taken (inst ∷ more) b found n next count after h low same order fits numbers few room fresh then =
         insts_taken inst more b found n [] next count true after h low same order fits numbers few room fresh then
 
-    already_open : (b : Body) (found : List Block) (n : Name) (next count : ℕ) → IsOpen b found n [] next count true → IsOpen (opened b) found n [] next count true
+    already_open : (b : BodySoFar) (found : List Block) (n : Name) (next count : ℕ) → IsOpen b found n [] next count true → IsOpen (opened b) found n [] next count true
     already_open b found n next count h = subst (λ d. IsOpen d found n [] next count true) (sym (open_opened b n h.name)) h
 
-    -- a block behind its label
-    block_taken : (b : Block) (c : Body) (found : List Block) (k count : ℕ) (after : List Lexeme) → IsClosed c found k count → BlockFits limits b → IsNextName k b.name → AreNext (next_name k b.name) b.insts
+    -- a block after its label
+    block_taken : (b : Block) (c : BodySoFar) (found : List Block) (k count : ℕ) (after : List Lexeme) → IsClosed c found k count → BlockFits limits b → IsNextName k b.name → AreNext (next_name k b.name) b.insts
         → k + (1 + length b.insts) < limits.numbers → count + length b.insts ≤ limits.instructions → IsFresh after
-        → ((d : Body) → IsClosed d (found ++ b ∷ []) (next_behind (next_name k b.name) b.insts) (count + length b.insts) → Shown d after)
+        → ((d : BodySoFar) → IsClosed d (found ++ b ∷ []) (next_after (next_name k b.name) b.insts) (count + length b.insts) → Shown d after)
         → Shown c (label_token b.name ∷ (body_tokens b.insts ++ after))
     block_taken b c found k count after h fits name numbers few room fresh then =
         let bounds = name_few k b.name in
@@ -322,31 +322,31 @@ module _ (limits : Limits) (some : 0 < limits.indices) (dotted : Bool) where
     rest_fresh [] after h = h
     rest_fresh (b ∷ bs) after h = subst (λ ts. Fresh (head end_of_text ts).symbol) (sym (block_tokens b bs after)) (label_fresh b.name (body_tokens b.insts ++ (rest_tokens bs ++ after)))
 
-    -- the blocks behind the first
-    rest_taken : (bs : List Block) (c : Body) (found : List Block) (k count : ℕ) (after : List Lexeme) → IsClosed c found k count → BlocksFit limits bs → AreNextBlocks k bs → k + lines_in bs < limits.numbers
+    -- the blocks after the first
+    rest_taken : (bs : List Block) (c : BodySoFar) (found : List Block) (k count : ℕ) (after : List Lexeme) → IsClosed c found k count → BlocksFit limits bs → AreNextBlocks k bs → k + lines_in bs < limits.numbers
         → count + instructions_of bs ≤ limits.instructions → IsFresh after
-        → ((d : Body) → IsClosed d (found ++ bs) (next_blocks k bs) (count + instructions_of bs) → Shown d after)
+        → ((d : BodySoFar) → IsClosed d (found ++ bs) (next_blocks k bs) (count + instructions_of bs) → Shown d after)
         → Shown c (rest_tokens bs ++ after)
     rest_taken [] c found k count after h fits numbers few room fresh then = then c (record { blocks = h.blocks ∙ sym (append-nil found); name = h.name; next_is = h.next_is; count_is = h.count_is ∙ omega arith })
     rest_taken (b ∷ bs) c found k count after h fits numbers few room fresh then =
-        let size = behind_few (next_name k b.name) b.insts in
+        let size = after_few (next_name k b.name) b.insts in
         let bounds = name_few k b.name in
-        let next : ℕ = next_behind (next_name k b.name) b.insts in
+        let next : ℕ = next_after (next_name k b.name) b.insts in
         subst (Shown c) (sym (block_tokens b bs after))
         (block_taken b c found k count (rest_tokens bs ++ after) h fits.0 numbers.0 numbers.1 (omega (arith, few)) (omega (arith, room)) (rest_fresh bs after fresh)
         (λ d closes. rest_taken bs d (found ++ b ∷ []) next (count + length b.insts) after closes fits.1 numbers.2 (omega (arith, few, size, bounds)) (omega (arith, room)) fresh
         (λ e ends. then e (record { blocks = ends.blocks ∙ append_assoc found (b ∷ []) bs; name = ends.name; next_is = ends.next_is; count_is = ends.count_is ∙ omega arith }))))
 
-    entry_opened : (c : Body) (k count n : ℕ) → IsClosed c [] k count → n ≡ k → IsOpen (opened c) [] (Number n) [] (k + 1) count true
+    entry_opened : (c : BodySoFar) (k count n : ℕ) → IsClosed c [] k count → n ≡ k → IsOpen (opened c) [] (Number n) [] (k + 1) count true
     unfolding opened
     entry_opened c k count n h e =
         subst (λ x. IsOpen (opened_by x c) [] (Number n) [] (k + 1) count true) (sym h.name)
         (record { blocks = h.blocks; name = ap (λ j. Some (Number j)) (h.next_is ∙ sym e); insts_are = refl; next_is = ap (λ j. j + 1) h.next_is; count_is = h.count_is; phis_are = refl })
 
     -- the first block, whose label is missing where its name is a number
-    entry_taken : (x : Name) (insts : List Inst) (c : Body) (k count : ℕ) (after : List Lexeme) → IsClosed c [] k count → BlockFits limits (record { name = x; insts = insts }) → IsNextName k x → AreNext (next_name k x) insts
+    entry_taken : (x : Name) (insts : List Inst) (c : BodySoFar) (k count : ℕ) (after : List Lexeme) → IsClosed c [] k count → BlockFits limits (record { name = x; insts = insts }) → IsNextName k x → AreNext (next_name k x) insts
         → k + (1 + length insts) < limits.numbers → count + length insts ≤ limits.instructions → IsFresh after
-        → ((d : Body) → IsClosed d (record { name = x; insts = insts } ∷ []) (next_behind (next_name k x) insts) (count + length insts) → Shown d after)
+        → ((d : BodySoFar) → IsClosed d (record { name = x; insts = insts } ∷ []) (next_after (next_name k x) insts) (count + length insts) → Shown d after)
         → Shown c (line_tokens (entry_label x) ++ (body_tokens insts ++ after))
     entry_taken (Number n) insts c k count after h fits name numbers few room fresh then =
         all_taken insts c [] (Number n) (k + 1) count after (entry_opened c k count n h name) (omega (arith, h.next_is)) h.count_is fits.order fits.insts numbers (omega (arith, few)) room fresh then
@@ -359,14 +359,14 @@ module _ (limits : Limits) (some : 0 < limits.indices) (dotted : Bool) where
         ∙ append_assoc (line_tokens (entry_label b.name)) (body_tokens b.insts ++ rest_tokens bs) after ∙ ap (λ ys. line_tokens (entry_label b.name) ++ ys) (append_assoc (body_tokens b.insts) (rest_tokens bs) after)
 
     -- the blocks of a function, at least one
-    blocks_taken : (b : Block) (bs : List Block) (c : Body) (k count : ℕ) (after : List Lexeme) → IsClosed c [] k count → BlocksFit limits (b ∷ bs) → AreNextBlocks k (b ∷ bs) → k + lines_in (b ∷ bs) < limits.numbers
+    blocks_taken : (b : Block) (bs : List Block) (c : BodySoFar) (k count : ℕ) (after : List Lexeme) → IsClosed c [] k count → BlocksFit limits (b ∷ bs) → AreNextBlocks k (b ∷ bs) → k + lines_in (b ∷ bs) < limits.numbers
         → count + instructions_of (b ∷ bs) ≤ limits.instructions → IsFresh after
-        → ((d : Body) → IsClosed d (b ∷ bs) (next_blocks k (b ∷ bs)) (count + instructions_of (b ∷ bs)) → Shown d after)
+        → ((d : BodySoFar) → IsClosed d (b ∷ bs) (next_blocks k (b ∷ bs)) (count + instructions_of (b ∷ bs)) → Shown d after)
         → Shown c (line_tokens (blocks_lines dotted (b ∷ bs)) ++ after)
     blocks_taken b bs c k count after h fits numbers few room fresh then =
-        let size = behind_few (next_name k b.name) b.insts in
+        let size = after_few (next_name k b.name) b.insts in
         let bounds = name_few k b.name in
-        let next : ℕ = next_behind (next_name k b.name) b.insts in
+        let next : ℕ = next_after (next_name k b.name) b.insts in
         subst (Shown c) (sym (all_tokens b bs after))
         (entry_taken b.name b.insts c k count (rest_tokens bs ++ after) h fits.0 numbers.0 numbers.1 (omega (arith, few)) (omega (arith, room)) (rest_fresh bs after fresh)
         (λ d closes. rest_taken bs d (b ∷ []) next (count + length b.insts) after closes fits.1 numbers.2 (omega (arith, few, size, bounds)) (omega (arith, room)) fresh
@@ -374,8 +374,8 @@ module _ (limits : Limits) (some : 0 < limits.indices) (dotted : Bool) where
 
   -- ---- the blocks of a function, up to and with `}`
 
-  abbrev Final : List Block → ℕ → ℕ → List Lexeme → Body → List Lexeme → Type 0
-  Final bs next count end b ts = (d : Body) × IsClosed d bs next count × Reads b ts d end
+  abbrev Final : List Block → ℕ → ℕ → List Lexeme → BodySoFar → List Lexeme → Type 0
+  Final bs next count end b ts = (d : BodySoFar) × IsClosed d bs next count × Reads b ts d end
 
   brace_symbol : (sign (codes "}")).symbol ≡ s.CloseBrace
   unfolding symbol_of
@@ -389,22 +389,22 @@ module _ (limits : Limits) (some : 0 < limits.indices) (dotted : Bool) where
   unfolding same_symbol
   brace_taken = word_taken s.CloseBrace refl brace_symbol
 
-  body_ends : (d : Body) (rest : List Lexeme) → d.next < limits.numbers → Reads d (sign (codes "}") ∷ rest) d (sign (codes "}") ∷ rest)
+  body_ends : (d : BodySoFar) (rest : List Lexeme) → d.next < limits.numbers → Reads d (sign (codes "}") ∷ rest) d (sign (codes "}") ∷ rest)
   unfolding line_begins symbol_of binary_op cast_op
   body_ends d rest few = ended (ap (λ b. cond b (Ok false) (Err r.Numbering)) (lt-ltb d.next limits.numbers few))
 
   blocks_few : (k : ℕ) (bs : List Block) → next_blocks k bs ≤ k + lines_in bs
   blocks_few k [] = omega arith
   blocks_few k (b ∷ bs) =
-      let rest = blocks_few (next_behind (next_name k b.name) b.insts) bs in
-      let size = behind_few (next_name k b.name) b.insts in
+      let rest = blocks_few (next_after (next_name k b.name) b.insts) bs in
+      let size = after_few (next_name k b.name) b.insts in
       let bounds = name_few k b.name in
       omega (arith, rest, size, bounds)
 
-  whole : (d : Body) (b : Block) (bs : List Block) (next count : ℕ) → IsClosed d (b ∷ bs) next count → is_whole d ≡ true
+  whole : (d : BodySoFar) (b : Block) (bs : List Block) (next count : ℕ) → IsClosed d (b ∷ bs) next count → is_whole d ≡ true
   whole d b bs next count h = ap (λ x. not (is_open x) && not (length d.blocks == 0)) h.name ∙ ap (λ xs. not (length xs == 0)) h.blocks ∙ ap not (ne_eqb (length (b ∷ bs)) 0 (λ e. absurd (omega (arith, e))))
 
-  pub body_taken : (b : Block) (bs : List Block) (c : Body) (k count : ℕ) (rest : List Lexeme) → IsClosed c [] k count → BlocksFit limits (b ∷ bs) → AreNextBlocks k (b ∷ bs) → k + lines_in (b ∷ bs) < limits.numbers
+  pub body_taken : (b : Block) (bs : List Block) (c : BodySoFar) (k count : ℕ) (rest : List Lexeme) → IsClosed c [] k count → BlocksFit limits (b ∷ bs) → AreNextBlocks k (b ∷ bs) → k + lines_in (b ∷ bs) < limits.numbers
       → count + instructions_of (b ∷ bs) ≤ limits.instructions → Takes (blocks limits c) (line_tokens (blocks_lines dotted (b ∷ bs)) ++ sign (codes "}") ∷ rest) (b ∷ bs) rest
   unfolding blocks
   body_taken b bs c k count rest h fits numbers few room =

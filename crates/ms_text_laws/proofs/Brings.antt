@@ -23,8 +23,8 @@ pub chained : {A B : Type 0} {P : A → Type 0} {Q : B → Type 0} {g : Rule A} 
 chained p q = record { each = λ ts v rest h. (q h.0 (p.each ts h.0 h.1 h.2)).each h.1 v rest h.3 }
 
 -- whatever the first piece reads
-pub behind : {A B : Type 0} {Q : B → Type 0} {g : Rule A} {k : A → Rule B} → ((a : A) → Brings (k a) Q) → Brings (seq g k) Q
-behind q = record { each = λ ts v rest h. (q h.0).each h.1 v rest h.3 }
+pub after : {A B : Type 0} {Q : B → Type 0} {g : Rule A} {k : A → Rule B} → ((a : A) → Brings (k a) Q) → Brings (seq g k) Q
+after q = record { each = λ ts v rest h. (q h.0).each h.1 v rest h.3 }
 
 pub either : {A : Type 0} {P : A → Type 0} {g h : Rule A} (b : Bool) → Brings g P → Brings h P → Brings (cond b g h) P
 either true p q = p
@@ -50,7 +50,7 @@ looped {P = P} {begins = begins} {body = body} {a = a} p more = record { each = 
 pub listed_brings : {S : Type 0} (P : S → Type 0) (closing : Symbol) (going : S → Bool) (item : S → Rule S) (a : S) → P a → ((b : S) → P b → Brings (item b) P) → Brings (listed closing going item a) P
 unfolding listed
 listed_brings P closing going item a p more =
-    behind (λ empty. either empty (behind (λ taken. given p)) (chained (more a p) (λ first q. chained {P = P} (looped q (λ b t r e. more b r)) (λ all r. behind (λ word. given r)))))
+    after (λ empty. either empty (after (λ taken. given p)) (chained (more a p) (λ first q. chained {P = P} (looped q (λ b t r e. more b r)) (λ all r. after (λ word. given r)))))
 
 -- each item passes a test
 pub items_bring : {A : Type 0} (closing : Symbol) (item : Rule A) (test : A → Bool) → Brings item (λ v. test v ≡ true) → Brings (items closing item) (λ v. list_all test v ≡ true)

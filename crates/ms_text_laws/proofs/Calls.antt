@@ -22,12 +22,12 @@ use Rattle.ms_text_grammar.specs.Types.{value_type_of}
 use Rattle.ms_text_grammar.specs.Insts.{Marked, call_type, is_printf, callee_name, callee_by, callee, names_printf, max_parameters, argument, arguments, call_rule}
 use Rattle.ms_text_grammar.specs.Bodies.{is_void_call}
 use Rattle.ms_text_grammar.specs.Texts.{ReadsUpTo}
-use Rattle.ms_valid.specs.FormedNames.{is_global_name}
-use Rattle.ms_valid.specs.FormedCode.{is_value_type, result_formed, operand_formed}
+use Rattle.ms_check_valid.specs.FormedNames.{is_global_name}
+use Rattle.ms_check_valid.specs.FormedCode.{is_value_type, result_formed, operand_formed}
 use Rattle.ms_text_laws.proofs.Sound.{IsSound, AllSound, all_pushed, no_value, if_else, if_within}
 use Rattle.ms_text_laws.proofs.Names.{global_name_formed}
 use Rattle.ms_text_laws.proofs.FormedTypes.{value_type_of_formed, value_is_type}
-use Rattle.ms_text_laws.proofs.Yields.{Yields, given, judged, chained, behind, listed_yields}
+use Rattle.ms_text_laws.proofs.Yields.{Yields, given, judged, chained, after, listed_yields}
 use Rattle.ms_text_laws.proofs.Parts.{IsCall, AllOperands, op_is, value_type_read, result_type_read, value_read}
 
 -- ---- the callee
@@ -73,7 +73,7 @@ unfolding argument
 argument_read form counted found h =
     chained {P = λ t. is_value_type t ≡ true}
     (judged (λ t v sound e. value_type_of_formed t v sound (if_within (not counted || nat_lt (length found) max_parameters) limit.Parameters (value_type_of t) v e).1))
-    (λ t w. behind (λ over. chained (value_read form t (value_is_type t w)) (λ a p. given (value_more found t a h w p))))
+    (λ t w. after (λ over. chained (value_read form t (value_is_type t w)) (λ a p. given (value_more found t a h w p))))
 
 arguments_read : (form : Form) (counted : Bool) → Yields (arguments form counted) AreValues
 unfolding arguments
@@ -99,8 +99,8 @@ call_is ret x args f g h =
 call_yields : (form : Form) (named : Bool) (first : Symbol) → Yields (call_rule form named first) (λ m. IsCall m.0)
 unfolding call_rule
 call_yields form named first =
-    behind (λ word. behind (λ over. chained (call_type_read named) (λ ret f. behind (λ dotted. chained (callee_read form dotted) (λ x g.
-    behind (λ paren. chained (arguments_read form (names_printf x)) (λ args h. behind (λ marked. given (call_is ret x args f g h)))))))))
+    after (λ word. after (λ over. chained (call_type_read named) (λ ret f. after (λ dotted. chained (callee_read form dotted) (λ x g.
+    after (λ paren. chained (arguments_read form (names_printf x)) (λ args h. after (λ marked. given (call_is ret x args f g h)))))))))
 
 pub call_read : (form : Form) (named : Bool) (first : Symbol) (ts : List Lexeme) (v : Marked) (rest : List Lexeme) → AllSound ts → ReadsUpTo (call_rule form named first) ts v rest → IsCall v.0
 call_read form named first = (call_yields form named first).each

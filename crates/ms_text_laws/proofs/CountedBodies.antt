@@ -9,7 +9,7 @@ use Rattle.ms_ir.specs.declared.syntax.Inst.{Inst}
 use Rattle.ms_ir.specs.declared.syntax.Name.{Name}
 use Rattle.ms_ir.specs.declared.syntax.Op.{Op}
 use Rattle.ms_ir.specs.declared.forms.Form.{Form}
-use Rattle.ms_text_grammar.specs.declared.states.Body.{Body}
+use Rattle.ms_text_grammar.specs.declared.states.BodySoFar.{BodySoFar}
 use Rattle.ms_text_grammar.specs.declared.symbols.Symbol.{Symbol}
 use Rattle.ms_text_grammar.specs.declared.symbols.Symbol.TheVariants as s
 use Rattle.ms_text_grammar.specs.Lexemes.{Lexeme}
@@ -31,14 +31,14 @@ blocks_more [] b = omega arith
 blocks_more (c ∷ bs) b = let rest = blocks_more bs b in omega (arith, rest)
 
 -- the operands in a body so far
-abbrev pub operands_in : Body → ℕ
+abbrev pub operands_in : BodySoFar → ℕ
 operands_in b = over_blocks count_operands b.blocks + over_insts count_operands b.insts
 
 -- ---- one instruction more
 
-module _ (a : Body) where
+module _ (a : BodySoFar) where
   -- what takes an operation into the body
-  abbrev Adds : (Marked → Body) → Type 0
+  abbrev Adds : (Marked → BodySoFar) → Type 0
   Adds add = (m : Marked) → operands_in (add m) ≡ operands_in a + arity m.0
 
   value_adds : (result : Option Name) (phis : Bool) → Adds (with_value a result phis)
@@ -67,11 +67,11 @@ module _ (a : Body) where
 
   -- ---- one line
 
-  module _ (form : Form) (ts : List Lexeme) (v : Body) (rest : List Lexeme) where
+  module _ (form : Form) (ts : List Lexeme) (v : BodySoFar) (rest : List Lexeme) where
     abbrev Grown : Type 0
     Grown = operands_in v + length rest ≤ operands_in a + 1 + length ts
 
-    grown : (add : Marked → Body) → Adds add → (rule : Rule Marked) → Counted rule → ReadsUpTo (rule >>= λ m. give (add m)) ts v rest → Grown
+    grown : (add : Marked → BodySoFar) → Adds add → (rule : Rule Marked) → Counted rule → ReadsUpTo (rule >>= λ m. give (add m)) ts v rest → Grown
     grown add adds rule counted h =
         let few = counted ts h.0 h.1 h.2 in
         let more = adds h.0 in
@@ -131,33 +131,33 @@ module _ (a : Body) where
     unfolding instruction
     instruction_grown result x h = by_operation result x (binary_op x) (cast_op x) h
 
-named_line_grown : (form : Form) (a : Body) (n : Name) (ts : List Lexeme) (v : Body) (rest : List Lexeme) → ReadsUpTo (named_line form a n) ts v rest → operands_in v + length rest ≤ operands_in a + 1 + length ts
+named_line_grown : (form : Form) (a : BodySoFar) (n : Name) (ts : List Lexeme) (v : BodySoFar) (rest : List Lexeme) → ReadsUpTo (named_line form a n) ts v rest → operands_in v + length rest ≤ operands_in a + 1 + length ts
 unfolding named_line
 named_line_grown form a n ts v rest h =
     let equals = left (word s.Equals) ts h.0 h.1 h.2 in
     let symbol = left (one (value_word_of a.phis)) h.1 h.3.0 h.3.1 h.3.2 in
-    let behind = instruction_grown a form h.3.1 v rest (Some n) h.3.0 h.3.3 in
-    omega (arith, equals, symbol, behind)
+    let after = instruction_grown a form h.3.1 v rest (Some n) h.3.0 h.3.3 in
+    omega (arith, equals, symbol, after)
 
 -- ---- a line and its first token
 
-opened_less_by : (b : Body) (n : Option Name) → operands_in (opened_by n b) ≤ operands_in b
+opened_less_by : (b : BodySoFar) (n : Option Name) → operands_in (opened_by n b) ≤ operands_in b
 opened_less_by b (Some n) = omega arith
 opened_less_by b None = omega arith
 
-opened_less : (b : Body) → operands_in (opened b) ≤ operands_in b
+opened_less : (b : BodySoFar) → operands_in (opened b) ≤ operands_in b
 unfolding opened
 opened_less b = opened_less_by b b.name
 
-module _ (form : Form) (b : Body) (t : Lexeme) (ts : List Lexeme) (v : Body) (rest : List Lexeme) where
+module _ (form : Form) (b : BodySoFar) (t : Lexeme) (ts : List Lexeme) (v : BodySoFar) (rest : List Lexeme) where
   abbrev Falls : Type 0
   Falls = operands_in v + length rest ≤ operands_in b + length (t ∷ ts)
 
   stays : length rest ≤ length ts → operands_in v ≤ operands_in b → Falls
   stays fewer same = omega (arith, fewer, same)
 
-  behind_first : length rest ≤ length ts → operands_in v + length rest ≤ operands_in (opened b) + 1 + length ts → Falls
-  behind_first fewer more =
+  after_first : length rest ≤ length ts → operands_in v + length rest ≤ operands_in (opened b) + 1 + length ts → Falls
+  after_first fewer more =
       let less = opened_less b in
       omega (arith, fewer, more, less)
 
@@ -168,9 +168,9 @@ module _ (form : Form) (b : Body) (t : Lexeme) (ts : List Lexeme) (v : Body) (re
       let same = ap operands_in (record_line_is form (opened b) ts v rest h) in
       let less = opened_less b in
       stays (left (record_line form (opened b)) ts v rest h) (omega (arith, same, less))
-  line_falls_by s.Local h = behind_first (left (line_by form b s.Local t) ts v rest h) (named_line_grown form (opened b) _ ts v rest h)
-  line_falls_by s.NumberedLocal h = behind_first (left (line_by form b s.NumberedLocal t) ts v rest h) (named_line_grown form (opened b) _ ts v rest h)
-  line_falls_by x h = behind_first (left (instruction form (opened b) None x) ts v rest h) (instruction_grown (opened b) form ts v rest None x h)
+  line_falls_by s.Local h = after_first (left (line_by form b s.Local t) ts v rest h) (named_line_grown form (opened b) _ ts v rest h)
+  line_falls_by s.NumberedLocal h = after_first (left (line_by form b s.NumberedLocal t) ts v rest h) (named_line_grown form (opened b) _ ts v rest h)
+  line_falls_by x h = after_first (left (instruction form (opened b) None x) ts v rest h) (instruction_grown (opened b) form ts v rest None x h)
 
   line_falls : ReadsUpTo (line form b t) ts v rest → Falls
   unfolding line
@@ -178,14 +178,14 @@ module _ (form : Form) (b : Body) (t : Lexeme) (ts : List Lexeme) (v : Body) (re
 
 -- ---- bodies
 
-blocks_end : (whole : Bool) (body : Body) (ts : List Lexeme) (v : List Block) (rest : List Lexeme)
+blocks_end : (whole : Bool) (body : BodySoFar) (ts : List Lexeme) (v : List Block) (rest : List Lexeme)
     → ReadsUpTo (cond whole (word s.CloseBrace >> give body.blocks) refuse) ts v rest → (over_blocks count_operands v ≤ operands_in body) × (length rest ≤ length ts)
 blocks_end true body ts v rest h =
     let same = ap (over_blocks count_operands) h.3.0 in
     (omega (arith, same), left (word s.CloseBrace >> give body.blocks) ts v rest h)
 blocks_end false body ts v rest h = absurd (no_value _ v h.0)
 
-pub blocks_fall : (form : Form) (start : Body) (ts : List Lexeme) (v : List Block) (rest : List Lexeme)
+pub blocks_fall : (form : Form) (start : BodySoFar) (ts : List Lexeme) (v : List Block) (rest : List Lexeme)
     → ReadsUpTo (blocks form start) ts v rest → over_blocks count_operands v + length rest ≤ operands_in start + length ts
 unfolding blocks
 blocks_fall form start ts v rest h =

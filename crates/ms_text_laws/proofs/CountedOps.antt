@@ -13,7 +13,7 @@ use Rattle.ms_ir.specs.declared.syntax.Operand.{Operand}
 use Rattle.ms_ir.specs.declared.syntax.Ty.{Ty}
 use Rattle.ms_ir.specs.declared.syntax.Ty.TheVariants as ty
 use Rattle.ms_ir.specs.declared.forms.Form.{Form}
-use Rattle.ms_text_grammar.specs.declared.states.Edges.{Edges}
+use Rattle.ms_text_grammar.specs.declared.states.PhiEdges.{PhiEdges}
 use Rattle.ms_text_grammar.specs.declared.states.Indices.{Indices}
 use Rattle.ms_text_grammar.specs.declared.symbols.Symbol.{Symbol}
 use Rattle.ms_text_grammar.specs.declared.symbols.Symbol.TheVariants as s
@@ -200,18 +200,18 @@ module _ (form : Form) where
 
   -- ---- edges
 
-  edge_more_by : (type : Ty) (found : List (Operand × Name)) (x : Symbol) (ts : List Lexeme) (v : Edges) (rest : List Lexeme) → ReadsUpTo (edge_by form type found x) ts v rest → length v.found ≤ length found + 1
+  edge_more_by : (type : Ty) (found : List (Operand × Name)) (x : Symbol) (ts : List Lexeme) (v : PhiEdges) (rest : List Lexeme) → ReadsUpTo (edge_by form type found x) ts v rest → length v.found ≤ length found + 1
   edge_more_by type found s.OpenBracket ts v rest h =
       let same = ap (λ e. length e.found) h.3.3.0 in
       let more = length_more found h.3.0 in
       omega (arith, same, more)
   edge_more_by type found x ts v rest h = let same = ap (λ e. length e.found) h.0 in omega (arith, same)
 
-  edge_more : (type : Ty) (found : List (Operand × Name)) (ts : List Lexeme) (v : Edges) (rest : List Lexeme) → ReadsUpTo (edge_turn form type found) ts v rest → length v.found ≤ length found + 1
+  edge_more : (type : Ty) (found : List (Operand × Name)) (ts : List Lexeme) (v : PhiEdges) (rest : List Lexeme) → ReadsUpTo (edge_turn form type found) ts v rest → length v.found ≤ length found + 1
   unfolding edge_turn
   edge_more type found ts v rest h = edge_more_by type found h.0 h.1 v rest h.3
 
-  edges_count : (type : Ty) (start : Edges) (ts : List Lexeme) (v : Edges) (rest : List Lexeme)
+  edges_count : (type : Ty) (start : PhiEdges) (ts : List Lexeme) (v : PhiEdges) (rest : List Lexeme)
       → ReadsUpTo (loop edge_begins (λ edges comma. edge_turn form type edges.found) start) ts v rest → length v.found + length rest ≤ length start.found + length ts
   edges_count type = loop_counts edge_begins (λ edges comma. edge_turn form type edges.found) (λ e. length e.found) (λ a t. edge_more type a.found)
 

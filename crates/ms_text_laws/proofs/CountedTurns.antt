@@ -48,11 +48,11 @@ module _ {S : Type 0} (closing : Symbol) (more : S → Bool) (item : S → Rule 
       omega (arith, same, fewer)
   list_counts false start ts v rest h =
       let first = one_more start ts h.0 h.1 h.2 in
-      let behind_first = left (item start) ts h.0 h.1 h.2 in
+      let after_first = left (item start) ts h.0 h.1 h.2 in
       let others = loop_counts (comma_begins more) (λ state comma. item state) size (λ a t. one_more a) h.0 h.1 h.3.0 h.3.1 h.3.2 in
-      let behind_others = left (word closing >> give h.3.0) h.3.1 v rest h.3.3 in
+      let after_others = left (word closing >> give h.3.0) h.3.1 v rest h.3.3 in
       let same = ap size h.3.3.3.0 in
-      omega (arith, first, behind_first, others, behind_others, same)
+      omega (arith, first, after_first, others, after_others, same)
 
   pub listed_counts : (start : S) (ts : List Lexeme) (v : S) (rest : List Lexeme) → ReadsUpTo (listed closing more item start) ts v rest → size v + length rest ≤ size start + 1 + length ts
   unfolding listed

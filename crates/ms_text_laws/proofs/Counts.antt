@@ -12,7 +12,7 @@ use Rattle.ms_ir.specs.declared.syntax.Func.{Func}
 use Rattle.ms_ir.specs.declared.syntax.Module.{Module}
 use Rattle.ms_ir.specs.declared.forms.Form.{Form}
 use Rattle.ms_ir.specs.declared.forms.Form.TheVariants.{Plain, Instrumented}
-use Rattle.ms_text_grammar.specs.declared.states.Parts.{Parts}
+use Rattle.ms_text_grammar.specs.declared.states.ModuleSoFar.{ModuleSoFar}
 use Rattle.ms_text_grammar.specs.declared.symbols.Symbol.{Symbol}
 use Rattle.ms_text_grammar.specs.declared.symbols.Symbol.TheVariants as s
 use Rattle.ms_text_grammar.specs.Lexemes.{Lexeme, lexeme_of, lexemes_of}
@@ -21,11 +21,11 @@ use Rattle.ms_text_grammar.specs.Names.{global}
 use Rattle.ms_text_grammar.specs.Types.{result_type}
 use Rattle.ms_text_grammar.specs.Bodies.{max_instructions}
 use Rattle.ms_text_grammar.specs.Bounds.{instructions_among, WithinLimits}
-use Rattle.ms_text_grammar.specs.Functions.{parameters, linkage, function_tail, body_behind, function}
+use Rattle.ms_text_grammar.specs.Functions.{parameters, linkage, function_tail, body_after, function}
 use Rattle.ms_text_grammar.specs.Modules.{entity_begins, entity, entity_by, no_parts, module_rule}
 use Rattle.ms_text_grammar.specs.Texts.{HasTokens, Reads, ReadsUpTo, max_tokens}
 use Rattle.ms_text_grammar.proofs.Bounds.{module_within}
-use Rattle.ms_valid.specs.Formed.{count_written}
+use Rattle.ms_check_valid.specs.Formed.{count_written}
 use Rattle.ms_text_laws.proofs.Fits.{counted_blocks}
 use Rattle.ms_text_laws.proofs.CountedTurns.{left, turns_fall}
 use Rattle.ms_text_laws.proofs.CountedOps.{count_operands}
@@ -51,7 +51,7 @@ function_falls form before ts f rest h =
     let parameters_left = left (parameters form false) opened.1 with_parameters.0 with_parameters.1 with_parameters.2 in
     let tail_left = left (function_tail form) with_parameters.1 with_tail.0 with_tail.1 with_tail.2 in
     let brace_left = left (word s.OpenBrace) with_tail.1 braced.0 braced.1 braced.2 in
-    let all = blocks_fall form (body_behind with_parameters.0 before) braced.1 body.0 body.1 body.2 in
+    let all = blocks_fall form (body_after with_parameters.0 before) braced.1 body.0 body.1 body.2 in
     let same = ap (λ g. over_blocks count_operands g.blocks) body.3.0 in
     let end = ap length body.3.1 in
     omega (arith, linkage_left, result_left, name_left, paren_left, parameters_left, tail_left, brace_left, all, same, end)
@@ -63,10 +63,10 @@ funcs_more [] f = omega arith
 funcs_more (g ∷ fs) f = let rest = funcs_more fs f in omega (arith, rest)
 
 -- the operands of the functions so far
-abbrev operands_of : Parts → ℕ
+abbrev operands_of : ModuleSoFar → ℕ
 operands_of p = over_funcs count_operands p.«module».funcs
 
-module _ (form : Form) (p : Parts) (t : Lexeme) (ts : List Lexeme) (v : Parts) (rest : List Lexeme) where
+module _ (form : Form) (p : ModuleSoFar) (t : Lexeme) (ts : List Lexeme) (v : ModuleSoFar) (rest : List Lexeme) where
   abbrev Falls : Type 0
   Falls = operands_of v + length rest ≤ operands_of p + length (t ∷ ts)
 

@@ -17,12 +17,12 @@ use Rattle.ms_ir.specs.declared.syntax.GlobalVar.{GlobalVar}
 use Rattle.ms_ir.specs.declared.syntax.Module.{Module}
 use Rattle.ms_ir.specs.Instructions.{over_insts, over_blocks, over_funcs}
 use Rattle.ms_text_grammar.specs.Modules.{instructions_of}
-use Rattle.ms_valid.specs.FormedNames.{is_local_name, is_global_name, name_number, count_up, are_numbered}
-use Rattle.ms_valid.specs.FormedCode.{is_value_type, type_formed, result_formed, init_formed, op_formed, name_formed, inst_formed, is_body}
-use Rattle.ms_valid.specs.Formed.{is_struct, named_type_formed, global_formed, decl_formed, block_formed, func_formed, Formed}
-use Rattle.ms_valid.specs.ReadLimits.{type_depth, init_depth, mentioned, func_names, module_names}
+use Rattle.ms_check_valid.specs.FormedNames.{is_local_name, is_global_name, name_number, count_up, are_numbered}
+use Rattle.ms_check_valid.specs.FormedCode.{is_value_type, type_formed, result_formed, init_formed, op_formed, name_formed, inst_formed, is_body}
+use Rattle.ms_check_valid.specs.Formed.{is_struct, named_type_formed, global_formed, decl_formed, block_formed, func_formed, Formed}
+use Rattle.ms_check_valid.specs.ReadLimits.{type_depth, init_depth, mentioned, func_names, module_names}
 use Rattle.ms_ir.specs.Written.{Mention, type_mentions, init_mentions, mentions, op_types, result_type}
-use Rattle.ms_valid.specs.NamesKnown.{global_mentions}
+use Rattle.ms_check_valid.specs.NamesKnown.{global_mentions}
 use Rattle.ms_ir.specs.Locals.{results, block_locals, parameter_names, locals, func_insts, symbols, global_names, declared_names, function_names, type_names}
 use Rattle.ms_text_laws.proofs.Limited.{Limits}
 use Rattle.ms_text_laws.proofs.Spelled.{is_below}
@@ -31,7 +31,7 @@ use Rattle.ms_text_laws.proofs.Values.{few_within}
 use Rattle.ms_text_laws.proofs.Insts.{are_within, within_parts}
 use Rattle.ms_text_laws.proofs.Ops.{few_indices_of, few_printed}
 use Rattle.ms_text_laws.proofs.Lines.{is_short_result, inst_of}
-use Rattle.ms_text_laws.proofs.Bodies.{AreNext, next_behind, next_name, IsNextName, InstsFit, BlocksFit, AreNextBlocks, lines_in}
+use Rattle.ms_text_laws.proofs.Bodies.{AreNext, next_after, next_name, IsNextName, InstsFit, BlocksFit, AreNextBlocks, lines_in}
 use Rattle.ms_text_laws.proofs.Functions.{AreNextParams, next_params, FuncFits}
 use Rattle.ms_text_laws.proofs.Modules.{NamedsFit, GlobalsFit, DeclsFit, FuncsFit, ModuleFits}
 
@@ -80,7 +80,7 @@ params_counted ((t, Number n) ∷ params) k more h =
 params_counted ((t, Called x) ∷ params) k more h = let rest = params_counted params k more h in ((tt, rest.0), rest.1)
 
 abbrev Counted : List Inst → Type 0
-Counted insts = (k : ℕ) (more : List Name) → Counts k (results insts ++ more) → AreNext k insts × Counts (next_behind k insts) more
+Counted insts = (k : ℕ) (more : List Name) → Counts k (results insts ++ more) → AreNext k insts × Counts (next_after k insts) more
 
 one_counted : (o : Op) (result : Option Name) (marked : Bool) (insts : List Inst) → Counted insts → Counted (inst_of o result marked ∷ insts)
 one_counted o None marked insts rest k more h = let r = rest k more h in ((tt, r.0), r.1)
@@ -106,7 +106,7 @@ blocks_counted [] k h = tt
 blocks_counted (b ∷ bs) k h =
     let name = name_counted b.name k (results b.insts ++ flat_map block_locals bs) h in
     let insts = insts_counted b.insts (next_name k b.name) (flat_map block_locals bs) name.1 in
-    (name.0, insts.0, blocks_counted bs (next_behind (next_name k b.name) b.insts) insts.1)
+    (name.0, insts.0, blocks_counted bs (next_after (next_name k b.name) b.insts) insts.1)
 
 -- ---- instructions and blocks
 

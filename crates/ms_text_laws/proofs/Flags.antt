@@ -18,9 +18,9 @@ use Rattle.ms_text_grammar.specs.declared.symbols.Symbol.TheVariants as s
 use Rattle.ms_text_grammar.specs.Lexemes.{Lexeme, end_of_text, same_symbol, symbol_of, word_symbol}
 use Rattle.ms_text_grammar.specs.Skipped.{is_attribute, meta, in_parens, attached, suffix, suffixes, suffixes_from}
 use Rattle.ms_text_grammar.specs.Insts.{is_set, with_flag, flag_begins, flags_of, binary_carries, cast_carries, compare_carries, predicate_by, predicate_word, known}
-use Rattle.ms_valid.specs.FormedCode.{are_among, binary_flags, cast_flags}
-use Rattle.ms_text_layout.specs.Pieces.{word as word_token, meta as meta_token}
-use Rattle.ms_text_layout.specs.Insts.{binary_word, cast_word, predicate_text, flag_token, flag_tokens, mark_tokens}
+use Rattle.ms_check_valid.specs.FormedCode.{are_among, binary_flags, cast_flags}
+use Rattle.ms_text_grammar.specs.LayoutPieces.{word as word_token, meta as meta_token}
+use Rattle.ms_text_grammar.specs.LayoutInsts.{binary_word, cast_word, predicate_text, flag_token, flag_tokens, mark_tokens}
 use Rattle.ms_text_laws.proofs.Takes.{Takes, given, taken, seen, chain, turned, ended, by_symbol}
 use Rattle.ms_text_laws.proofs.Listed.{comma_is}
 
@@ -74,7 +74,7 @@ module _ (carries : Symbol → Bool) where
       let begins : (carries (word_token text).symbol && not (is_set start (word_token text).symbol)) ≡ true = ap (λ y. carries y && not (is_set start y)) e ∙ and_from (carries x) (not (is_set start x)) may (ap not unset) in
       turned (ap Ok begins) given (rw e p)
 
-  -- the state behind a flag
+  -- the state after a flag
   set_nuw : (b : Bool) → cond b (with_flag no_flags s.Nuw) no_flags ≡ record no_flags { nuw = b }
   set_nuw true = refl
   set_nuw false = refl
@@ -271,7 +271,7 @@ node_symbol : (meta_token (codes "!0")).symbol ≡ s.Meta
 unfolding symbol_of
 node_symbol = refl
 
--- the mark behind its comma
+-- the mark after its comma
 pub mark_taken : (rest : List Lexeme) → IsFresh rest → Takes (suffix Instrumented false) (meta_token (codes "!nosanitize") ∷ meta_token (codes "!0") ∷ rest) true rest
 unfolding suffix attached meta in_parens symbol_of same_symbol
 mark_taken rest h =

@@ -19,7 +19,7 @@ use Rattle.ms_ir.specs.declared.syntax.Ty.{Ty}
 use Rattle.ms_ir.specs.declared.forms.Form.{Form}
 use Rattle.ms_text_grammar.specs.declared.refusals.Limit.TheVariants as limit
 use Rattle.ms_text_grammar.specs.declared.refusals.Cause.TheVariants as r
-use Rattle.ms_text_grammar.specs.declared.states.Body.{Body}
+use Rattle.ms_text_grammar.specs.declared.states.BodySoFar.{BodySoFar}
 use Rattle.ms_text_grammar.specs.declared.symbols.Symbol.{Symbol}
 use Rattle.ms_text_grammar.specs.declared.symbols.Symbol.TheVariants as s
 use Rattle.ms_text_grammar.specs.Lexemes.{Lexeme, end_of_text, name_in}
@@ -30,9 +30,9 @@ use Rattle.ms_text_grammar.specs.Bodies.{is_open, opened, opened_as, opened_by, 
 use Rattle.ms_text_grammar.specs.Lines.{value_line, marked_line, phi_line, call_line, effect_line, end_line, instruction_by, operation_by, instruction, gives_value, value_word_of, named_line, line_by, line, is_whole, blocks}
 use Rattle.ms_text_grammar.specs.Texts.{ReadsUpTo}
 use Rattle.ms_text_grammar.proofs.Bounds.{record_line_is, blocks_end}
-use Rattle.ms_valid.specs.FormedNames.{are_bytes, is_local_name, name_number, count_up}
-use Rattle.ms_valid.specs.FormedCode.{op_formed, name_formed, inst_formed, is_terminator, ends_well, is_body}
-use Rattle.ms_valid.specs.Formed.{block_formed}
+use Rattle.ms_check_valid.specs.FormedNames.{are_bytes, is_local_name, name_number, count_up}
+use Rattle.ms_check_valid.specs.FormedCode.{op_formed, name_formed, inst_formed, is_terminator, ends_well, is_body}
+use Rattle.ms_check_valid.specs.Formed.{block_formed}
 use Rattle.ms_ir.specs.Locals.{results, block_locals}
 use Rattle.ms_ir.specs.Written.{result_type}
 use Rattle.ms_text_laws.proofs.Sound.{IsSound, AllSound, sound_rest, loop_keeps, all_pushed, no_value, same_value, if_good, if_else}
@@ -100,9 +100,9 @@ Leads false insts = (more : List Inst) → ends_well more ≡ true → is_body (
 phi_leads : (insts : List Inst) (i : Inst) → is_phi i.op ≡ true → Leads true insts → Leads true (insts ++ i ∷ [])
 phi_leads insts i e h = λ more g. ap is_body (append_assoc insts (i ∷ []) more) ∙ h (i ∷ more) (ap (λ b. cond b (is_body more) (ends_well (i ∷ more))) e ∙ g)
 
-ends_behind : (phis : Bool) (insts : List Inst) (i : Inst) (more : List Inst) → is_phi i.op ≡ false → ends_well (i ∷ more) ≡ true → Leads phis insts → is_body (insts ++ i ∷ more) ≡ true
-ends_behind true insts i more plain e h = h (i ∷ more) (ap (λ b. cond b (is_body more) (ends_well (i ∷ more))) plain ∙ e)
-ends_behind false insts i more plain e h = h (i ∷ more) e
+ends_after : (phis : Bool) (insts : List Inst) (i : Inst) (more : List Inst) → is_phi i.op ≡ false → ends_well (i ∷ more) ≡ true → Leads phis insts → is_body (insts ++ i ∷ more) ≡ true
+ends_after true insts i more plain e h = h (i ∷ more) (ap (λ b. cond b (is_body more) (ends_well (i ∷ more))) plain ∙ e)
+ends_after false insts i more plain e h = h (i ∷ more) e
 
 goes_on : (i : Inst) (more : List Inst) → is_terminator i.op ≡ false → is_phi i.op ≡ false → ends_well more ≡ true → ends_well (i ∷ more) ≡ true
 goes_on i [] on plain h = absurd cc
@@ -110,7 +110,7 @@ goes_on i (next ∷ rest) on plain h =
     and_from (not (is_terminator i.op) && not (is_phi i.op)) (ends_well (next ∷ rest)) (and_from (not (is_terminator i.op)) (not (is_phi i.op)) (ap not on) (ap not plain)) h
 
 plain_leads : (phis : Bool) (insts : List Inst) (i : Inst) → is_terminator i.op ≡ false → is_phi i.op ≡ false → Leads phis insts → Leads false (insts ++ i ∷ [])
-plain_leads phis insts i on plain h = λ more g. ap is_body (append_assoc insts (i ∷ []) more) ∙ ends_behind phis insts i more plain (goes_on i more on plain g) h
+plain_leads phis insts i on plain h = λ more g. ap is_body (append_assoc insts (i ∷ []) more) ∙ ends_after phis insts i more plain (goes_on i more on plain g) h
 
 -- ---- one instruction
 
@@ -129,7 +129,7 @@ is_some_of : (t : Option Ty) → is_none t ≡ false → is_some t ≡ true
 is_some_of None h = absurd cc
 is_some_of (Some t) h = refl
 
-abbrev value_inst : Body → Option Name → Marked → Inst
+abbrev value_inst : BodySoFar → Option Name → Marked → Inst
 value_inst a result m = record { op = m.0; result = Some (name_or result a.next); marked = m.1 }
 
 abbrev effect_inst : Marked → Inst
@@ -137,7 +137,7 @@ effect_inst m = record { op = m.0; result = None; marked = m.1 }
 
 -- ---- what the lines so far keep
 
--- an open block, behind names up to the number `mid`
+-- an open block, after names up to the number `mid`
 record IsOpened (mid : ℕ) (n : Name) (insts : List Inst) (next : ℕ) (phis : Bool) : Type 0 where
   local : is_local_name n ≡ true
   formed : list_all inst_formed insts ≡ true
@@ -148,8 +148,8 @@ abbrev Stands : ℕ → Option Name → List Inst → ℕ → Bool → Type 0
 Stands mid None insts next phis = next ≡ mid
 Stands mid (Some n) insts next phis = IsOpened mid n insts next phis
 
--- behind parameters that took so many numbers
-pub record Kept (from : ℕ) (b : Body) : Type 0 where
+-- after parameters that took so many numbers
+pub record Kept (from : ℕ) (b : BodySoFar) : Type 0 where
   blocks : list_all block_formed b.blocks ≡ true
   mid : ℕ
   counts : CountsTo from (flat_map block_locals b.blocks) mid
@@ -169,7 +169,7 @@ end_stands : (mid : ℕ) (n : Option Name) (insts : List Inst) (next : ℕ) (phi
 end_stands mid None insts next phis i o f e c h = absurd cc
 end_stands mid (Some n) insts next phis i o f e c h = (
   and_from (is_local_name n && is_body (insts ++ i ∷ [])) (list_all inst_formed (insts ++ i ∷ []))
-      (and_from (is_local_name n) (is_body (insts ++ i ∷ [])) h.local (ends_behind phis insts i [] (end_is_no_phi i.op e) e h.leads)) (all_pushed inst_formed insts i h.formed f),
+      (and_from (is_local_name n) (is_body (insts ++ i ∷ [])) h.local (ends_after phis insts i [] (end_is_no_phi i.op e) e h.leads)) (all_pushed inst_formed insts i h.formed f),
   counts_result mid n insts i next next h.counts c,
 )
 
@@ -182,7 +182,7 @@ value_fits : (phis : Bool) (x : Symbol) → gives_value phis x ≡ true → phi_
 value_fits phis s.Phi h = h
 value_fits phis x h = refl
 
-module _ (from : ℕ) (a : Body) (o : is_open a.name ≡ true) (k : Kept from a) where
+module _ (from : ℕ) (a : BodySoFar) (o : is_open a.name ≡ true) (k : Kept from a) where
   value_kept : (result : Option Name) (phis : Bool) (m : Marked) → IsNext a.next (name_or result a.next) (numbers_of result) → op_formed m.0 ≡ true → is_some (result_type m.0) ≡ true
       → (Leads a.phis a.insts → Leads phis (a.insts ++ value_inst a result m ∷ [])) → Kept from (with_value a result phis m)
   value_kept result phis m n f some leads = record {
@@ -215,7 +215,7 @@ module _ (from : ℕ) (a : Body) (o : is_open a.name ≡ true) (k : Kept from a)
 
   -- ---- one line
 
-  module _ (form : Form) (ts : List Lexeme) (all : AllSound ts) (v : Body) (rest : List Lexeme) where
+  module _ (form : Form) (ts : List Lexeme) (all : AllSound ts) (v : BodySoFar) (rest : List Lexeme) where
     value_line_kept : (result : Option Name) (rule : Rule Op) → ((us : List Lexeme) (x : Op) (others : List Lexeme) → AllSound us → ReadsUpTo rule us x others → GivesValue x)
         → IsNext a.next (name_or result a.next) (numbers_of result) → ReadsUpTo (value_line form a result rule) ts v rest → Kept from v
     unfolding value_line
@@ -281,14 +281,14 @@ module _ (from : ℕ) (a : Body) (o : is_open a.name ≡ true) (k : Kept from a)
     unfolding instruction
     instruction_kept result x p n h = by_operation result x (binary_op x) (cast_op x) p n h
 
-  named_line_kept : (form : Form) (n : Name) (ts : List Lexeme) (all : AllSound ts) (v : Body) (rest : List Lexeme) → IsNext a.next n (numbers_of (Some n)) → ReadsUpTo (named_line form a n) ts v rest → Kept from v
+  named_line_kept : (form : Form) (n : Name) (ts : List Lexeme) (all : AllSound ts) (v : BodySoFar) (rest : List Lexeme) → IsNext a.next n (numbers_of (Some n)) → ReadsUpTo (named_line form a n) ts v rest → Kept from v
   unfolding named_line
   named_line_kept form n ts all v rest next h =
       let first : Lexeme = head end_of_text h.1 in
       let words = if_good (gives_value a.phis first.symbol) (Ok first.symbol) _ h.3.0 h.3.2.0 in
       let fits = subst (λ x. gives_value a.phis x ≡ true) (same_value first.symbol h.3.0 words.1) words.0 in
-      let behind = sound_rest (one (value_word_of a.phis)) h.1 h.3.0 h.3.1 (sound_rest (word s.Equals) ts h.0 h.1 all h.2) h.3.2 in
-      instruction_kept form h.3.1 behind v rest (Some n) h.3.0 (value_fits a.phis h.3.0 fits) next h.3.3
+      let later = sound_rest (one (value_word_of a.phis)) h.1 h.3.0 h.3.1 (sound_rest (word s.Equals) ts h.0 h.1 all h.2) h.3.2 in
+      instruction_kept form h.3.1 later v rest (Some n) h.3.0 (value_fits a.phis h.3.0 fits) next h.3.3
 
 -- ---- blocks that open
 
@@ -296,7 +296,7 @@ closed_next : (mid : ℕ) (n : Option Name) (insts : List Inst) (next : ℕ) (ph
 closed_next mid None insts next phis shut h = h
 closed_next mid (Some n) insts next phis shut h = absurd cc
 
-opens_kept : (from : ℕ) (b : Body) (n : Name) (numbers : ℕ) → is_open b.name ≡ false → IsNext b.next n numbers → Kept from b → Kept from (opened_as b n numbers)
+opens_kept : (from : ℕ) (b : BodySoFar) (n : Name) (numbers : ℕ) → is_open b.name ≡ false → IsNext b.next n numbers → Kept from b → Kept from (opened_as b n numbers)
 opens_kept from b n numbers shut h k = record {
   blocks = k.blocks;
   mid = k.mid;
@@ -304,22 +304,22 @@ opens_kept from b n numbers shut h k = record {
   stands = record { local = h.local; formed = refl; leads = λ more g. g; counts = subst (λ j. CountsTo j (n ∷ []) (b.next + numbers)) (closed_next k.mid b.name b.insts b.next b.phis shut k.stands) h.counts };
 }
 
-record IsReady (from : ℕ) (b a : Body) : Type 0 where
+record IsReady (from : ℕ) (b a : BodySoFar) : Type 0 where
   kept : Kept from a
   is_open_here : is_open a.name ≡ true
   few : a.next ≤ b.next + 1
 
-opened_ready_by : (from : ℕ) (b : Body) (n : Option Name) → b.name ≡ n → b.next < 2 ^ 32 → Kept from b → IsReady from b (opened_by n b)
+opened_ready_by : (from : ℕ) (b : BodySoFar) (n : Option Name) → b.name ≡ n → b.next < 2 ^ 32 → Kept from b → IsReady from b (opened_by n b)
 opened_ready_by from b (Some n) e few k = record { kept = k; is_open_here = ap is_open e; few = omega arith }
 opened_ready_by from b None e few k = record { kept = opens_kept from b (name.Number b.next) 1 (ap is_open e) (next_number b.next few) k; is_open_here = refl; few = omega arith }
 
-opened_ready : (from : ℕ) (b : Body) → b.next < 2 ^ 32 → Kept from b → IsReady from b (opened b)
+opened_ready : (from : ℕ) (b : BodySoFar) → b.next < 2 ^ 32 → Kept from b → IsReady from b (opened b)
 unfolding opened
 opened_ready from b few k = opened_ready_by from b b.name refl few k
 
 -- ---- what a line keeps
 
-module _ (form : Form) (from : ℕ) (b : Body) (k : Kept from b) (left : b.next < 2 ^ 32 - 2) (t : Lexeme) (sound : IsSound t) (ts : List Lexeme) (all : AllSound ts) (v : Body) (rest : List Lexeme) where
+module _ (form : Form) (from : ℕ) (b : BodySoFar) (k : Kept from b) (left : b.next < 2 ^ 32 - 2) (t : Lexeme) (sound : IsSound t) (ts : List Lexeme) (all : AllSound ts) (v : BodySoFar) (rest : List Lexeme) where
   ready : IsReady from b (opened b)
   ready = opened_ready from b (omega arith) k
 
@@ -350,7 +350,7 @@ module _ (form : Form) (from : ℕ) (b : Body) (k : Kept from b) (left : b.next 
   line_kept_by s.Phi g h = by_instruction s.Phi (if_goes (opened b).phis _ g).0 h
   line_kept_by x g h = by_instruction x refl h
 
-line_kept : (form : Form) (from : ℕ) (b : Body) (k : Kept from b) (t : Lexeme) (sound : IsSound t) (ts : List Lexeme) (all : AllSound ts) (v : Body) (rest : List Lexeme)
+line_kept : (form : Form) (from : ℕ) (b : BodySoFar) (k : Kept from b) (t : Lexeme) (sound : IsSound t) (ts : List Lexeme) (all : AllSound ts) (v : BodySoFar) (rest : List Lexeme)
     → line_begins form b t ≡ Ok true → ReadsUpTo (line form b t) ts v rest → Kept from v
 unfolding line_begins line
 line_kept form from b k t sound ts all v rest g h =
@@ -359,7 +359,7 @@ line_kept form from b k t sound ts all v rest g h =
 
 -- ---- all blocks
 
--- what the blocks of a function keep behind parameters that took so many numbers
+-- what the blocks of a function keep after parameters that took so many numbers
 pub record AreFormed (from : ℕ) (bs : List Block) : Type 0 where
   pub some : nat_lt 0 (length bs) ≡ true
   pub formed : list_all block_formed bs ≡ true
@@ -371,7 +371,7 @@ some_there [] h = absurd cc
 some_there (b ∷ bs) h = lt-ltb 0 (length (b ∷ bs)) (omega arith)
 
 -- before the first line
-pub none_kept : (from : ℕ) (b : Body) → b.blocks ≡ [] → b.name ≡ None → b.next ≡ from → Kept from b
+pub none_kept : (from : ℕ) (b : BodySoFar) → b.blocks ≡ [] → b.name ≡ None → b.next ≡ from → Kept from b
 none_kept from b no_blocks closed next = record {
   blocks = ap (list_all block_formed) no_blocks;
   mid = from;
@@ -379,11 +379,11 @@ none_kept from b no_blocks closed next = record {
   stands = subst (λ n. Stands from n b.insts b.next b.phis) (sym closed) next;
 }
 
-pub blocks_formed : (form : Form) (from : ℕ) (start : Body) (ts : List Lexeme) (v : List Block) (rest : List Lexeme)
+pub blocks_formed : (form : Form) (from : ℕ) (start : BodySoFar) (ts : List Lexeme) (v : List Block) (rest : List Lexeme)
     → Kept from start → AllSound ts → ReadsUpTo (blocks form start) ts v rest → AreFormed from v
 unfolding blocks
 blocks_formed form from start ts v rest k all h =
-    let body : Body = h.0 in
+    let body : BodySoFar = h.0 in
     let kept = loop_keeps (line_begins form) (line form) (Kept from) (λ b t us w others begins sound sounds g p. line_kept form from b p t sound us sounds w others begins g) start ts body h.1 all h.2 k in
     let end = blocks_end (is_whole body) body h.1 v rest h.3 in
     let whole = and_parts (not (is_open body.name)) (not (length body.blocks == 0)) end.0 in

@@ -14,7 +14,7 @@ use Rattle.ms_ir.specs.declared.syntax.Name.TheVariants as name
 use Rattle.ms_ir.specs.declared.syntax.Ty.{Ty}
 use Rattle.ms_ir.specs.declared.forms.Form.{Form}
 use Rattle.ms_text_grammar.specs.declared.refusals.Limit.TheVariants as limit
-use Rattle.ms_text_grammar.specs.declared.states.Body.{Body}
+use Rattle.ms_text_grammar.specs.declared.states.BodySoFar.{BodySoFar}
 use Rattle.ms_text_grammar.specs.declared.states.Parameters.{Parameters}
 use Rattle.ms_text_grammar.specs.declared.symbols.Symbol.{Symbol}
 use Rattle.ms_text_grammar.specs.declared.symbols.Symbol.TheVariants as s
@@ -24,11 +24,11 @@ use Rattle.ms_text_grammar.specs.Names.{global, local_name, reserved_local, name
 use Rattle.ms_text_grammar.specs.Types.{value_type_of, result_type}
 use Rattle.ms_text_grammar.specs.Skipped.{attributes, attachments}
 use Rattle.ms_text_grammar.specs.Insts.{names_printf, max_parameters}
-use Rattle.ms_text_grammar.specs.Functions.{no_parameters, has_room, parameter_type_of, parameter_name_by, parameter_name, next_behind, with_parameter, typed_parameter, dots_come, parameter, parameters, linkage, declaration, function_tail, body_behind, function}
+use Rattle.ms_text_grammar.specs.Functions.{no_parameters, has_room, parameter_type_of, parameter_name_by, parameter_name, next_after, with_parameter, typed_parameter, dots_come, parameter, parameters, linkage, declaration, function_tail, body_after, function}
 use Rattle.ms_text_grammar.specs.Texts.{ReadsUpTo}
-use Rattle.ms_valid.specs.FormedNames.{is_local_name, is_global_name, are_numbered}
-use Rattle.ms_valid.specs.FormedCode.{is_value_type, result_formed}
-use Rattle.ms_valid.specs.Formed.{decl_formed, block_formed, func_formed}
+use Rattle.ms_check_valid.specs.FormedNames.{is_local_name, is_global_name, are_numbered}
+use Rattle.ms_check_valid.specs.FormedCode.{is_value_type, result_formed}
+use Rattle.ms_check_valid.specs.Formed.{decl_formed, block_formed, func_formed}
 use Rattle.ms_ir.specs.Locals.{block_locals, locals}
 use Rattle.ms_text_laws.proofs.Sound.{AllSound, sound_head, sound_rest, listed_keeps, all_pushed, same_value, if_good, if_else, if_within}
 use Rattle.ms_text_laws.proofs.Names.{local_name_formed, global_formed}
@@ -40,7 +40,7 @@ use Rattle.ms_text_laws.proofs.FormedBodies.{CountsTo, counts_on, counted, next_
 -- the name of a parameter, in front of which so many numbers are taken
 record IsNamed (number : ℕ) (n : Name) : Type 0 where
   local : is_local_name n ≡ true
-  counts : CountsTo number (n ∷ []) (next_behind n number)
+  counts : CountsTo number (n ∷ []) (next_after n number)
 
 unnamed : (number : ℕ) (n : Name) → number < 2 ^ 32 → n ≡ name.Number number → IsNamed number n
 unnamed number n few e = subst (IsNamed number) (sym e) (record { local = (next_number number few).local; counts = (refl, refl) })
@@ -54,7 +54,7 @@ module _ (form : Form) (number : ℕ) (few : number < 2 ^ 32) where
       let t : Lexeme = head end_of_text ts in
       record {
         local = local_name_formed form (name_in t) v (sound_head ts all).bytes h.0;
-        counts = subst (λ n. CountsTo number (n ∷ []) (next_behind n number)) (sym (text_named form (name_in t) v h.0)) refl;
+        counts = subst (λ n. CountsTo number (n ∷ []) (next_after n number)) (sym (text_named form (name_in t) v h.0)) refl;
       }
   named_by s.NumberedLocal ts v rest all h =
       let t : Lexeme = head end_of_text ts in
@@ -76,8 +76,8 @@ record Kept (ps : Parameters) : Type 0 where
 one_more : (ps : Parameters) (t : Ty) (n : Name) → is_value_type t ≡ true → IsNamed ps.next n → Kept ps → Kept (with_parameter ps t n)
 one_more ps t n type h k = record {
   formed = all_pushed is_parameter ps.found (t, n) k.formed (and_from (is_value_type t) (is_local_name n) type h.local);
-  counts = subst (λ names. CountsTo 0 names (next_behind n ps.next)) (sym (map-append (λ (p : Ty × Name). p.1) ps.found ((t, n) ∷ [])))
-      (counts_on 0 (map (λ p. p.1) ps.found) (n ∷ []) ps.next (next_behind n ps.next) k.counts h.counts);
+  counts = subst (λ names. CountsTo 0 names (next_after n ps.next)) (sym (map-append (λ (p : Ty × Name). p.1) ps.found ((t, n) ∷ [])))
+      (counts_on 0 (map (λ p. p.1) ps.found) (n ∷ []) ps.next (next_after n ps.next) k.counts h.counts);
 }
 
 module _ (form : Form) (dotted : Bool) where
@@ -86,8 +86,8 @@ module _ (form : Form) (dotted : Bool) where
   typed_kept ps ts v rest all h k =
       let typed = if_within (has_room ps) limit.Parameters (value_type_of (head end_of_text ts)) h.0 h.2.0 in
       let room = ltb-true ps.next max_parameters (and_parts (nat_lt (length ps.found) max_parameters) (nat_lt ps.next max_parameters) typed.0).1 in
-      let behind = sound_rest (one (parameter_type_of ps)) ts h.0 h.1 all h.2 in
-      let named = parameter_named form ps.next (omega (arith, room)) h.3.1 h.3.3.0 h.3.3.1 (sound_rest (attributes form) h.1 h.3.0 h.3.1 behind h.3.2) h.3.3.2 in
+      let after = sound_rest (one (parameter_type_of ps)) ts h.0 h.1 all h.2 in
+      let named = parameter_named form ps.next (omega (arith, room)) h.3.1 h.3.3.0 h.3.3.1 (sound_rest (attributes form) h.1 h.3.0 h.3.1 after h.3.2) h.3.3.2 in
       subst Kept (sym h.3.3.3.0) (one_more ps h.0 h.3.3.0 (value_type_of_formed (head end_of_text ts) h.0 (sound_head ts all) typed.1) named k)
 
   parameter_kept_by : (dots : Bool) (ps : Parameters) (ts : List Lexeme) (v : Parameters) (rest : List Lexeme) → AllSound ts
@@ -158,9 +158,9 @@ function_formed form before ts f rest all h =
     let at_tail = sound_rest (parameters form false) h.3.3.3.1 ps h.3.3.3.3.1 at_parameters h.3.3.3.3.2 in
     let at_brace = sound_rest (function_tail form) h.3.3.3.3.1 h.3.3.3.3.3.0 h.3.3.3.3.3.1 at_tail h.3.3.3.3.3.2 in
     let at_blocks = sound_rest (word s.OpenBrace) h.3.3.3.3.3.1 h.3.3.3.3.3.3.0 h.3.3.3.3.3.3.1 at_brace h.3.3.3.3.3.3.2 in
-    let behind = h.3.3.3.3.3.3.3 in
-    let start : Body = body_behind ps before in
-    let formed = blocks_formed form ps.next start h.3.3.3.3.3.3.1 behind.0 behind.1 (none_kept ps.next start refl refl refl) at_blocks behind.2 in
+    let after = h.3.3.3.3.3.3.3 in
+    let start : BodySoFar = body_after ps before in
+    let formed = blocks_formed form ps.next start h.3.3.3.3.3.3.1 after.0 after.1 (none_kept ps.next start refl refl refl) at_blocks after.2 in
     let kept = parameters_kept form false h.3.3.3.1 ps h.3.3.3.3.1 at_parameters h.3.3.3.3.2 in
-    subst (λ g. func_formed g ≡ true) (sym behind.3.0)
-    (func_of n h.3.0 ps behind.0 (global_formed form h.3.1 n h.3.3.1 at_name h.3.3.2) (result_type_formed h.1 h.3.0 h.3.1 at_result h.3.2) kept formed)
+    subst (λ g. func_formed g ≡ true) (sym after.3.0)
+    (func_of n h.3.0 ps after.0 (global_formed form h.3.1 n h.3.3.1 at_name h.3.3.2) (result_type_formed h.1 h.3.0 h.3.1 at_result h.3.2) kept formed)

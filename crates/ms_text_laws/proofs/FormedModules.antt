@@ -16,7 +16,7 @@ use Rattle.ms_ir.specs.declared.syntax.Ty.{Ty}
 use Rattle.ms_ir.specs.declared.forms.Form.{Form}
 use Rattle.ms_text_grammar.specs.declared.refusals.Limit.TheVariants as limit
 use Rattle.ms_text_grammar.specs.declared.refusals.Cause.TheVariants as r
-use Rattle.ms_text_grammar.specs.declared.states.Parts.{Parts}
+use Rattle.ms_text_grammar.specs.declared.states.ModuleSoFar.{ModuleSoFar}
 use Rattle.ms_text_grammar.specs.declared.symbols.Symbol.{Symbol}
 use Rattle.ms_text_grammar.specs.declared.symbols.Symbol.TheVariants as s
 use Rattle.ms_text_grammar.specs.Lexemes.{Lexeme, name_in, lexemes_of}
@@ -27,9 +27,9 @@ use Rattle.ms_text_grammar.specs.Modules.{named_type, linkage_word_begins, globa
 use Rattle.ms_text_grammar.specs.Bounds.{WithinLimits}
 use Rattle.ms_text_grammar.specs.Texts.{Reads, ReadsUpTo}
 use Rattle.ms_text_grammar.proofs.Bounds.{module_within}
-use Rattle.ms_valid.specs.FormedNames.{are_bytes, is_local_name, is_global_name}
-use Rattle.ms_valid.specs.FormedCode.{type_formed, init_formed}
-use Rattle.ms_valid.specs.Formed.{is_struct, named_type_formed, global_formed, decl_formed, func_formed, Formed}
+use Rattle.ms_check_valid.specs.FormedNames.{are_bytes, is_local_name, is_global_name}
+use Rattle.ms_check_valid.specs.FormedCode.{type_formed, init_formed}
+use Rattle.ms_check_valid.specs.Formed.{is_struct, named_type_formed, global_formed, decl_formed, func_formed, Formed}
 use Rattle.ms_text_laws.proofs.Sound.{IsSound, AllSound, sound_lexemes, sound_rest, loop_keeps, all_pushed, if_good, if_else, if_mapped}
 use Rattle.ms_text_laws.proofs.Names.{local_name_formed, global_name_formed}
 use Rattle.ms_text_laws.proofs.FormedTypes.{type_formed_to, struct_formed}
@@ -85,7 +85,7 @@ text_is_global : (form : Form) (t : Text) → are_bytes t ≡ true → reserved_
 text_is_global form t bytes free fits =
     global_name_formed form t (name.Text t) bytes (ap (λ b. text_name b t) free ∙ ap (λ b. cond b (Ok (name.Text t)) (Err (r.Limit limit.Name))) fits)
 
-module _ (form : Form) (p : Parts) (k : AllFormed p.«module») (t : Lexeme) (sound : IsSound t) (ts : List Lexeme) (all : AllSound ts) (v : Parts) (rest : List Lexeme) where
+module _ (form : Form) (p : ModuleSoFar) (k : AllFormed p.«module») (t : Lexeme) (sound : IsSound t) (ts : List Lexeme) (all : AllSound ts) (v : ModuleSoFar) (rest : List Lexeme) where
   same_kept : v ≡ p → AllFormed v.«module»
   same_kept e = subst (λ q. AllFormed q.«module») (sym e) k
 
@@ -129,7 +129,7 @@ module _ (form : Form) (p : Parts) (k : AllFormed p.«module») (t : Lexeme) (so
 pub module_formed : (form : Form) (ts : List Lexeme) (m : Module) (rest : List Lexeme) → AllSound ts → ReadsUpTo (module_rule form) ts m rest → AllFormed m
 unfolding module_rule
 module_formed form ts m rest all h =
-    let start : Parts = no_parts in
+    let start : ModuleSoFar = no_parts in
     let none : AllFormed start.«module» = record { types = refl; globals = refl; decls = refl; funcs = refl } in
     let kept = loop_keeps (entity_begins form) (entity form) (λ p. AllFormed p.«module»)
     (λ p t us w others begins sound sounds g k. entity_kept form p k t sound us sounds w others begins g) start ts h.0 h.1 all h.2 none in

@@ -14,9 +14,9 @@ use Rattle.ms_text_grammar.specs.Lexemes.{Lexeme, end_of_text, is, same_symbol, 
 use Rattle.ms_text_grammar.specs.Steps.{Rule, next_symbol, skip, stop, word, items}
 use Rattle.ms_text_grammar.specs.Types.{int_type_of, int_type, value_type_by, value_type_of, value_type, result_type_by, result_type, count_by, count, flat, packed_brace, array_rest, struct_rest, packed_rest, nested, opens, type_to, struct_by, struct_type}
 use Rattle.ms_text_grammar.specs.Texts.{ReadsUpTo}
-use Rattle.ms_valid.specs.FormedCode.{is_width, is_value_type, type_formed, result_formed}
-use Rattle.ms_valid.specs.Formed.{is_struct}
-use Rattle.ms_valid.proofs.TypeShapes.{type_formed-array, type_formed-struct}
+use Rattle.ms_check_valid.specs.FormedCode.{is_width, is_value_type, type_formed, result_formed}
+use Rattle.ms_check_valid.specs.Formed.{is_struct}
+use Rattle.ms_check_valid.proofs.TypeShapes.{type_formed-array, type_formed-struct}
 use Rattle.ms_text_laws.proofs.Sound.{IsSound, AllSound, sound_head, sound_rest, items_pass, no_value, same_value, if_good}
 use Rattle.ms_text_laws.proofs.Names.{local_formed}
 
@@ -97,9 +97,9 @@ module _ (part : Rule Ty) (each : ReadsFormed part) where
   array_formed : ReadsFormed (array_rest part)
   unfolding array_rest
   array_formed ts v rest all h =
-      let behind_count = sound_rest count ts h.0 h.1 all h.2 in
-      let behind_x = sound_rest (word s.X) h.1 h.3.0 h.3.1 behind_count h.3.2 in
-      let item = each h.3.1 h.3.3.0 h.3.3.1 behind_x h.3.3.2 in
+      let after_count = sound_rest count ts h.0 h.1 all h.2 in
+      let after_x = sound_rest (word s.X) h.1 h.3.0 h.3.1 after_count h.3.2 in
+      let item = each h.3.1 h.3.3.0 h.3.3.1 after_x h.3.3.2 in
       formed_as (Array h.0 h.3.3.0) v h.3.3.3.3.0
       (type_formed-array h.0 h.3.3.0 ∙ and_from (nat_lt h.0 (2 ^ 64)) (type_formed h.3.3.0 && true) (count_formed ts h.0 h.1 h.2) (and_from (type_formed h.3.3.0) true item refl))
 
@@ -115,8 +115,8 @@ module _ (part : Rule Ty) (each : ReadsFormed part) where
   packed_rest_formed : (ts : List Lexeme) (v : Ty) (rest : List Lexeme) → AllSound ts → ReadsUpTo (packed_rest part) ts v rest → (is_struct v && type_formed v) ≡ true
   unfolding packed_rest
   packed_rest_formed ts v rest all h =
-      let behind_brace = sound_rest packed_brace ts h.0 h.1 all h.2 in
-      subst (λ t. (is_struct t && type_formed t) ≡ true) (sym h.3.3.3.0) (type_formed-struct true h.3.0 ∙ fields_formed h.1 h.3.0 h.3.1 behind_brace h.3.2)
+      let after_brace = sound_rest packed_brace ts h.0 h.1 all h.2 in
+      subst (λ t. (is_struct t && type_formed t) ≡ true) (sym h.3.3.3.0) (type_formed-struct true h.3.0 ∙ fields_formed h.1 h.3.0 h.3.1 after_brace h.3.2)
 
   second : (a b : Bool) → (a && b) ≡ true → b ≡ true
   second true b h = h

@@ -1,4 +1,4 @@
--- Values and initialisers that are read are ones as they may stand behind their type.
+-- Values and initialisers that are read are ones as they may stand after their type.
 use Rattle.std.proofs.Common.{◌≡◌, ◌<◌, ℕ, zero, suc, ◌^◌, Bool, true, false, true≢false, ◌&&◌, cond, List, [], ◌∷◌, length, Option, Some, None, Ok, Err, ℤ, pos, negsuc, refl, sym, ◌∙◌, subst, arith}
 use Rattle.std.specs.Prelude.{nat_lt, ◌==◌}
 use Rattle.std.specs.List.{list_all}
@@ -24,9 +24,9 @@ use Rattle.ms_text_grammar.specs.Names.{local_by, global_by}
 use Rattle.ms_text_grammar.specs.Types.{int_width, is_ptr, int_type_of, packed_brace, opens, type_to}
 use Rattle.ms_text_grammar.specs.Values.{fits, number_by, number, gep_words, max_indices, index_type_of, constant_index, constant_indices, Address, gep_from, base_by, base_to, max_within, offset, int_value, truth_value, null_value, local_value, simple_by, simple_value, value_by, value_within, flat_init, typed, array_init, struct_init, packed_init, nested_init, init_to}
 use Rattle.ms_text_grammar.specs.Texts.{ReadsUpTo}
-use Rattle.ms_valid.specs.FormedNames.{is_global_name}
-use Rattle.ms_valid.specs.FormedCode.{is_width, type_formed, number_formed, step_formed, steps_formed, operand_formed, is_constant, init_formed}
-use Rattle.ms_valid.proofs.TypeShapes.{init_formed-array, init_formed-struct}
+use Rattle.ms_check_valid.specs.FormedNames.{is_global_name}
+use Rattle.ms_check_valid.specs.FormedCode.{is_width, type_formed, number_formed, step_formed, steps_formed, operand_formed, is_constant, init_formed}
+use Rattle.ms_check_valid.proofs.TypeShapes.{init_formed-array, init_formed-struct}
 use Rattle.ms_text_laws.proofs.Sound.{IsSound, AllSound, sound_head, sound_rest, loop_keeps, all_pushed, items_pass, no_value, same_value, if_good, if_mapped, if_within}
 use Rattle.ms_text_laws.proofs.Names.{local_by_formed, global_by_formed, global_formed}
 use Rattle.ms_text_laws.proofs.FormedTypes.{int_type_of_formed, type_formed_to}
@@ -62,9 +62,9 @@ index_formed : (found : List (Ty × ℕ)) (ts : List Lexeme) (v : List (Ty × �
 unfolding constant_index
 index_formed found ts v rest all h before =
     let width = index_type_formed (length found) (head end_of_text ts) h.0 (sound_head ts all) h.2.0 in
-    let behind_type = sound_rest (one (index_type_of (length found))) ts h.0 h.1 all h.2 in
+    let after_type = sound_rest (one (index_type_of (length found))) ts h.0 h.1 all h.2 in
     subst (λ xs. all_numbers xs ≡ true) (sym h.3.3.0)
-    (all_pushed (λ i. number_formed i.0 i.1) found (Int h.0, h.3.0) before (number_formed_of h.0 h.1 h.3.0 h.3.1 behind_type h.3.2 width))
+    (all_pushed (λ i. number_formed i.0 i.1) found (Int h.0, h.3.0) before (number_formed_of h.0 h.1 h.3.0 h.3.1 after_type h.3.2 width))
 
 indices_formed : (ts : List Lexeme) (v : List (Ty × ℕ)) (rest : List Lexeme) → AllSound ts → ReadsUpTo constant_indices ts v rest → all_numbers v ≡ true
 unfolding constant_indices
@@ -89,19 +89,19 @@ unfolding gep_from
 gep_from_formed form depth base each ts v rest all h =
     let words = sound_rest gep_words ts h.0 h.1 all h.2 in
     let bracket = h.3 in
-    let behind_open = sound_rest (word s.OpenParen) h.1 bracket.0 bracket.1 words bracket.2 in
+    let after_open = sound_rest (word s.OpenParen) h.1 bracket.0 bracket.1 words bracket.2 in
     let target = bracket.3 in
-    let behind_target = sound_rest (type_to form depth) bracket.1 target.0 target.1 behind_open target.2 in
+    let after_target = sound_rest (type_to form depth) bracket.1 target.0 target.1 after_open target.2 in
     let comma = target.3 in
-    let behind_comma = sound_rest (word s.Comma) target.1 comma.0 comma.1 behind_target comma.2 in
+    let after_comma = sound_rest (word s.Comma) target.1 comma.0 comma.1 after_target comma.2 in
     let pointer = comma.3 in
-    let behind_pointer = sound_rest (word s.PtrType) comma.1 pointer.0 pointer.1 behind_comma pointer.2 in
+    let after_pointer = sound_rest (word s.PtrType) comma.1 pointer.0 pointer.1 after_comma pointer.2 in
     let from = pointer.3 in
-    let behind_base = sound_rest base pointer.1 from.0 from.1 behind_pointer from.2 in
+    let after_base = sound_rest base pointer.1 from.0 from.1 after_pointer from.2 in
     let indices = from.3 in
-    let inner = and_parts (is_global_name from.0.0) (list_all step_formed from.0.1) (each pointer.1 from.0 from.1 behind_pointer from.2) in
-    let own = and_from (type_formed target.0) (all_numbers indices.0) (type_formed_to form depth bracket.1 target.0 target.1 behind_open target.2)
-    (indices_formed from.1 indices.0 indices.1 behind_base indices.2) in
+    let inner = and_parts (is_global_name from.0.0) (list_all step_formed from.0.1) (each pointer.1 from.0 from.1 after_pointer from.2) in
+    let own = and_from (type_formed target.0) (all_numbers indices.0) (type_formed_to form depth bracket.1 target.0 target.1 after_open target.2)
+    (indices_formed from.1 indices.0 indices.1 after_base indices.2) in
     subst (λ a. stepped_formed a ≡ true) (sym indices.3.3.0)
     (and_from (is_global_name from.0.0) (step_formed (target.0, indices.0) && list_all step_formed from.0.1) inner.0
     (and_from (step_formed (target.0, indices.0)) (list_all step_formed from.0.1) own inner.1))
@@ -266,9 +266,9 @@ module _ (part : Rule (Ty × Init)) (each : ReadsItem part) (type : Ty) where
   packed_init_formed : (ts : List Lexeme) (v : Init) (rest : List Lexeme) → AllSound ts → ReadsUpTo (packed_init part) ts v rest → init_formed type v ≡ true
   unfolding packed_init
   packed_init_formed ts v rest all h =
-      let behind_brace = sound_rest packed_brace ts h.0 h.1 all h.2 in
+      let after_brace = sound_rest packed_brace ts h.0 h.1 all h.2 in
       formed_init type (initial.Struct true h.3.0) v h.3.3.3.0
-      (init_formed-struct type true h.3.0 ∙ items_pass s.CloseBrace part item_formed each h.1 h.3.0 h.3.1 behind_brace h.3.2)
+      (init_formed-struct type true h.3.0 ∙ items_pass s.CloseBrace part item_formed each h.1 h.3.0 h.3.1 after_brace h.3.2)
 
   nested_init_formed : (form : Form) (depth : ℕ) (x y : Symbol) (ts : List Lexeme) (v : Init) (rest : List Lexeme)
       → AllSound ts → ReadsUpTo (nested_init part (flat_init form depth type y) x) ts v rest → type_formed type ≡ true → init_formed type v ≡ true
@@ -282,15 +282,15 @@ deep_init_formed : (form : Form) (b : Bool) (type : Ty) (x : Symbol) (ts : List 
 deep_init_formed form true type x ts v rest all h formed = no_value _ v h.0
 deep_init_formed form false type x ts v rest all h formed = flat_init_formed form 0 type x ts v rest all h formed
 
--- a type, and the initialiser behind it
+-- a type, and the initialiser after it
 typed_formed : (form : Form) (depth : ℕ)
     → ((type : Ty) (ts : List Lexeme) (v : Init) (rest : List Lexeme) → AllSound ts → ReadsUpTo (init_to form depth type) ts v rest → type_formed type ≡ true → init_formed type v ≡ true)
     → ReadsItem (typed (type_to form depth) (init_to form depth))
 typed_formed form depth inner ts v rest all h =
     let type = type_formed_to form depth ts h.0 h.1 all h.2 in
-    let behind_type = sound_rest (type_to form depth) ts h.0 h.1 all h.2 in
+    let after_type = sound_rest (type_to form depth) ts h.0 h.1 all h.2 in
     subst (λ i. item_formed i ≡ true) (sym h.3.3.0)
-    (and_from (type_formed h.0) (init_formed h.0 h.3.0) type (inner h.0 h.1 h.3.0 h.3.1 behind_type h.3.2 type))
+    (and_from (type_formed h.0) (init_formed h.0 h.3.0) type (inner h.0 h.1 h.3.0 h.3.1 after_type h.3.2 type))
 
 pub init_formed_to : (form : Form) (depth : ℕ) (type : Ty) (ts : List Lexeme) (v : Init) (rest : List Lexeme)
     → AllSound ts → ReadsUpTo (init_to form depth type) ts v rest → type_formed type ≡ true → init_formed type v ≡ true

@@ -22,14 +22,14 @@ use Rattle.ms_text_grammar.specs.Steps.{word, within}
 use Rattle.ms_text_grammar.specs.Types.{value_type_by, value_type_of}
 use Rattle.ms_text_grammar.specs.Skipped.{is_attribute, attached_by, attachments}
 use Rattle.ms_text_grammar.specs.Insts.{names_printf, is_i32}
-use Rattle.ms_text_grammar.specs.Functions.{no_parameters, next_behind as next_param, is_one_pointer as one_pointer_found, dots_come, linkage, function_tail, body_behind}
+use Rattle.ms_text_grammar.specs.Functions.{no_parameters, next_after as next_param, is_one_pointer as one_pointer_found, dots_come, linkage, function_tail, body_after}
 use Rattle.ms_text_grammar.specs.Modules.{instructions_of}
-use Rattle.ms_valid.specs.FormedNames.{are_bytes, is_local_name, is_global_name}
-use Rattle.ms_valid.specs.FormedCode.{is_value_type, result_formed}
-use Rattle.ms_text_layout.specs.Pieces.{word as word_token, sign, three_dots, with_commas, enclosed, flush}
-use Rattle.ms_text_layout.specs.Names.{local_token, global_token}
-use Rattle.ms_text_layout.specs.Types.{type_tokens, result_tokens}
-use Rattle.ms_text_layout.specs.Modules.{is_one_pointer, is_dotted, dots, parameter_tokens, head_line, blocks_lines, function_lines}
+use Rattle.ms_check_valid.specs.FormedNames.{are_bytes, is_local_name, is_global_name}
+use Rattle.ms_check_valid.specs.FormedCode.{is_value_type, result_formed}
+use Rattle.ms_text_grammar.specs.LayoutPieces.{word as word_token, sign, three_dots, with_commas, enclosed, flush}
+use Rattle.ms_text_grammar.specs.LayoutNames.{local_token, global_token}
+use Rattle.ms_text_grammar.specs.LayoutTypes.{type_tokens, result_tokens}
+use Rattle.ms_text_grammar.specs.LayoutModules.{is_one_pointer, is_dotted, dots, parameter_tokens, head_line, blocks_lines, function_lines}
 use Rattle.ms_text_laws.proofs.Limited.{Limits, local_name, has_room, parameter_type_of, parameter_name, typed_parameter, parameter, parameters, declaration, function, blocks as blocks_rule}
 use Rattle.ms_text_laws.proofs.Takes.{Takes, given, taken, seen, chain, ended, by_symbol, word_taken, along}
 use Rattle.ms_text_laws.proofs.Spelled.{is_below, int_token, int_token_symbol, int_token_width, local_name_good, local_number_symbol, local_text_symbol, local_number_in, local_text_in}
@@ -62,7 +62,7 @@ param_few k (Called x) = omega arith
 abbrev state : List (Ty × Name) → ℕ → Parameters
 state found next = record { found = found; next = next; dots = false }
 
--- what stands behind a declared parameter
+-- what stands after a declared parameter
 abbrev separates : Symbol → Bool
 separates s.Comma = true
 separates s.CloseParen = true
@@ -82,9 +82,9 @@ abbrev unnamed : ℕ → List Ty → List (Ty × Name)
 unnamed k [] = []
 unnamed k (t ∷ ts) = (t, Number k) ∷ unnamed (k + 1) ts
 
-abbrev behind_unnamed : ℕ → List Ty → ℕ
-behind_unnamed k [] = k
-behind_unnamed k (t ∷ ts) = behind_unnamed (k + 1) ts
+abbrev after_unnamed : ℕ → List Ty → ℕ
+after_unnamed k [] = k
+after_unnamed k (t ∷ ts) = after_unnamed (k + 1) ts
 
 unnamed_types : (k : ℕ) (ts : List Ty) → map (λ p. p.0) (unnamed k ts) ≡ ts
 unnamed_types k [] = refl
@@ -126,11 +126,11 @@ module _ (limits : Limits) where
       → Takes (parameter limits false (state found k)) (parameter_tokens p ++ rest) (state (found ++ p ∷ []) (next_param p.1 k)) rest
   unfolding parameter typed_parameter
   param_taken p found k rest type local few next less low =
-      let behind : List Lexeme = local_token p.1 ∷ rest in
+      let after : List Lexeme = local_token p.1 ∷ rest in
       along (append_assoc (type_tokens p.0) (local_token p.1 ∷ []) rest)
-      (chain (seen (no_dots false (state found k) p.0 behind type))
-      (chain (one_token limits (parameter_type_of limits (state found k)) p.0 p.0 behind type (type_good found k p.0 behind type (room found k less low)))
-      (chain (no_attributes behind (local_no_attribute p.1)) (chain (name_taken p.1 k rest local few next) given))))
+      (chain (seen (no_dots false (state found k) p.0 after type))
+      (chain (one_token limits (parameter_type_of limits (state found k)) p.0 p.0 after type (type_good found k p.0 after type (room found k less low)))
+      (chain (no_attributes after (local_no_attribute p.1)) (chain (name_taken p.1 k rest local few next) given))))
 
   -- a parameter of a declaration
   separate_name : (x : Symbol) (k : ℕ) (rest : List Lexeme) → separates x ≡ true → (head end_of_text rest).symbol ≡ x → Takes (parameter_name limits k) rest (Number k) rest
@@ -169,7 +169,7 @@ module _ (limits : Limits) where
   Declares printf parts start end = AllTake (λ t. separates t.symbol) (λ ps. not ps.dots) (parameter limits printf) parts start end
 
   declared_take : (printf : Bool) (ts : List Ty) (tail : List (List Lexeme)) (found : List (Ty × Name)) (k : ℕ) (end : Parameters) → list_all is_value_type ts ≡ true → length found + length ts ≤ limits.parameters → k ≤ length found
-      → Declares printf tail (state (found ++ unnamed k ts) (behind_unnamed k ts)) end → Declares printf (map type_tokens ts ++ tail) (state found k) end
+      → Declares printf tail (state (found ++ unnamed k ts) (after_unnamed k ts)) end → Declares printf (map type_tokens ts ++ tail) (state found k) end
   declared_take printf [] tail found k end types few low h = subst (λ xs. Declares printf tail (state xs k) end) (append-nil found) h
   declared_take printf (t ∷ ts) tail found k end types few low h =
       let parts = and_parts (is_value_type t) (list_all is_value_type ts) types in (
@@ -177,12 +177,12 @@ module _ (limits : Limits) where
         state (found ++ (t, Number k) ∷ []) (k + 1),
         λ rest good. declared_taken printf t found k rest parts.0 (omega (arith, few)) low good,
         declared_take printf ts tail (found ++ (t, Number k) ∷ []) (k + 1) end parts.1 (omega (arith, few, length-append found ((t, Number k) ∷ []))) (omega (arith, low, length-append found ((t, Number k) ∷ [])))
-            (subst (λ xs. Declares printf tail (state xs (behind_unnamed (k + 1) ts)) end) (sym (append_assoc found ((t, Number k) ∷ []) (unnamed (k + 1) ts))) h),
+            (subst (λ xs. Declares printf tail (state xs (after_unnamed (k + 1) ts)) end) (sym (append_assoc found ((t, Number k) ∷ []) (unnamed (k + 1) ts))) h),
       )
 
   -- the dots, where they are written
   abbrev final : Bool → List Ty → Parameters
-  final dotted ts = record { found = unnamed 0 ts; next = behind_unnamed 0 ts; dots = dotted }
+  final dotted ts = record { found = unnamed 0 ts; next = after_unnamed 0 ts; dots = dotted }
 
   one_found : (ts : List Ty) → is_one_pointer ts ≡ true → one_pointer_found (unnamed 0 ts) ≡ true
   one_found [] h = absurd cc
@@ -193,7 +193,7 @@ module _ (limits : Limits) where
   unfolding same_symbol symbol_of
   dots_is = refl
 
-  dots_take : (dotted printf : Bool) (ts : List Ty) → (dotted ≡ true → printf ≡ true) → (dotted ≡ true → is_one_pointer ts ≡ true) → Declares printf (dots dotted) (state (unnamed 0 ts) (behind_unnamed 0 ts)) (final dotted ts)
+  dots_take : (dotted printf : Bool) (ts : List Ty) → (dotted ≡ true → printf ≡ true) → (dotted ≡ true → is_one_pointer ts ≡ true) → Declares printf (dots dotted) (state (unnamed 0 ts) (after_unnamed 0 ts)) (final dotted ts)
   unfolding parameter
   dots_take false printf ts p q = refl
   dots_take true printf ts p q = (
@@ -269,7 +269,7 @@ module _ (limits : Limits) where
 
   -- ---- functions
 
-  -- a function as it may stand, within the limits, behind so many instructions
+  -- a function as it may stand, within the limits, after so many instructions
   pub record FuncFits (before : ℕ) (f : Func) : Type 0 where
     pub global_name : is_global_name f.name ≡ true
     pub short_name : is_below limits.names f.name ≡ true
@@ -298,10 +298,10 @@ module _ (limits : Limits) where
 
   some_blocks : (some : 0 < limits.indices) (dotted : Bool) (bs all : List Block) (ps : Parameters) (before : ℕ) (rest : List Lexeme) → bs ≡ all → 0 < length all → BlocksFit limits all → AreNextBlocks ps.next all → ps.next + lines_in all < limits.numbers
       → before + instructions_of all ≤ limits.instructions
-      → Takes (blocks_rule limits (body_behind ps before)) (line_tokens (blocks_lines dotted all) ++ sign (codes "}") ∷ rest) all rest
+      → Takes (blocks_rule limits (body_after ps before)) (line_tokens (blocks_lines dotted all) ++ sign (codes "}") ∷ rest) all rest
   some_blocks some dotted bs [] ps before rest e h fits numbers few room = absurd (omega (arith, h))
   some_blocks some dotted bs (b ∷ all) ps before rest e h fits numbers few room =
-      body_taken limits some dotted b all (body_behind ps before) ps.next before rest (record { blocks = refl; name = refl; next_is = refl; count_is = refl }) fits numbers few room
+      body_taken limits some dotted b all (body_after ps before) ps.next before rest (record { blocks = refl; name = refl; next_is = refl; count_is = refl }) fits numbers few room
 
   pub function_tokens : (dotted : Bool) (f : Func) (rest : List Lexeme) → line_tokens (function_lines dotted f) ++ rest
       ≡ word_token (codes "define") ∷ (result_tokens f.ret ++ global_token f.name ∷ sign (codes "(") ∷ (with_commas (map parameter_tokens f.params) ++ sign (codes ")") ∷ sign (codes "{") ∷ (line_tokens (blocks_lines dotted f.blocks) ++ sign (codes "}") ∷ rest)))
@@ -310,20 +310,20 @@ module _ (limits : Limits) where
       let params : List (List Lexeme) = map parameter_tokens f.params in
       let listed : List Lexeme = enclosed (codes "(") (codes ")") params in
       let body : List Lexeme = line_tokens (blocks_lines dotted f.blocks) in
-      let behind : List Lexeme = body ++ sign (codes "}") ∷ rest in
+      let after : List Lexeme = body ++ sign (codes "}") ∷ rest in
       ap (λ ys. (word_token (codes "define") ∷ (result_tokens f.ret ++ global_token f.name ∷ (listed ++ sign (codes "{") ∷ [])) ++ ys) ++ rest) (line_tokens-append (blocks_lines dotted f.blocks) (flush (sign (codes "}") ∷ []) ∷ []))
       ∙ append_assoc (word_token (codes "define") ∷ (result_tokens f.ret ++ global_token f.name ∷ (listed ++ sign (codes "{") ∷ []))) (body ++ sign (codes "}") ∷ []) rest
       ∙ ap (λ ys. (word_token (codes "define") ∷ (result_tokens f.ret ++ global_token f.name ∷ (listed ++ sign (codes "{") ∷ []))) ++ ys) (regrouped body (sign (codes "}")) rest)
-      ∙ ap (λ ys. word_token (codes "define") ∷ ys) (append_assoc (result_tokens f.ret) (global_token f.name ∷ (listed ++ sign (codes "{") ∷ [])) behind
-      ∙ ap (λ ys. result_tokens f.ret ++ global_token f.name ∷ ys) (regrouped listed (sign (codes "{")) behind ∙ ap (λ ys. sign (codes "(") ∷ ys) (regrouped (with_commas params) (sign (codes ")")) (sign (codes "{") ∷ behind))))
+      ∙ ap (λ ys. word_token (codes "define") ∷ ys) (append_assoc (result_tokens f.ret) (global_token f.name ∷ (listed ++ sign (codes "{") ∷ [])) after
+      ∙ ap (λ ys. result_tokens f.ret ++ global_token f.name ∷ ys) (regrouped listed (sign (codes "{")) after ∙ ap (λ ys. sign (codes "(") ∷ ys) (regrouped (with_commas params) (sign (codes ")")) (sign (codes "{") ∷ after))))
 
   pub function_taken : (some : 0 < limits.indices) (dotted : Bool) (before : ℕ) (f : Func) (rest : List Lexeme) → FuncFits before f
       → Takes (function limits before) (result_tokens f.ret ++ global_token f.name ∷ sign (codes "(") ∷ (with_commas (map parameter_tokens f.params) ++ sign (codes ")") ∷ sign (codes "{") ∷ (line_tokens (blocks_lines dotted f.blocks) ++ sign (codes "}") ∷ rest))) f rest
   unfolding function parameters
   function_taken some dotted before f rest h =
       let ps : Parameters = state f.params (next_params 0 f.params) in
-      let behind : List Lexeme = sign (codes "{") ∷ (line_tokens (blocks_lines dotted f.blocks) ++ sign (codes "}") ∷ rest) in
+      let after : List Lexeme = sign (codes "{") ∷ (line_tokens (blocks_lines dotted f.blocks) ++ sign (codes "}") ∷ rest) in
       chain (no_linkage f.ret _ h.result) (chain (result_taken f.ret _ h.result) (chain (global_taken limits f.name _ h.global_name h.short_name) (chain open_paren_taken
-      (chain (listed_back (λ t. true) (λ qs. not qs.dots) (parameter limits false) s.CloseParen (sign (codes ")")) close_paren (map parameter_tokens f.params) no_parameters ps behind (params_begin f.params h.params)
+      (chain (listed_back (λ t. true) (λ qs. not qs.dots) (parameter limits false) s.CloseParen (sign (codes ")")) close_paren (map parameter_tokens f.params) no_parameters ps after (params_begin f.params h.params)
       (params_take f.params [] 0 h.params h.short_params h.param_numbers (omega (arith, h.few_params)) (omega arith)))
       (chain (no_tail _) (chain open_brace_taken (chain (some_blocks some dotted f.blocks f.blocks ps before rest refl h.some_block h.blocks h.numbers h.few_numbers h.few_insts) given)))))))

@@ -1,4 +1,4 @@
--- Instructions behind their first word are read as what they were written of.
+-- Instructions after their first word are read as what they were written of.
 use Rattle.std.proofs.Common.{◌≡◌, ℕ, suc, ◌≤◌, ◌^◌, Bool, true, false, ◌&&◌, cond, List, [], ◌∷◌, ◌++◌, map, flat_map, Some, None, Ok, refl, sym, ap, ◌∙◌, append_assoc, append-nil, arith, zero-le, leb-true, eq-eqb}
 use Rattle.std.specs.Prelude.{codes, nat_lt, nat_le, ◌==◌}
 use Rattle.std.specs.List.{list_all}
@@ -20,16 +20,16 @@ use Rattle.ms_text_grammar.specs.Lexemes.{Lexeme, is, same_symbol, symbol_of, wo
 use Rattle.ms_text_grammar.specs.Steps.{word}
 use Rattle.ms_text_grammar.specs.Types.{int_type, int_type_of, value_type_of}
 use Rattle.ms_text_grammar.specs.Insts.{binary_carries, cast_carries, compare_carries, bit_type, spells, other_type, same_type, case_begins}
-use Rattle.ms_valid.specs.FormedNames.{is_local_name}
-use Rattle.ms_valid.specs.FormedCode.{is_width, is_int_type, is_value_type, operand_formed, are_among, binary_flags, cast_flags}
-use Rattle.ms_valid.specs.ReadLimits.{type_depth, steps_depth}
+use Rattle.ms_check_valid.specs.FormedNames.{is_local_name}
+use Rattle.ms_check_valid.specs.FormedCode.{is_width, is_int_type, is_value_type, operand_formed, are_among, binary_flags, cast_flags}
+use Rattle.ms_check_valid.specs.ReadLimits.{type_depth, steps_depth}
 use Rattle.ms_ir.specs.Equal.{AddressStep}
 use Rattle.ms_ir.specs.Written.{operand_mentions, operands_mentions, operand_types}
-use Rattle.ms_text_layout.specs.Pieces.{word as word_token, sign, comma, behind_commas, with_commas}
-use Rattle.ms_text_layout.specs.Names.{local_token, number_token}
-use Rattle.ms_text_layout.specs.Types.{type_tokens}
-use Rattle.ms_text_layout.specs.Values.{value_tokens, typed_tokens}
-use Rattle.ms_text_layout.specs.Insts.{predicate_text, flag_tokens, address_tokens, target_tokens, bit_tokens, case_tokens}
+use Rattle.ms_text_grammar.specs.LayoutPieces.{word as word_token, sign, comma, after_commas, with_commas}
+use Rattle.ms_text_grammar.specs.LayoutNames.{local_token, number_token}
+use Rattle.ms_text_grammar.specs.LayoutTypes.{type_tokens}
+use Rattle.ms_text_grammar.specs.LayoutValues.{value_tokens, typed_tokens}
+use Rattle.ms_text_grammar.specs.LayoutInsts.{predicate_text, flag_tokens, address_tokens, target_tokens, bit_tokens, case_tokens}
 use Rattle.ms_text_laws.proofs.Limited.{Limits, local, value, binary_rule, compare_rule, cast_rule, select_rule, freeze_rule, address, load_rule, store_rule, target, branch_on, branch_rule, case_rest, switch_rule, ret_rule}
 use Rattle.ms_text_laws.proofs.Takes.{Takes, given, taken, seen, chain, turned, ended, other, word_taken, along}
 use Rattle.ms_text_laws.proofs.Spelled.{is_below, local_good, int_token, int_token_symbol, int_token_width}
@@ -46,7 +46,7 @@ are_within depth ts = list_all (λ t. nat_le (type_depth t) depth) ts
 pub within_parts : (depth : ℕ) (ts us : List Ty) → are_within depth (ts ++ us) ≡ true → (are_within depth ts ≡ true) × (are_within depth us ≡ true)
 within_parts depth ts us h = and_parts (are_within depth ts) (are_within depth us) (sym (list_all-append (λ t. nat_le (type_depth t) depth) ts us) ∙ h)
 
--- operands behind their types, within the limits
+-- operands after their types, within the limits
 pub record OperandsFit (limits : Limits) (xs : List (Ty × Operand)) : Type 0 where
   pub formed : list_all (λ a. operand_formed a.0 a.1) xs ≡ true
   pub shallow : are_within (suc limits.depth) (flat_map (λ a. a.0 ∷ operand_types a.1) xs) ≡ true
@@ -103,7 +103,7 @@ module _ (limits : Limits) where
   pub typed_split : (t : Ty) (a : Operand) (ts : List Lexeme) → typed_tokens t a ++ ts ≡ type_tokens t ++ (value_tokens t a ++ ts)
   typed_split t a ts = append_assoc (type_tokens t) (value_tokens t a) ts
 
-  -- two values behind one type
+  -- two values after one type
   two_values : (t : Ty) (a b : Operand) (rest : List Lexeme) → (typed_tokens t a ++ comma ∷ value_tokens t b) ++ rest ≡ type_tokens t ++ (value_tokens t a ++ comma ∷ (value_tokens t b ++ rest))
   two_values t a b rest = append_assoc (typed_tokens t a) (comma ∷ value_tokens t b) rest ∙ typed_split t a (comma ∷ (value_tokens t b ++ rest))
 
@@ -176,8 +176,8 @@ module _ (limits : Limits) where
       → Takes (select_rule limits) (with_commas (bit_tokens c ∷ typed_tokens t a ∷ typed_tokens t b ∷ []) ++ rest) (op.Select c t a b) rest
   unfolding select_rule
   select_taken c t a b rest type p q r =
-      along (ap (λ ys. int_token 1 ∷ ys) (append_assoc (value_tokens (Int 1) c) (behind_commas (typed_tokens t a ∷ typed_tokens t b ∷ [])) rest
-      ∙ ap (λ ys. value_tokens (Int 1) c ++ comma ∷ ys) (append_assoc (typed_tokens t a) (behind_commas (typed_tokens t b ∷ [])) rest ∙ typed_split t a (behind_commas (typed_tokens t b ∷ []) ++ rest)
+      along (ap (λ ys. int_token 1 ∷ ys) (append_assoc (value_tokens (Int 1) c) (after_commas (typed_tokens t a ∷ typed_tokens t b ∷ [])) rest
+      ∙ ap (λ ys. value_tokens (Int 1) c ++ comma ∷ ys) (append_assoc (typed_tokens t a) (after_commas (typed_tokens t b ∷ [])) rest ∙ typed_split t a (after_commas (typed_tokens t b ∷ []) ++ rest)
       ∙ ap (λ ys. type_tokens t ++ (value_tokens t a ++ comma ∷ ys)) (append_assoc (typed_tokens t b) [] rest ∙ typed_split t b rest))))
       (chain (bit_type_taken _) (chain (operand_taken (Int 1) c _ p) (chain comma_taken (chain (value_type_taken t _ type) (chain (operand_taken t a _ q) (chain comma_taken
       (chain (same_type_taken t _ type) (chain (operand_taken t b rest r) given))))))))
@@ -195,13 +195,13 @@ module _ (limits : Limits) where
   pub load_taken : (t : Ty) (a : Operand) (rest : List Lexeme) → is_value_type t ≡ true → Fits Ptr a → Takes (load_rule limits) (with_commas (type_tokens t ∷ address_tokens a ∷ []) ++ rest) (op.Load t a) rest
   unfolding load_rule
   load_taken t a rest type p =
-      along (append_assoc (type_tokens t) (behind_commas (address_tokens a ∷ [])) rest ∙ ap (λ ys. type_tokens t ++ comma ∷ ys) (append_assoc (address_tokens a) [] rest))
+      along (append_assoc (type_tokens t) (after_commas (address_tokens a ∷ [])) rest ∙ ap (λ ys. type_tokens t ++ comma ∷ ys) (append_assoc (address_tokens a) [] rest))
       (chain (value_type_taken t _ type) (chain (address_taken a rest p) given))
 
   pub store_taken : (t : Ty) (v a : Operand) (rest : List Lexeme) → is_value_type t ≡ true → Fits t v → Fits Ptr a → Takes (store_rule limits) (with_commas (typed_tokens t v ∷ address_tokens a ∷ []) ++ rest) (op.Store t v a) rest
   unfolding store_rule
   store_taken t v a rest type p q =
-      along (append_assoc (typed_tokens t v) (behind_commas (address_tokens a ∷ [])) rest ∙ typed_split t v (behind_commas (address_tokens a ∷ []) ++ rest)
+      along (append_assoc (typed_tokens t v) (after_commas (address_tokens a ∷ [])) rest ∙ typed_split t v (after_commas (address_tokens a ∷ []) ++ rest)
       ∙ ap (λ ys. type_tokens t ++ (value_tokens t v ++ comma ∷ ys)) (append_assoc (address_tokens a) [] rest))
       (chain (value_type_taken t _ type) (chain (operand_taken t v _ p) (chain (address_taken a rest q) given)))
 
@@ -233,7 +233,7 @@ module _ (limits : Limits) where
   pub branch_taken : (c : Operand) (x y : Name) (rest : List Lexeme) → Fits (Int 1) c → Local x → Local y → Takes (branch_rule limits) (with_commas (bit_tokens c ∷ target_tokens x ∷ target_tokens y ∷ []) ++ rest) (op.CondBr c x y) rest
   unfolding branch_rule branch_on same_symbol
   branch_taken c x y rest p q r =
-      along (ap (λ ys. int_token 1 ∷ ys) (append_assoc (value_tokens (Int 1) c) (behind_commas (target_tokens x ∷ target_tokens y ∷ [])) rest))
+      along (ap (λ ys. int_token 1 ∷ ys) (append_assoc (value_tokens (Int 1) c) (after_commas (target_tokens x ∷ target_tokens y ∷ [])) rest))
       (chain (seen (ap (λ z. Ok (same_symbol z s.LabelWord)) (int_token_symbol 1 (omega arith) (omega arith))))
       (chain (bit_type_taken _) (chain (operand_taken (Int 1) c _ p) (chain comma_taken (chain (target_taken x _ q) (chain comma_taken (chain (target_taken y rest r) given)))))))
 
@@ -276,7 +276,7 @@ module _ (limits : Limits) where
   switch_tokens w v other cases rest =
       let table : List Lexeme = flat_map (case_tokens (Int w)) cases ++ sign (codes "]") ∷ [] in
       append_assoc (with_commas (typed_tokens (Int w) v ∷ target_tokens other ∷ [])) (sign (codes "[") ∷ table) rest
-      ∙ ap (λ ys. int_token w ∷ ys) (append_assoc (value_tokens (Int w) v) (behind_commas (target_tokens other ∷ [])) (sign (codes "[") ∷ (table ++ rest))
+      ∙ ap (λ ys. int_token w ∷ ys) (append_assoc (value_tokens (Int w) v) (after_commas (target_tokens other ∷ [])) (sign (codes "[") ∷ (table ++ rest))
       ∙ ap (λ ys. value_tokens (Int w) v ++ comma ∷ (target_tokens other ++ sign (codes "[") ∷ ys)) (regrouped (flat_map (case_tokens (Int w)) cases) (sign (codes "]")) rest))
 
   pub switch_taken : (w : ℕ) (v : Operand) (other : Name) (cases : List (ℕ × Name)) (rest : List Lexeme) → is_width w ≡ true → Fits (Int w) v → Local other → CasesFit w cases

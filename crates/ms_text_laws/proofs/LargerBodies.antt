@@ -12,9 +12,9 @@ use Rattle.ms_ir.specs.declared.syntax.Name.{Name}
 use Rattle.ms_ir.specs.declared.syntax.Op.{Op}
 use Rattle.ms_text_grammar.specs.declared.refusals.Limit.TheVariants as limit
 use Rattle.ms_text_grammar.specs.declared.refusals.Cause.TheVariants as r
-use Rattle.ms_text_grammar.specs.declared.states.Body.{Body}
+use Rattle.ms_text_grammar.specs.declared.states.BodySoFar.{BodySoFar}
 use Rattle.ms_text_grammar.specs.declared.states.Parameters.{Parameters}
-use Rattle.ms_text_grammar.specs.declared.states.Parts.{Parts}
+use Rattle.ms_text_grammar.specs.declared.states.ModuleSoFar.{ModuleSoFar}
 use Rattle.ms_text_grammar.specs.declared.symbols.Symbol.{Symbol}
 use Rattle.ms_text_grammar.specs.declared.symbols.Symbol.TheVariants as s
 use Rattle.ms_text_grammar.specs.Lexemes.{Lexeme, name_in}
@@ -34,19 +34,19 @@ with_suffixes_looser : {f g : Rule Op} → Looser f g → Looser (with_suffixes 
 unfolding with_suffixes
 with_suffixes_looser p = next p (λ o. same)
 
-value_line_looser : (body : Body) (result : Option Name) {f g : Rule Op} → Looser f g → Looser (value_line Instrumented body result f) (value_line Instrumented body result g)
+value_line_looser : (body : BodySoFar) (result : Option Name) {f g : Rule Op} → Looser f g → Looser (value_line Instrumented body result f) (value_line Instrumented body result g)
 unfolding value_line
 value_line_looser body result p = next (with_suffixes_looser p) (λ m. same)
 
-marked_line_looser : (body : Body) (result : Option Name) {f g : Rule Marked} → Looser f g → Looser (marked_line body result f) (marked_line body result g)
+marked_line_looser : (body : BodySoFar) (result : Option Name) {f g : Rule Marked} → Looser f g → Looser (marked_line body result f) (marked_line body result g)
 unfolding marked_line
 marked_line_looser body result p = next p (λ m. same)
 
-effect_line_looser : (body : Body) {f g : Rule Op} → Looser f g → Looser (effect_line Instrumented body f) (effect_line Instrumented body g)
+effect_line_looser : (body : BodySoFar) {f g : Rule Op} → Looser f g → Looser (effect_line Instrumented body f) (effect_line Instrumented body g)
 unfolding effect_line
 effect_line_looser body p = next (with_suffixes_looser p) (λ m. same)
 
-end_line_looser : (body : Body) {f g : Rule Op} → Looser f g → Looser (end_line Instrumented body f) (end_line Instrumented body g)
+end_line_looser : (body : BodySoFar) {f g : Rule Op} → Looser f g → Looser (end_line Instrumented body f) (end_line Instrumented body g)
 unfolding end_line
 end_line_looser body p = next (with_suffixes_looser p) (λ m. same)
 
@@ -57,12 +57,12 @@ module _ (a b : Limits) (up : NoMore a b) where
   short_near text =
       room_near (nat_lt (length text) a.names) (nat_lt (length text) b.names) (Ok true) (Ok true) (r.Limit limit.Name) (names_limit limit.Name) (less_still (length text) a.names b.names up.names) (inl refl)
 
-  counted_near : (body : Body) (v w : Verdict Bool) → Near v w → Near (counted a body v) (counted b body w)
+  counted_near : (body : BodySoFar) (v w : Verdict Bool) → Near v w → Near (counted a body v) (counted b body w)
   counted_near body v w near =
       room_near (nat_lt body.count a.instructions) (nat_lt body.count b.instructions) v w (r.Limit limit.Instructions) (names_limit limit.Instructions)
       (less_still body.count a.instructions b.instructions up.instructions) near
 
-  line_begins_by_near : (body : Body) (x : Symbol) (t : Lexeme) → Near (line_begins_by a body x t) (line_begins_by b body x t)
+  line_begins_by_near : (body : BodySoFar) (x : Symbol) (t : Lexeme) → Near (line_begins_by a body x t) (line_begins_by b body x t)
   line_begins_by_near body s.Label t = else_near (is_open body.name) (Ok false) _ _ (else_near (reserved_local Instrumented (name_in t)) (Err r.Reserved) _ _ (short_near (name_in t)))
   line_begins_by_near body s.Local t = else_near (reserved_local Instrumented (name_in t)) (Err r.Reserved) _ _ (counted_near body _ _ (short_near (name_in t)))
   line_begins_by_near body s.NumberedLocal t = then_near (decimal (name_in t) == (opened body).next) _ _ (Err r.Numbering) (counted_near body (Ok true) (Ok true) (inl refl))
@@ -71,20 +71,20 @@ module _ (a b : Limits) (up : NoMore a b) where
   line_begins_by_near body s.DebugGroup t = inl refl
   line_begins_by_near body x t = then_near (begins_instruction x) _ _ (Ok false) (counted_near body (Ok true) (Ok true) (inl refl))
 
-  line_begins_near : (body : Body) (t : Lexeme) → Near (line_begins a body t) (line_begins b body t)
+  line_begins_near : (body : BodySoFar) (t : Lexeme) → Near (line_begins a body t) (line_begins b body t)
   unfolding line_begins
   line_begins_near body t =
       room_near (numbers_left a body.next) (numbers_left b body.next) _ _ r.Numbering (inr refl) (less_still body.next a.numbers b.numbers up.numbers) (line_begins_by_near body t.symbol t)
 
-  phi_line_looser : (body : Body) (result : Option Name) → Looser (phi_line a body result) (phi_line b body result)
+  phi_line_looser : (body : BodySoFar) (result : Option Name) → Looser (phi_line a body result) (phi_line b body result)
   unfolding phi_line
   phi_line_looser body result = next (phi_looser a b up) (λ m. same)
 
-  call_line_looser : (body : Body) (result : Option Name) (first : Symbol) → Looser (call_line a body result first) (call_line b body result first)
+  call_line_looser : (body : BodySoFar) (result : Option Name) (first : Symbol) → Looser (call_line a body result first) (call_line b body result first)
   unfolding call_line
   call_line_looser body result first = next (call_looser a b up _ first) (λ m. same)
 
-  by_word_looser : (body : Body) (result : Option Name) (x : Symbol) → Looser (instruction_by a body result x) (instruction_by b body result x)
+  by_word_looser : (body : BodySoFar) (result : Option Name) (x : Symbol) → Looser (instruction_by a body result x) (instruction_by b body result x)
   by_word_looser body result s.Phi = phi_line_looser body result
   by_word_looser body result s.Icmp = value_line_looser body result (compare_looser a b up)
   by_word_looser body result s.Select = value_line_looser body result (select_looser a b up)
@@ -102,20 +102,20 @@ module _ (a b : Limits) (up : NoMore a b) where
   by_word_looser body result s.Ret = end_line_looser body (ret_looser a b up)
   by_word_looser body result x = same
 
-  operation_looser : (body : Body) (result : Option Name) (x : Symbol) (o : Option BinOp) (c : Option CastOp) → Looser (operation_by a body result x o c) (operation_by b body result x o c)
+  operation_looser : (body : BodySoFar) (result : Option Name) (x : Symbol) (o : Option BinOp) (c : Option CastOp) → Looser (operation_by a body result x o c) (operation_by b body result x o c)
   operation_looser body result x (Some o) c = value_line_looser body result (binary_looser a b up o)
   operation_looser body result x None (Some o) = value_line_looser body result (cast_looser a b up o)
   operation_looser body result x None None = by_word_looser body result x
 
-  instruction_looser : (body : Body) (result : Option Name) (x : Symbol) → Looser (instruction a body result x) (instruction b body result x)
+  instruction_looser : (body : BodySoFar) (result : Option Name) (x : Symbol) → Looser (instruction a body result x) (instruction b body result x)
   unfolding instruction
   instruction_looser body result x = operation_looser body result x (binary_op x) (cast_op x)
 
-  named_line_looser : (body : Body) (n : Name) → Looser (named_line a body n) (named_line b body n)
+  named_line_looser : (body : BodySoFar) (n : Name) → Looser (named_line a body n) (named_line b body n)
   unfolding named_line
   named_line_looser body n = next same (λ u. next same (λ x. instruction_looser body (Some n) x))
 
-  line_by_looser : (body : Body) (x : Symbol) (t : Lexeme) → Looser (line_by a body x t) (line_by b body x t)
+  line_by_looser : (body : BodySoFar) (x : Symbol) (t : Lexeme) → Looser (line_by a body x t) (line_by b body x t)
   line_by_looser body s.Label t = same
   line_by_looser body s.NumberedLabel t = same
   line_by_looser body s.DebugGroup t = same
@@ -123,11 +123,11 @@ module _ (a b : Limits) (up : NoMore a b) where
   line_by_looser body s.NumberedLocal t = named_line_looser (opened body) _
   line_by_looser body x t = instruction_looser (opened body) None x
 
-  line_looser : (body : Body) (t : Lexeme) → Looser (line a body t) (line b body t)
+  line_looser : (body : BodySoFar) (t : Lexeme) → Looser (line a body t) (line b body t)
   unfolding line
   line_looser body t = line_by_looser body t.symbol t
 
-  blocks_looser : (start : Body) → Looser (blocks a start) (blocks b start)
+  blocks_looser : (start : BodySoFar) → Looser (blocks a start) (blocks b start)
   unfolding blocks
   blocks_looser start = next (repeated (λ body t. line_begins_near body t) (λ body t. line_looser body t)) (λ body. same)
 
@@ -199,11 +199,11 @@ module _ (a b : Limits) (up : NoMore a b) where
   entity_begins_by_near m s.Define t = room_for_function_near m
   entity_begins_by_near m x t = inl refl
 
-  entity_begins_near : (p : Parts) (t : Lexeme) → Near (entity_begins a p t) (entity_begins b p t)
+  entity_begins_near : (p : ModuleSoFar) (t : Lexeme) → Near (entity_begins a p t) (entity_begins b p t)
   unfolding entity_begins
   entity_begins_near p t = entity_begins_by_near p.«module» t.symbol t
 
-  entity_by_looser : (p : Parts) (x : Symbol) (t : Lexeme) → Looser (entity_by a p x t) (entity_by b p x t)
+  entity_by_looser : (p : ModuleSoFar) (x : Symbol) (t : Lexeme) → Looser (entity_by a p x t) (entity_by b p x t)
   entity_by_looser p s.SourceFilename t = same
   entity_by_looser p s.Target t = same
   entity_by_looser p s.Attributes t = same
@@ -214,7 +214,7 @@ module _ (a b : Limits) (up : NoMore a b) where
   entity_by_looser p s.Define t = next (function_looser p.count) (λ f. same)
   entity_by_looser p x t = same
 
-  entity_looser : (p : Parts) (t : Lexeme) → Looser (entity a p t) (entity b p t)
+  entity_looser : (p : ModuleSoFar) (t : Lexeme) → Looser (entity a p t) (entity b p t)
   unfolding entity
   entity_looser p t = entity_by_looser p t.symbol t
 

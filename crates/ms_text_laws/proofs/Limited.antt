@@ -17,11 +17,11 @@ use Rattle.ms_text_grammar.specs.Types.{int_width, int_type_of, opens, int_type,
 use Rattle.ms_bits.specs.declared.operations.BinOp.{BinOp}
 use Rattle.ms_bits.specs.declared.operations.CastOp.{CastOp}
 use Rattle.ms_ir.specs.declared.syntax.Op.{Op}
-use Rattle.ms_text_grammar.specs.declared.states.Edges.{Edges}
+use Rattle.ms_text_grammar.specs.declared.states.PhiEdges.{PhiEdges}
 use Rattle.ms_text_grammar.specs.declared.states.Indices.{Indices}
 use Rattle.ms_text_grammar.specs.Values.{Address, number, gep_words, int_value, truth_value, null_value, no_value, bytes_init, typed, nested_init}
 use Rattle.ms_text_grammar.specs.Skipped.{attributes, suffixes_from, attachments}
-use Rattle.ms_text_grammar.specs.declared.states.Body.{Body}
+use Rattle.ms_text_grammar.specs.declared.states.BodySoFar.{BodySoFar}
 use Rattle.ms_text_grammar.specs.Insts.{Marked, names_printf, binary_carries, cast_carries, compare_carries, flags_of, predicate_word, bit_type, same_type, no_indices, index_begins, count_begins, alloca_of, call_type, callee_type, is_printf, call_end, call_word, edge_begins, case_begins}
 use Rattle.ms_ir.specs.declared.syntax.Block.{Block}
 use Rattle.ms_text_grammar.specs.Bodies.{is_open, opened, opened_as, begins_instruction, with_value, with_call, numbered, unreserved}
@@ -31,8 +31,8 @@ use Rattle.ms_text_grammar.specs.declared.states.Parameters.{Parameters}
 use Rattle.ms_text_grammar.specs.Lines.{value_line, marked_line, effect_line, end_line, value_word_of, record_line, is_whole}
 use Rattle.ms_ir.specs.declared.syntax.GlobalVar.{GlobalVar}
 use Rattle.ms_ir.specs.declared.syntax.Module.{Module}
-use Rattle.ms_text_grammar.specs.declared.states.Parts.{Parts}
-use Rattle.ms_text_grammar.specs.Functions.{no_parameters, numbered_name, with_parameter, dots_come, linkage, function_tail, body_behind}
+use Rattle.ms_text_grammar.specs.declared.states.ModuleSoFar.{ModuleSoFar}
+use Rattle.ms_text_grammar.specs.Functions.{no_parameters, numbered_name, with_parameter, dots_come, linkage, function_tail, body_after}
 use Rattle.ms_text_grammar.specs.Modules.{source_filename, target_entity, attribute_group, metadata_entity, linkage_word_begins, global_kind_of, global_suffix, with_type, with_global, with_declaration, with_function, no_parts, end_of}
 use Rattle.ms_ir.specs.declared.syntax.Name.TheVariants as name
 use Rattle.ms_text_grammar.specs.declared.symbols.Symbol.TheVariants as s
@@ -338,14 +338,14 @@ edge limits type = do
   word s.CloseBracket
   give (v, from)
 
-abbrev pub edge_by : Limits → Ty → List (Operand × Name) → Symbol → Rule Edges
+abbrev pub edge_by : Limits → Ty → List (Operand × Name) → Symbol → Rule PhiEdges
 edge_by limits type found s.OpenBracket = do
   skip
   e ← edge limits type
   give (record { found = found ++ e ∷ []; ended = false })
 edge_by limits type found symbol = give (record { found = found; ended = true })
 
-unfoldable pub edge_turn : Limits → Ty → List (Operand × Name) → Rule Edges
+unfoldable pub edge_turn : Limits → Ty → List (Operand × Name) → Rule PhiEdges
 edge_turn limits type found = next_symbol >>= edge_by limits type found
 
 unfoldable pub phi_rule : Limits → Rule Marked
@@ -402,16 +402,16 @@ ret_rule limits = result_type >>= ret_value limits
 
 -- ---- bodies
 
-abbrev pub counted : Limits → Body → Verdict Bool → Verdict Bool
+abbrev pub counted : Limits → BodySoFar → Verdict Bool → Verdict Bool
 counted limits body verdict = if nat_lt body.count limits.instructions then verdict else Err (r.Limit limit.Instructions)
 
 abbrev pub short : Limits → Text → Verdict Bool
 short limits text = if nat_lt (length text) limits.names then Ok true else Err (r.Limit limit.Name)
 
-abbrev pub word_begins : Limits → Body → Symbol → Verdict Bool
+abbrev pub word_begins : Limits → BodySoFar → Symbol → Verdict Bool
 word_begins limits body symbol = if begins_instruction symbol then counted limits body (Ok true) else Ok false
 
-abbrev pub line_begins_by : Limits → Body → Symbol → Lexeme → Verdict Bool
+abbrev pub line_begins_by : Limits → BodySoFar → Symbol → Lexeme → Verdict Bool
 line_begins_by limits body s.Label t = if is_open body.name then Ok false else unreserved Instrumented (name_in t) (short limits (name_in t))
 line_begins_by limits body s.NumberedLabel t = if is_open body.name then Ok false else numbered body.next (name_in t) (Ok true)
 line_begins_by limits body s.DebugGroup t = Ok true
@@ -423,18 +423,18 @@ line_begins_by limits body symbol t = word_begins limits body symbol
 abbrev pub numbers_left : Limits → ℕ → Bool
 numbers_left limits next = nat_lt next limits.numbers
 
-unfoldable pub line_begins : Limits → Body → Lexeme → Verdict Bool
+unfoldable pub line_begins : Limits → BodySoFar → Lexeme → Verdict Bool
 line_begins limits body t = if numbers_left limits body.next then line_begins_by limits body t.symbol t else Err r.Numbering
 
 -- ---- lines
 
-unfoldable pub phi_line : Limits → Body → Option Name → Rule Body
+unfoldable pub phi_line : Limits → BodySoFar → Option Name → Rule BodySoFar
 phi_line limits body result = phi_rule limits >>= λ m. give (with_value body result true m)
 
-unfoldable pub call_line : Limits → Body → Option Name → Symbol → Rule Body
+unfoldable pub call_line : Limits → BodySoFar → Option Name → Symbol → Rule BodySoFar
 call_line limits body result first = call_rule limits (is_open result) first >>= λ m. give (with_call body result m)
 
-abbrev pub instruction_by : Limits → Body → Option Name → Symbol → Rule Body
+abbrev pub instruction_by : Limits → BodySoFar → Option Name → Symbol → Rule BodySoFar
 instruction_by limits body result s.Phi = phi_line limits body result
 instruction_by limits body result s.Icmp = value_line Instrumented body result (compare_rule limits)
 instruction_by limits body result s.Select = value_line Instrumented body result (select_rule limits)
@@ -453,21 +453,21 @@ instruction_by limits body result s.Ret = end_line Instrumented body (ret_rule l
 instruction_by limits body result s.Unreachable = end_line Instrumented body (give op.Unreachable)
 instruction_by limits body result symbol = refuse
 
-abbrev pub operation_by : Limits → Body → Option Name → Symbol → Option BinOp → Option CastOp → Rule Body
+abbrev pub operation_by : Limits → BodySoFar → Option Name → Symbol → Option BinOp → Option CastOp → Rule BodySoFar
 operation_by limits body result symbol (Some o) c = value_line Instrumented body result (binary_rule limits o)
 operation_by limits body result symbol None (Some o) = value_line Instrumented body result (cast_rule limits o)
 operation_by limits body result symbol None None = instruction_by limits body result symbol
 
-unfoldable pub instruction : Limits → Body → Option Name → Symbol → Rule Body
+unfoldable pub instruction : Limits → BodySoFar → Option Name → Symbol → Rule BodySoFar
 instruction limits body result symbol = operation_by limits body result symbol (binary_op symbol) (cast_op symbol)
 
-unfoldable pub named_line : Limits → Body → Name → Rule Body
+unfoldable pub named_line : Limits → BodySoFar → Name → Rule BodySoFar
 named_line limits body result = do
   word s.Equals
   symbol ← one (value_word_of body.phis)
   instruction limits body (Some result) symbol
 
-abbrev pub line_by : Limits → Body → Symbol → Lexeme → Rule Body
+abbrev pub line_by : Limits → BodySoFar → Symbol → Lexeme → Rule BodySoFar
 line_by limits body s.Label t = give (opened_as body (name.Text (name_in t)) 0)
 line_by limits body s.NumberedLabel t = give (opened_as body (name.Number body.next) 1)
 line_by limits body s.DebugGroup t = record_line Instrumented (opened body)
@@ -475,10 +475,10 @@ line_by limits body s.Local t = named_line limits (opened body) (name.Text (name
 line_by limits body s.NumberedLocal t = named_line limits (opened body) (name.Number (opened body).next)
 line_by limits body symbol t = instruction limits (opened body) None symbol
 
-unfoldable pub line : Limits → Body → Lexeme → Rule Body
+unfoldable pub line : Limits → BodySoFar → Lexeme → Rule BodySoFar
 line limits body t = line_by limits body t.symbol t
 
-unfoldable pub blocks : Limits → Body → Rule (List Block)
+unfoldable pub blocks : Limits → BodySoFar → Rule (List Block)
 blocks limits start = do
   body ← loop (line_begins limits) (line limits) start
   cond (is_whole body) (word s.CloseBrace >> give body.blocks) refuse
@@ -534,7 +534,7 @@ function limits before = do
   ps ← parameters limits false
   function_tail Instrumented
   word s.OpenBrace
-  all ← blocks limits (body_behind ps before)
+  all ← blocks limits (body_after ps before)
   give (record { name = n; ret = result; params = ps.found; blocks = all })
 
 -- ---- modules
@@ -578,10 +578,10 @@ entity_begins_by limits m s.Declare t = room_for_function limits m
 entity_begins_by limits m s.Define t = room_for_function limits m
 entity_begins_by limits m symbol t = Ok false
 
-unfoldable pub entity_begins : Limits → Parts → Lexeme → Verdict Bool
+unfoldable pub entity_begins : Limits → ModuleSoFar → Lexeme → Verdict Bool
 entity_begins limits parts t = entity_begins_by limits parts.«module» t.symbol t
 
-abbrev pub entity_by : Limits → Parts → Symbol → Lexeme → Rule Parts
+abbrev pub entity_by : Limits → ModuleSoFar → Symbol → Lexeme → Rule ModuleSoFar
 entity_by limits parts s.SourceFilename t = source_filename >> give parts
 entity_by limits parts s.Target t = target_entity >> give parts
 entity_by limits parts s.Attributes t = attribute_group Instrumented >> give parts
@@ -592,7 +592,7 @@ entity_by limits parts s.Declare t = declaration limits >>= λ d. give (with_dec
 entity_by limits parts s.Define t = function limits parts.count >>= λ f. give (with_function parts f)
 entity_by limits parts symbol t = metadata_entity Instrumented >> give parts
 
-unfoldable pub entity : Limits → Parts → Lexeme → Rule Parts
+unfoldable pub entity : Limits → ModuleSoFar → Lexeme → Rule ModuleSoFar
 entity limits parts t = entity_by limits parts t.symbol t
 
 unfoldable pub module_rule : Limits → Rule Module

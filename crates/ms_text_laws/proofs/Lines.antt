@@ -17,18 +17,18 @@ use Rattle.ms_ir.specs.declared.syntax.Inst.{Inst}
 use Rattle.ms_ir.specs.declared.forms.Form.TheVariants.{Instrumented}
 use Rattle.ms_text_grammar.specs.declared.refusals.Cause.TheVariants as r
 use Rattle.ms_text_grammar.specs.declared.refusals.Limit.TheVariants as limit
-use Rattle.ms_text_grammar.specs.declared.states.Body.{Body}
+use Rattle.ms_text_grammar.specs.declared.states.BodySoFar.{BodySoFar}
 use Rattle.ms_text_grammar.specs.declared.symbols.Symbol.TheVariants as s
 use Rattle.ms_text_grammar.specs.Lexemes.{Lexeme, end_of_text, same_symbol, symbol_of, name_in}
 use Rattle.ms_text_grammar.specs.Steps.{word, refusal, binary_op, cast_op}
 use Rattle.ms_text_grammar.specs.Bodies.{opened, numbers_of, name_or, unreserved}
 use Rattle.ms_text_grammar.specs.Lines.{gives_value, value_word_of}
-use Rattle.ms_valid.specs.FormedNames.{are_bytes, is_local_name}
-use Rattle.ms_valid.specs.FormedCode.{name_formed, is_terminator}
+use Rattle.ms_check_valid.specs.FormedNames.{are_bytes, is_local_name}
+use Rattle.ms_check_valid.specs.FormedCode.{name_formed, is_terminator}
 use Rattle.ms_ir.specs.Written.{result_type}
-use Rattle.ms_text_layout.specs.Pieces.{sign}
-use Rattle.ms_text_layout.specs.Names.{local_token}
-use Rattle.ms_text_layout.specs.Insts.{op_tokens, named_tokens, mark_tokens}
+use Rattle.ms_text_grammar.specs.LayoutPieces.{sign}
+use Rattle.ms_text_grammar.specs.LayoutNames.{local_token}
+use Rattle.ms_text_grammar.specs.LayoutInsts.{op_tokens, named_tokens, mark_tokens}
 use Rattle.ms_text_laws.proofs.Limited.{Limits, counted, short, line_begins_by, line_begins, instruction, named_line, line_by, line}
 use Rattle.ms_text_laws.proofs.Takes.{Takes, taken, chain, turned, word_taken, along}
 use Rattle.ms_text_laws.proofs.Spelled.{is_below, local_number_symbol, local_text_symbol, local_number_in, local_text_in, local_unreserved}
@@ -37,7 +37,7 @@ use Rattle.ms_text_laws.proofs.Ops.{op_head, op_symbol, head_symbol, op_tail, op
 
 -- ---- results
 
--- the number that is next behind a result
+-- the number that is next after a result
 abbrev pub next_of : ℕ → Option Name → ℕ
 next_of k None = k
 next_of k (Some x) = k + numbers_of (Some x)
@@ -58,10 +58,10 @@ is_short_result most (Some x) = is_below most x
 abbrev pub inst_of : Op → Option Name → Bool → Inst
 inst_of o result marked = record { op = o; result = result; marked = marked }
 
-abbrev Grows : Body → Op → Option Name → Bool → Type 0
+abbrev Grows : BodySoFar → Op → Option Name → Bool → Type 0
 Grows b o result marked = next_body b result o marked ≡ record b { insts = b.insts ++ inst_of o result marked ∷ []; next = next_of b.next result; count = b.count + 1; phis = is_phi o }
 
-pub grown : (b : Body) (o : Op) (result : Option Name) (marked : Bool) → name_formed (result_type o) result ≡ true → is_terminator o ≡ false → Grows b o result marked
+pub grown : (b : BodySoFar) (o : Op) (result : Option Name) (marked : Bool) → name_formed (result_type o) result ≡ true → is_terminator o ≡ false → Grows b o result marked
 grown b (op.Binary o flags t x y) (Some n) marked h e = refl
 grown b (op.Binary o flags t x y) None marked h e = absurd cc
 grown b (op.Icmp p flags t x y) (Some n) marked h e = refl
@@ -92,12 +92,12 @@ grown b (op.Switch t v other cases) result marked h e = absurd cc
 grown b (op.Ret value) result marked h e = absurd cc
 grown b op.Unreachable result marked h e = absurd cc
 
-abbrev Finishes : Body → Op → Option Name → Bool → Type 0
+abbrev Finishes : BodySoFar → Op → Option Name → Bool → Type 0
 Finishes b o result marked =
     next_body b result o marked
     ≡ record b { blocks = b.blocks ++ record { name = name_or b.name 0; insts = b.insts ++ inst_of o result marked ∷ [] } ∷ []; name = None; insts = []; count = b.count + 1; phis = false }
 
-pub finished : (b : Body) (o : Op) (result : Option Name) (marked : Bool) → name_formed (result_type o) result ≡ true → is_terminator o ≡ true → Finishes b o result marked × (next_of b.next result ≡ b.next)
+pub finished : (b : BodySoFar) (o : Op) (result : Option Name) (marked : Bool) → name_formed (result_type o) result ≡ true → is_terminator o ≡ true → Finishes b o result marked × (next_of b.next result ≡ b.next)
 finished b (op.Br to) None marked h e = (refl, refl)
 finished b (op.Br to) (Some x) marked h e = absurd cc
 finished b (op.CondBr c to other) None marked h e = (refl, refl)
@@ -140,7 +140,7 @@ inst_fresh dotted o (Some x) marked rest h = fresh_local x
 inst_fresh dotted o None marked rest h =
     subst (λ ts. Fresh (head end_of_text ts).symbol) (sym (op_line dotted o marked rest)) (subst Fresh (sym (head_symbol o)) (fresh_op o h))
 
--- ---- words behind a result's name
+-- ---- words after a result's name
 
 binary_gives : (phis : Bool) (o : BinOp) → gives_value phis (binary_symbol o) ≡ true
 unfolding binary_op
@@ -181,12 +181,12 @@ gives_good phis (op.Call ret callee args) x h p = refl
 gives_good phis o x h p = absurd cc
 
 module _ (limits : Limits) (some : 0 < limits.indices) (dotted : Bool) where
-  abbrev pub Loop : Body → List Lexeme → Body → List Lexeme → Type 0
+  abbrev pub Loop : BodySoFar → List Lexeme → BodySoFar → List Lexeme → Type 0
   Loop b ts v rest = Takes (loop (line_begins limits) (line limits) b) ts v rest
 
   -- ---- unnamed lines
 
-  unnamed_line : (b : Body) (o : Op) (t : Lexeme) {ts rest : List Lexeme} {v : Body} → name_formed (result_type o) None ≡ true → Takes (instruction limits (opened b) None (op_symbol o)) ts v rest → Takes (line_by limits b (op_symbol o) t) ts v rest
+  unnamed_line : (b : BodySoFar) (o : Op) (t : Lexeme) {ts rest : List Lexeme} {v : BodySoFar} → name_formed (result_type o) None ≡ true → Takes (instruction limits (opened b) None (op_symbol o)) ts v rest → Takes (line_by limits b (op_symbol o) t) ts v rest
   unnamed_line b (op.Store x v a) t h p = p
   unnamed_line b (op.Call ret x args) t h p = p
   unnamed_line b (op.Br to) t h p = p
@@ -196,10 +196,10 @@ module _ (limits : Limits) (some : 0 < limits.indices) (dotted : Bool) where
   unnamed_line b op.Unreachable t h p = p
   unnamed_line b o t h p = absurd cc
 
-  room_good : (b : Body) → b.count < limits.instructions → counted limits b (Ok true) ≡ Ok true
+  room_good : (b : BodySoFar) → b.count < limits.instructions → counted limits b (Ok true) ≡ Ok true
   room_good b h = ap (λ c. cond c (Ok true) (Err (r.Limit limit.Instructions))) (lt-ltb b.count limits.instructions h)
 
-  unnamed_room : (b : Body) (o : Op) (t : Lexeme) → name_formed (result_type o) None ≡ true → b.count < limits.instructions → line_begins_by limits b (op_symbol o) t ≡ Ok true
+  unnamed_room : (b : BodySoFar) (o : Op) (t : Lexeme) → name_formed (result_type o) None ≡ true → b.count < limits.instructions → line_begins_by limits b (op_symbol o) t ≡ Ok true
   unnamed_room b (op.Store x v a) t h few = room_good b few
   unnamed_room b (op.Call ret x args) t h few = room_good b few
   unnamed_room b (op.Br to) t h few = room_good b few
@@ -209,7 +209,7 @@ module _ (limits : Limits) (some : 0 < limits.indices) (dotted : Bool) where
   unnamed_room b op.Unreachable t h few = room_good b few
   unnamed_room b o t h few = absurd cc
 
-  pub begins_good : (b : Body) (t : Lexeme) → b.next < limits.numbers → line_begins_by limits b t.symbol t ≡ Ok true → line_begins limits b t ≡ Ok true
+  pub begins_good : (b : BodySoFar) (t : Lexeme) → b.next < limits.numbers → line_begins_by limits b t.symbol t ≡ Ok true → line_begins limits b t ≡ Ok true
   unfolding line_begins
   begins_good b t h p = ap (λ c. cond c (line_begins_by limits b t.symbol t) (Err r.Numbering)) (lt-ltb b.next limits.numbers h) ∙ p
 
@@ -224,7 +224,7 @@ module _ (limits : Limits) (some : 0 < limits.indices) (dotted : Bool) where
       ap (λ y. cond (gives_value phis y) (Ok y) (Err (refusal (op_head o)))) (head_symbol o)
       ∙ ap (λ c. cond c (Ok (op_symbol o)) (Err (refusal (op_head o)))) (gives_good phis o x h p)
 
-  named_taken : (b : Body) (o : Op) (x : Name) (marked : Bool) (rest : List Lexeme) → OpFits limits o → name_formed (result_type o) (Some x) ≡ true → (is_phi o ≡ true → b.phis ≡ true) → IsFresh rest
+  named_taken : (b : BodySoFar) (o : Op) (x : Name) (marked : Bool) (rest : List Lexeme) → OpFits limits o → name_formed (result_type o) (Some x) ≡ true → (is_phi o ≡ true → b.phis ≡ true) → IsFresh rest
       → Takes (named_line limits b x) (sign (codes "=") ∷ ((op_tokens dotted o ++ mark_tokens marked) ++ rest)) (next_body b (Some x) o marked) rest
   unfolding named_line
   named_taken b o x marked rest h n p fresh =
@@ -243,7 +243,7 @@ module _ (limits : Limits) (some : 0 < limits.indices) (dotted : Bool) where
     | Some t ↦ λ p. p
   ] h
 
-  pub line_taken : (b : Body) (o : Op) (result : Option Name) (marked : Bool) (rest : List Lexeme) {v : Body} {end : List Lexeme} → b.next < limits.numbers → b.count < limits.instructions → OpFits limits o
+  pub line_taken : (b : BodySoFar) (o : Op) (result : Option Name) (marked : Bool) (rest : List Lexeme) {v : BodySoFar} {end : List Lexeme} → b.next < limits.numbers → b.count < limits.instructions → OpFits limits o
       → name_formed (result_type o) result ≡ true → ResultFits (opened b).next result → (is_phi o ≡ true → (opened b).phis ≡ true) → IsFresh rest
       → Loop (next_body (opened b) result o marked) rest v end → Loop b (tokens_of dotted o result marked ++ rest) v end
   unfolding line

@@ -5,7 +5,7 @@ use Rattle.ms_text_grammar.specs.declared.symbols.Symbol.{Symbol}
 use Rattle.ms_text_grammar.specs.declared.symbols.Symbol.TheVariants as s
 use Rattle.ms_text_grammar.specs.Lexemes.{Lexeme, end_of_text, is, same_symbol, symbol_of}
 use Rattle.ms_text_grammar.specs.Steps.{Rule, word, comma_begins, listed}
-use Rattle.ms_text_layout.specs.Pieces.{comma, behind_commas, with_commas}
+use Rattle.ms_text_grammar.specs.LayoutPieces.{comma, after_commas, with_commas}
 use Rattle.ms_text_laws.proofs.Takes.{Takes, given, taken, seen, chain, turned, ended, along}
 
 -- Part after part takes the state further, before tokens that pass the test.
@@ -22,7 +22,7 @@ pub comma_is : is s.Comma comma ≡ true
 unfolding symbol_of same_symbol
 comma_is = refl
 
--- the closing token, behind which the rest stands
+-- the closing token, after which the rest stands
 pub record Closing (good : Lexeme → Bool) (closing : Symbol) (close : Lexeme) : Type 0 where
   pub closes : is closing close ≡ true
   pub no_comma : is s.Comma close ≡ false
@@ -30,9 +30,9 @@ pub record Closing (good : Lexeme → Bool) (closing : Symbol) (close : Lexeme) 
   pub comma_allowed : good comma ≡ true
 
 module _ {S : Type 0} (good : Lexeme → Bool) (more : S → Bool) (item : S → Rule S) (closing : Symbol) (close : Lexeme) (c : Closing good closing close) where
-  behind_allowed : (parts : List (List Lexeme)) (rest : List Lexeme) → good (head end_of_text (behind_commas parts ++ close ∷ rest)) ≡ true
-  behind_allowed [] rest = c.allowed
-  behind_allowed (part ∷ parts) rest = c.comma_allowed
+  after_allowed : (parts : List (List Lexeme)) (rest : List Lexeme) → good (head end_of_text (after_commas parts ++ close ∷ rest)) ≡ true
+  after_allowed [] rest = c.allowed
+  after_allowed (part ∷ parts) rest = c.comma_allowed
 
   and_true : (a b : Bool) → a ≡ true → b ≡ true → (a && b) ≡ true
   and_true true b p q = q
@@ -43,11 +43,11 @@ module _ {S : Type 0} (good : Lexeme → Bool) (more : S → Bool) (item : S →
   and_false false b p = refl
 
   pub loop_back : (parts : List (List Lexeme)) (start end : S) (rest : List Lexeme) → AllTake good more item parts start end
-      → Takes (loop (comma_begins more) (λ state separator. item state) start) (behind_commas parts ++ close ∷ rest) end (close ∷ rest)
+      → Takes (loop (comma_begins more) (λ state separator. item state) start) (after_commas parts ++ close ∷ rest) end (close ∷ rest)
   loop_back [] start end rest h = rw h (ended (ap Ok (and_false (more start) (is s.Comma close) c.no_comma)))
   loop_back (part ∷ parts) start end rest h =
       turned (ap Ok (and_true (more start) (is s.Comma comma) h.0 comma_is))
-      (along (append_assoc part (behind_commas parts) (close ∷ rest)) (h.2 (behind_commas parts ++ close ∷ rest) (behind_allowed parts rest)))
+      (along (append_assoc part (after_commas parts) (close ∷ rest)) (h.2 (after_commas parts ++ close ∷ rest) (after_allowed parts rest)))
       (loop_back parts h.1 end rest h.3)
 
   pub close_taken : (rest : List Lexeme) → Takes (word closing) (close ∷ rest) tt rest
@@ -64,6 +64,6 @@ module _ {S : Type 0} (good : Lexeme → Bool) (more : S → Bool) (item : S →
   unfolding listed
   listed_back [] start end rest b h = rw h (chain (seen (ap Ok c.closes)) (chain (taken refl) given))
   listed_back (part ∷ parts) start end rest b h =
-      let behind : List Lexeme = behind_commas parts ++ close ∷ rest in
-      along (append_assoc part (behind_commas parts) (close ∷ rest))
-      (chain (seen (ap Ok (b behind))) (chain (h.2 behind (behind_allowed parts rest)) (chain (loop_back parts h.1 end rest h.3) (chain (close_taken rest) given))))
+      let after : List Lexeme = after_commas parts ++ close ∷ rest in
+      along (append_assoc part (after_commas parts) (close ∷ rest))
+      (chain (seen (ap Ok (b after))) (chain (h.2 after (after_allowed parts rest)) (chain (loop_back parts h.1 end rest h.3) (chain (close_taken rest) given))))

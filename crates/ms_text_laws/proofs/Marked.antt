@@ -26,13 +26,13 @@ use Rattle.ms_text_grammar.specs.Types.{int_width, is_width as has_width, int_ty
 use Rattle.ms_text_grammar.specs.Values.{is_gep_word, gep_words}
 use Rattle.ms_text_grammar.specs.Skipped.{is_attribute, attributes, suffixes_from}
 use Rattle.ms_text_grammar.specs.Insts.{no_indices, index_begins, count_begins, call_type, is_i32, variadic_type, callee_type, is_printf, names_printf, call_end, edge_begins}
-use Rattle.ms_valid.specs.FormedNames.{are_bytes, is_local_name, is_global_name}
-use Rattle.ms_valid.specs.FormedCode.{is_width, is_int_type, is_value_type, type_formed, result_formed}
-use Rattle.ms_text_layout.specs.Pieces.{word as word_token, sign, comma, meta as meta_token, three_dots, behind_commas, with_commas, enclosed}
-use Rattle.ms_text_layout.specs.Names.{local_token, global_token}
-use Rattle.ms_text_layout.specs.Types.{type_tokens, result_tokens}
-use Rattle.ms_text_layout.specs.Values.{value_tokens, typed_tokens, pair_tokens}
-use Rattle.ms_text_layout.specs.Insts.{address_tokens, edge_tokens, is_one, count_tokens, callee_type_tokens, mark_tokens}
+use Rattle.ms_check_valid.specs.FormedNames.{are_bytes, is_local_name, is_global_name}
+use Rattle.ms_check_valid.specs.FormedCode.{is_width, is_int_type, is_value_type, type_formed, result_formed}
+use Rattle.ms_text_grammar.specs.LayoutPieces.{word as word_token, sign, comma, meta as meta_token, three_dots, after_commas, with_commas, enclosed}
+use Rattle.ms_text_grammar.specs.LayoutNames.{local_token, global_token}
+use Rattle.ms_text_grammar.specs.LayoutTypes.{type_tokens, result_tokens}
+use Rattle.ms_text_grammar.specs.LayoutValues.{value_tokens, typed_tokens, pair_tokens}
+use Rattle.ms_text_grammar.specs.LayoutInsts.{address_tokens, edge_tokens, is_one, count_tokens, callee_type_tokens, mark_tokens}
 use Rattle.ms_text_laws.proofs.Limited.{Limits, global_name, index_type_of, index_turn, gep_rule, alloca_rule, callee_name, callee_by, callee, argument_type_of, argument, arguments, call_rule, edge, edge_turn, phi_rule}
 use Rattle.ms_text_laws.proofs.Takes.{Takes, given, taken, seen, chain, turned, ended, by_symbol, chosen, other, word_taken, along}
 use Rattle.ms_text_laws.proofs.Spelled.{is_below, int_token, int_token_symbol, global_text_in, local_number_symbol, local_text_symbol, int_token_width, global_name_good}
@@ -42,14 +42,14 @@ use Rattle.ms_text_laws.proofs.Values.{ValueFits, starts_value, value_starts, co
 use Rattle.ms_text_laws.proofs.Flags.{IsFresh, no_mark, marked_taken, ended_taken, mark_symbol}
 use Rattle.ms_text_laws.proofs.Insts.{OperandsFit, first_operand, rest_operands, operand_taken, typed_split, int_type_good, address_taken, name_taken}
 
--- ---- what is behind the last comma
+-- ---- what is after the last comma
 
--- the mark behind its comma, which was read
-abbrev pub behind_comma : Bool → List Lexeme → List Lexeme
-behind_comma false rest = rest
-behind_comma true rest = meta_token (codes "!nosanitize") ∷ meta_token (codes "!0") ∷ rest
+-- the mark after its comma, which was read
+abbrev pub after_comma : Bool → List Lexeme → List Lexeme
+after_comma false rest = rest
+after_comma true rest = meta_token (codes "!nosanitize") ∷ meta_token (codes "!0") ∷ rest
 
-suffix_end : (marked : Bool) (rest : List Lexeme) → IsFresh rest → Takes (suffixes_from Instrumented marked) (behind_comma marked rest) marked rest
+suffix_end : (marked : Bool) (rest : List Lexeme) → IsFresh rest → Takes (suffixes_from Instrumented marked) (after_comma marked rest) marked rest
 unfolding suffixes_from
 suffix_end false rest h = chain given (no_mark rest false h)
 suffix_end true rest h = ended_taken rest h
@@ -111,32 +111,32 @@ module _ (limits : Limits) where
   index_taken (Struct' packed shape fields) a found rest int p few = absurd cc
   index_taken (Named x) a found rest int p few = absurd cc
 
-  -- no index behind the comma
-  no_index : (found : List (Ty × Operand)) (rest : List Lexeme) → Takes (index_turn limits found) (behind_comma true rest) (record { found = found; ended = true }) (behind_comma true rest)
+  -- no index after the comma
+  no_index : (found : List (Ty × Operand)) (rest : List Lexeme) → Takes (index_turn limits found) (after_comma true rest) (record { found = found; ended = true }) (after_comma true rest)
   unfolding index_turn
   no_index found rest = by_symbol s.NoSanitize mark_symbol given
 
   indices_end : (marked : Bool) (found : List (Ty × Operand)) (rest : List Lexeme) → IsFresh rest
-      → Takes (loop index_begins (λ indices separator. index_turn limits indices.found) (record { found = found; ended = false })) (mark_tokens marked ++ rest) (record { found = found; ended = marked }) (behind_comma marked rest)
+      → Takes (loop index_begins (λ indices separator. index_turn limits indices.found) (record { found = found; ended = false })) (mark_tokens marked ++ rest) (record { found = found; ended = marked }) (after_comma marked rest)
   indices_end false found rest h = ended (ap Ok h.comma)
   indices_end true found rest h = turned (ap Ok comma_is) (no_index found rest) (ended refl)
 
   indices_taken : (indices found : List (Ty × Operand)) (marked : Bool) (rest : List Lexeme) → list_all (λ i. is_int_type i.0) indices ≡ true → OperandsFit limits indices → length found + length indices ≤ limits.indices → IsFresh rest
-      → Takes (loop index_begins (λ indices separator. index_turn limits indices.found) (record { found = found; ended = false })) (behind_commas (map pair_tokens indices) ++ (mark_tokens marked ++ rest))
-      (record { found = found ++ indices; ended = marked }) (behind_comma marked rest)
+      → Takes (loop index_begins (λ indices separator. index_turn limits indices.found) (record { found = found; ended = false })) (after_commas (map pair_tokens indices) ++ (mark_tokens marked ++ rest))
+      (record { found = found ++ indices; ended = marked }) (after_comma marked rest)
   indices_taken [] found marked rest int p few h = valued (ap (λ xs. record { found = xs; ended = marked }) (sym (append-nil found))) (indices_end marked found rest h)
   indices_taken (i ∷ indices) found marked rest int p few h =
       let ints = and_parts (is_int_type i.0) (list_all (λ i. is_int_type i.0) indices) int in
       turned (ap Ok comma_is)
-      (along (append_assoc (pair_tokens i) (behind_commas (map pair_tokens indices)) (mark_tokens marked ++ rest)) (index_taken i.0 i.1 found _ ints.0 (first_operand limits i indices p) (omega (arith, few))))
+      (along (append_assoc (pair_tokens i) (after_commas (map pair_tokens indices)) (mark_tokens marked ++ rest)) (index_taken i.0 i.1 found _ ints.0 (first_operand limits i indices p) (omega (arith, few))))
       (valued (ap (λ xs. record { found = xs; ended = marked }) (append_assoc found (i ∷ []) indices))
       (indices_taken indices (found ++ i ∷ []) marked rest ints.1 (rest_operands limits i indices p) (omega (arith, few, length-append found (i ∷ []))) h))
 
   gep_tokens : (t : Ty) (base : Operand) (indices : List (Ty × Operand)) (ts : List Lexeme)
-      → with_commas (type_tokens t ∷ address_tokens base ∷ map pair_tokens indices) ++ ts ≡ type_tokens t ++ comma ∷ (address_tokens base ++ (behind_commas (map pair_tokens indices) ++ ts))
+      → with_commas (type_tokens t ∷ address_tokens base ∷ map pair_tokens indices) ++ ts ≡ type_tokens t ++ comma ∷ (address_tokens base ++ (after_commas (map pair_tokens indices) ++ ts))
   gep_tokens t base indices ts =
-      append_assoc (type_tokens t) (behind_commas (address_tokens base ∷ map pair_tokens indices)) ts
-      ∙ ap (λ ys. type_tokens t ++ comma ∷ ys) (append_assoc (address_tokens base) (behind_commas (map pair_tokens indices)) ts)
+      append_assoc (type_tokens t) (after_commas (address_tokens base ∷ map pair_tokens indices)) ts
+      ∙ ap (λ ys. type_tokens t ++ comma ∷ ys) (append_assoc (address_tokens base) (after_commas (map pair_tokens indices)) ts)
 
   pub step_taken : (t : Ty) (base : Operand) (indices : List (Ty × Operand)) (marked : Bool) (rest : List Lexeme) → TypeFits limits (suc limits.depth) t → OperandsFit limits ((Ptr, base) ∷ indices)
       → list_all (λ i. is_int_type i.0) indices ≡ true → length indices ≤ limits.indices → IsFresh rest
@@ -166,7 +166,7 @@ module _ (limits : Limits) where
   abbrev Count : List (Ty × Operand) → List Lexeme → Bool → List Lexeme → Type 0
   Count start ts is_ended rest = Takes (loop count_begins (λ indices separator. index_turn limits indices.found) no_indices) ts (record { found = start; ended = is_ended }) rest
 
-  count_end : (marked : Bool) (rest : List Lexeme) → IsFresh rest → Count [] (mark_tokens marked ++ rest) marked (behind_comma marked rest)
+  count_end : (marked : Bool) (rest : List Lexeme) → IsFresh rest → Count [] (mark_tokens marked ++ rest) marked (after_comma marked rest)
   count_end false rest h = ended (ap Ok h.comma)
   count_end true rest h = turned (ap Ok comma_is) (no_index [] rest) (ended refl)
 
@@ -181,7 +181,7 @@ module _ (limits : Limits) where
       → Takes (alloca_rule limits) (with_commas (type_tokens t ∷ typed_tokens u count ∷ []) ++ (mark_tokens marked ++ rest)) (op.Alloca t u count, marked) rest
   unfolding alloca_rule
   alloca_counted t u count marked rest some type int p h =
-      along (append_assoc (type_tokens t) (behind_commas (typed_tokens u count ∷ [])) (mark_tokens marked ++ rest) ∙ ap (λ ys. type_tokens t ++ comma ∷ ys) (append_assoc (typed_tokens u count) [] (mark_tokens marked ++ rest)))
+      along (append_assoc (type_tokens t) (after_commas (typed_tokens u count ∷ [])) (mark_tokens marked ++ rest) ∙ ap (λ ys. type_tokens t ++ comma ∷ ys) (append_assoc (typed_tokens u count) [] (mark_tokens marked ++ rest)))
       (chain (type_taken limits t (suc limits.depth) _ type)
       (chain (turned (ap Ok comma_is) (index_taken u count [] _ int p some) (ended refl)) (chain (marked_taken marked rest h) given)))
 
@@ -205,7 +205,7 @@ module _ (limits : Limits) where
   EdgesFit t [] = Unit {0}
   EdgesFit t (e ∷ edges) = EdgeFits t e × EdgesFit t edges
 
-  -- behind `[`
+  -- after `[`
   edge_taken : (t : Ty) (e : Operand × Name) (rest : List Lexeme) → EdgeFits t e → Takes (edge limits t) (value_tokens t e.0 ++ comma ∷ local_token e.1 ∷ sign (codes "]") ∷ rest) e rest
   unfolding edge
   edge_taken t e rest h = chain (operand_taken limits t e.0 _ h.0) (chain comma_taken (chain (name_taken limits e.1 _ h.1) (chain close_bracket_taken given)))
@@ -214,27 +214,27 @@ module _ (limits : Limits) where
   edge_tokens_are t e rest = ap (λ ys. sign (codes "[") ∷ ys) (append_assoc (value_tokens t e.0) (comma ∷ local_token e.1 ∷ sign (codes "]") ∷ []) rest)
 
   edges_end : (t : Ty) (marked : Bool) (found : List (Operand × Name)) (rest : List Lexeme) → IsFresh rest
-      → Takes (loop edge_begins (λ edges separator. edge_turn limits t edges.found) (record { found = found; ended = false })) (mark_tokens marked ++ rest) (record { found = found; ended = marked }) (behind_comma marked rest)
+      → Takes (loop edge_begins (λ edges separator. edge_turn limits t edges.found) (record { found = found; ended = false })) (mark_tokens marked ++ rest) (record { found = found; ended = marked }) (after_comma marked rest)
   unfolding edge_turn
   edges_end t false found rest h = ended (ap Ok h.comma)
   edges_end t true found rest h = turned (ap Ok comma_is) (by_symbol s.NoSanitize mark_symbol given) (ended refl)
 
   edges_taken : (t : Ty) (edges found : List (Operand × Name)) (marked : Bool) (rest : List Lexeme) → EdgesFit t edges → IsFresh rest
-      → Takes (loop edge_begins (λ edges separator. edge_turn limits t edges.found) (record { found = found; ended = false })) (behind_commas (map (edge_tokens t) edges) ++ (mark_tokens marked ++ rest))
-      (record { found = found ++ edges; ended = marked }) (behind_comma marked rest)
+      → Takes (loop edge_begins (λ edges separator. edge_turn limits t edges.found) (record { found = found; ended = false })) (after_commas (map (edge_tokens t) edges) ++ (mark_tokens marked ++ rest))
+      (record { found = found ++ edges; ended = marked }) (after_comma marked rest)
   unfolding edge_turn symbol_of
   edges_taken t [] found marked rest p h = valued (ap (λ xs. record { found = xs; ended = marked }) (sym (append-nil found))) (edges_end t marked found rest h)
   edges_taken t (e ∷ edges) found marked rest p h =
       turned (ap Ok comma_is)
-      (along (append_assoc (edge_tokens t e) (behind_commas (map (edge_tokens t) edges)) (mark_tokens marked ++ rest) ∙ edge_tokens_are t e (behind_commas (map (edge_tokens t) edges) ++ (mark_tokens marked ++ rest)))
+      (along (append_assoc (edge_tokens t e) (after_commas (map (edge_tokens t) edges)) (mark_tokens marked ++ rest) ∙ edge_tokens_are t e (after_commas (map (edge_tokens t) edges) ++ (mark_tokens marked ++ rest)))
       (by_symbol s.OpenBracket refl (chain (taken refl) (chain (edge_taken t e _ p.0) given))))
       (valued (ap (λ xs. record { found = xs; ended = marked }) (append_assoc found (e ∷ []) edges)) (edges_taken t edges (found ++ e ∷ []) marked rest p.1 h))
 
   phi_tokens : (t : Ty) (e : Operand × Name) (edges : List (Operand × Name)) (ts : List Lexeme)
-      → (type_tokens t ++ with_commas (map (edge_tokens t) (e ∷ edges))) ++ ts ≡ type_tokens t ++ sign (codes "[") ∷ (value_tokens t e.0 ++ comma ∷ local_token e.1 ∷ sign (codes "]") ∷ (behind_commas (map (edge_tokens t) edges) ++ ts))
+      → (type_tokens t ++ with_commas (map (edge_tokens t) (e ∷ edges))) ++ ts ≡ type_tokens t ++ sign (codes "[") ∷ (value_tokens t e.0 ++ comma ∷ local_token e.1 ∷ sign (codes "]") ∷ (after_commas (map (edge_tokens t) edges) ++ ts))
   phi_tokens t e edges ts =
       append_assoc (type_tokens t) (with_commas (map (edge_tokens t) (e ∷ edges))) ts
-      ∙ ap (λ ys. type_tokens t ++ ys) (append_assoc (edge_tokens t e) (behind_commas (map (edge_tokens t) edges)) ts ∙ edge_tokens_are t e (behind_commas (map (edge_tokens t) edges) ++ ts))
+      ∙ ap (λ ys. type_tokens t ++ ys) (append_assoc (edge_tokens t e) (after_commas (map (edge_tokens t) edges)) ts ∙ edge_tokens_are t e (after_commas (map (edge_tokens t) edges) ++ ts))
 
   pub phi_taken : (t : Ty) (e : Operand × Name) (edges : List (Operand × Name)) (marked : Bool) (rest : List Lexeme) → is_value_type t ≡ true → EdgesFit t (e ∷ edges) → IsFresh rest
       → Takes (phi_rule limits) ((type_tokens t ++ with_commas (map (edge_tokens t) (e ∷ edges))) ++ (mark_tokens marked ++ rest)) (op.Phi t (e ∷ edges), marked) rest
@@ -268,14 +268,14 @@ module _ (limits : Limits) where
       → Takes (argument limits counted found) (pair_tokens a ++ rest) (found ++ a ∷ []) rest
   unfolding argument
   argument_taken counted a found rest type few p =
-      let behind : List Lexeme = value_tokens a.0 a.1 ++ rest in
+      let later : List Lexeme = value_tokens a.0 a.1 ++ rest in
       along (typed_split limits a.0 a.1 rest)
-      (chain (one_token (argument_type_of limits counted (length found)) a.0 a.0 behind type (argument_type_good counted a.0 (length found) behind type few))
-      (chain (no_attributes behind (value_no_attribute _ (value_starts a.0 a.1 rest))) (chain (operand_taken limits a.0 a.1 rest p) given)))
+      (chain (one_token (argument_type_of limits counted (length found)) a.0 a.0 later type (argument_type_good counted a.0 (length found) later type few))
+      (chain (no_attributes later (value_no_attribute _ (value_starts a.0 a.1 rest))) (chain (operand_taken limits a.0 a.1 rest p) given)))
 
-  room_behind : (counted : Bool) (a b : ℕ) → a < b → (counted ≡ true → b ≤ limits.parameters) → (not counted || nat_lt a limits.parameters) ≡ true
-  room_behind true a b less few = let most = few refl in lt-ltb a limits.parameters (omega (arith, less, most))
-  room_behind false a b less few = refl
+  room_after : (counted : Bool) (a b : ℕ) → a < b → (counted ≡ true → b ≤ limits.parameters) → (not counted || nat_lt a limits.parameters) ≡ true
+  room_after true a b less few = let most = few refl in lt-ltb a limits.parameters (omega (arith, less, most))
+  room_after false a b less few = refl
 
   arguments_take : (counted : Bool) (args found : List (Ty × Operand)) → list_all (λ a. is_value_type a.0) args ≡ true → OperandsFit limits args → (counted ≡ true → length found + length args ≤ limits.parameters)
       → AllTake (λ t. true) (λ found. true) (argument limits counted) (map pair_tokens args) found (found ++ args)
@@ -284,7 +284,7 @@ module _ (limits : Limits) where
       let parts = and_parts (is_value_type a.0) (list_all (λ a. is_value_type a.0) args) types in (
         refl,
         found ++ a ∷ [],
-        λ rest good. argument_taken counted a found rest parts.0 (room_behind counted (length found) (length found + length (a ∷ args)) (omega arith) few) (first_operand limits a args p),
+        λ rest good. argument_taken counted a found rest parts.0 (room_after counted (length found) (length found + length (a ∷ args)) (omega arith) few) (first_operand limits a args p),
         subst (λ v. AllTake (λ t. true) (λ found. true) (argument limits counted) (map pair_tokens args) (found ++ a ∷ []) v) (append_assoc found (a ∷ []) args)
             (arguments_take counted args (found ++ a ∷ []) parts.1 (rest_operands limits a args p) (λ c. let most = few c in omega (arith, most, length-append found (a ∷ [])))),
       )

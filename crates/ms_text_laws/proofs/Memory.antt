@@ -16,17 +16,17 @@ use Rattle.ms_text_grammar.specs.Types.{int_type_of}
 use Rattle.ms_text_grammar.specs.Values.{max_indices}
 use Rattle.ms_text_grammar.specs.Insts.{Marked, address, load_rule, store_rule, index_by, index_turn, gep_rule, alloca_of, alloca_rule}
 use Rattle.ms_text_grammar.specs.Texts.{ReadsUpTo}
-use Rattle.ms_valid.specs.FormedCode.{is_width, is_int_type, type_formed, operand_formed}
+use Rattle.ms_check_valid.specs.FormedCode.{is_width, is_int_type, type_formed, operand_formed}
 use Rattle.ms_text_laws.proofs.Sound.{AllSound, all_pushed, if_within}
 use Rattle.ms_text_laws.proofs.FormedTypes.{int_type_of_formed, value_is_type}
-use Rattle.ms_text_laws.proofs.Yields.{Yields, given, judged, chained, behind, looped}
+use Rattle.ms_text_laws.proofs.Yields.{Yields, given, judged, chained, after, looped}
 use Rattle.ms_text_laws.proofs.Parts.{GivesValue, HasEffect, AllOperands, op_is, operand_more, one_operand, two_operands, value_type_read, type_read, value_read}
 
 -- ---- an address
 
 address_read : (form : Form) → Yields (address form) (λ a. operand_formed Ptr a ≡ true)
 unfolding address
-address_read form = behind (λ comma. behind (λ word. value_read form Ptr refl))
+address_read form = after (λ comma. after (λ word. value_read form Ptr refl))
 
 load_yields : (form : Form) → Yields (load_rule form) GivesValue
 unfolding load_rule
@@ -62,13 +62,13 @@ module _ (form : Form) (found : List (Ty × Operand)) (h : AreIntegers found) wh
 
   index_yields : Yields (index_turn form found) (λ i. AreIntegers i.found)
   unfolding index_turn
-  index_yields = behind (λ x. index_by_yields x)
+  index_yields = after (λ x. index_by_yields x)
 
 gep_yields : (form : Form) → Yields (gep_rule form) (λ m. GivesValue m.0)
 unfolding gep_rule
 gep_yields form =
-    behind (λ words. chained (type_read form) (λ t w. chained (address_read form) (λ base p.
-    chained {P = λ i. AreIntegers i.found} (looped (refl, refl) (λ indices comma sound h e. index_yields form indices.found h)) (λ indices h. behind (λ marked.
+    after (λ words. chained (type_read form) (λ t w. chained (address_read form) (λ base p.
+    chained {P = λ i. AreIntegers i.found} (looped (refl, refl) (λ indices comma sound h e. index_yields form indices.found h)) (λ indices h. after (λ marked.
     given (op_is (op.Gep t base indices.found) (and_from (type_formed t) (list_all (λ i. is_int_type i.0) indices.found) w h.0) (operand_more Ptr base indices.found p h.1) refl, refl, refl, refl))))))
 
 pub gep_read : (form : Form) (ts : List Lexeme) (v : Marked) (rest : List Lexeme) → AllSound ts → ReadsUpTo (gep_rule form) ts v rest → GivesValue v.0
@@ -85,7 +85,7 @@ alloca_yields : (form : Form) → Yields (alloca_rule form) (λ m. GivesValue m.
 unfolding alloca_rule
 alloca_yields form =
     chained (type_read form) (λ t w. chained {P = λ i. AreIntegers i.found} (looped (refl, refl) (λ indices comma sound h e. index_yields form indices.found h))
-    (λ count h. behind (λ marked. given (alloca_is t count.found w h))))
+    (λ count h. after (λ marked. given (alloca_is t count.found w h))))
 
 pub alloca_read : (form : Form) (ts : List Lexeme) (v : Marked) (rest : List Lexeme) → AllSound ts → ReadsUpTo (alloca_rule form) ts v rest → GivesValue v.0
 alloca_read form = (alloca_yields form).each

@@ -15,7 +15,7 @@ use Rattle.ms_ir.specs.declared.syntax.Module.{Module}
 use Rattle.ms_ir.specs.declared.forms.Form.TheVariants.{Instrumented}
 use Rattle.ms_text_grammar.specs.declared.refusals.Cause.TheVariants as r
 use Rattle.ms_text_grammar.specs.declared.refusals.Limit.TheVariants as limit
-use Rattle.ms_text_grammar.specs.declared.states.Parts.{Parts}
+use Rattle.ms_text_grammar.specs.declared.states.ModuleSoFar.{ModuleSoFar}
 use Rattle.ms_text_grammar.specs.declared.symbols.Symbol.{Symbol}
 use Rattle.ms_text_grammar.specs.declared.symbols.Symbol.TheVariants as s
 use Rattle.ms_text_grammar.specs.Lexemes.{Lexeme, end_of_text, same_symbol, symbol_of, word_symbol, name_in}
@@ -23,13 +23,13 @@ use Rattle.ms_text_grammar.specs.Steps.{Verdict, word, judge_map}
 use Rattle.ms_text_grammar.specs.Names.{reserved_global}
 use Rattle.ms_text_grammar.specs.Skipped.{is_attribute_word, balanced}
 use Rattle.ms_text_grammar.specs.Modules.{instructions_of, global_kind_by, metadata_entity}
-use Rattle.ms_valid.specs.FormedNames.{are_bytes, is_local_name, is_global_name}
-use Rattle.ms_valid.specs.Formed.{is_struct}
-use Rattle.ms_text_layout.specs.Pieces.{Piece, tokens_in, Line, spaced, indent_of, pieces_of, word as word_token, sign, meta as meta_token, enclosed}
-use Rattle.ms_text_layout.specs.Names.{local_token, global_token}
-use Rattle.ms_text_layout.specs.Types.{type_tokens, result_tokens}
-use Rattle.ms_text_layout.specs.Values.{init_tokens}
-use Rattle.ms_text_layout.specs.Modules.{type_line, global_word, global_line, is_dotted, dots, declaration_line, function_lines, has_dots, has_mark, module_lines, mark_pieces, module_pieces}
+use Rattle.ms_check_valid.specs.FormedNames.{are_bytes, is_local_name, is_global_name}
+use Rattle.ms_check_valid.specs.Formed.{is_struct}
+use Rattle.ms_text_grammar.specs.LayoutPieces.{Piece, tokens_in, Line, spaced, indent_of, pieces_of, word as word_token, sign, meta as meta_token, enclosed}
+use Rattle.ms_text_grammar.specs.LayoutNames.{local_token, global_token}
+use Rattle.ms_text_grammar.specs.LayoutTypes.{type_tokens, result_tokens}
+use Rattle.ms_text_grammar.specs.LayoutValues.{init_tokens}
+use Rattle.ms_text_grammar.specs.LayoutModules.{type_line, global_word, global_line, is_dotted, dots, declaration_line, function_lines, has_dots, has_mark, module_lines, mark_pieces, module_pieces}
 use Rattle.ms_text_laws.proofs.Limited.{Limits, local_by, named_type, global_variable, global_begins, entity_begins_by, entity_begins, entity_by, entity, room_for_function, module_rule}
 use Rattle.ms_text_laws.proofs.Takes.{Takes, given, taken, seen, chain, turned, ended, by_symbol, word_taken, along}
 use Rattle.ms_text_laws.proofs.Spelled.{is_below, local_good, local_number_symbol, local_text_symbol, local_number_in, local_text_in, global_text_in, global_unreserved}
@@ -41,10 +41,10 @@ use Rattle.ms_text_laws.proofs.Functions.{DeclFits, declaration_taken, FuncFits,
 
 -- ---- the tokens of pieces
 
-spaced_tokens : (behind : Text) (ts : List Lexeme) (after : List Piece) → tokens_in (spaced behind ts ++ after) ≡ ts ++ tokens_in after
-spaced_tokens behind [] after = refl
-spaced_tokens behind (t ∷ []) after = refl
-spaced_tokens behind (t ∷ u ∷ ts) after = ap (λ us. t ∷ us) (spaced_tokens behind (u ∷ ts) after)
+spaced_tokens : (later : Text) (ts : List Lexeme) (after : List Piece) → tokens_in (spaced later ts ++ after) ≡ ts ++ tokens_in after
+spaced_tokens later [] after = refl
+spaced_tokens later (t ∷ []) after = refl
+spaced_tokens later (t ∷ u ∷ ts) after = ap (λ us. t ∷ us) (spaced_tokens later (u ∷ ts) after)
 
 lines_tokens : (lines : List Line) (after : List Piece) → tokens_in (pieces_of lines ++ after) ≡ line_tokens lines ++ tokens_in after
 lines_tokens [] after = refl
@@ -113,7 +113,7 @@ module _ (limits : Limits) where
   DeclsFit [] = Unit {0}
   DeclsFit (d ∷ ds) = DeclFits limits d × DeclsFit ds
 
-  -- functions behind so many instructions
+  -- functions after so many instructions
   abbrev pub FuncsFit : ℕ → List Func → Type 0
   FuncsFit before [] = Unit {0}
   FuncsFit before (f ∷ fs) = FuncFits limits before f × FuncsFit (before + instructions_of f.blocks) fs
@@ -129,14 +129,14 @@ module _ (limits : Limits) where
 
   -- ---- states
 
-  abbrev state : List (Name × Ty) → List GlobalVar → List Decl → List Func → ℕ → Parts
+  abbrev state : List (Name × Ty) → List GlobalVar → List Decl → List Func → ℕ → ModuleSoFar
   state types globals decls funcs count = record { «module» = record { types = types; globals = globals; decls = decls; funcs = funcs }; count = count }
 
-  abbrev Reads : Parts → List Lexeme → Parts → List Lexeme → Type 0
+  abbrev Reads : ModuleSoFar → List Lexeme → ModuleSoFar → List Lexeme → Type 0
   Reads p ts v end = Takes (loop (entity_begins limits) (entity limits) p) ts v end
 
   -- an entity that begins with a token of this symbol
-  entity_read : (x : Symbol) (p next : Parts) (t : Lexeme) {ts rest end : List Lexeme} {v : Parts} → t.symbol ≡ x → entity_begins_by limits p.«module» x t ≡ Ok true → Takes (entity_by limits p x t) ts next rest
+  entity_read : (x : Symbol) (p next : ModuleSoFar) (t : Lexeme) {ts rest end : List Lexeme} {v : ModuleSoFar} → t.symbol ≡ x → entity_begins_by limits p.«module» x t ≡ Ok true → Takes (entity_by limits p x t) ts next rest
       → Reads next rest v end → Reads p (t ∷ ts) v end
   unfolding entity_begins entity
   entity_read x p next t {ts = ts} {rest = rest} e begins body then =
@@ -148,7 +148,7 @@ module _ (limits : Limits) where
   unfolding named_type
   named_taken x t rest h = chain equals_taken (chain type_word_taken (chain (struct_type_taken limits t rest h.struct h.type) given))
 
-  type_entity : (x : Name) (t : Ty) (found : List (Name × Ty)) (rest : List Lexeme) {v : Parts} {end : List Lexeme} → NamedFits (x, t) → Reads (state (found ++ (x, t) ∷ []) [] [] [] 0) rest v end
+  type_entity : (x : Name) (t : Ty) (found : List (Name × Ty)) (rest : List Lexeme) {v : ModuleSoFar} {end : List Lexeme} → NamedFits (x, t) → Reads (state (found ++ (x, t) ∷ []) [] [] [] 0) rest v end
       → Reads (state found [] [] [] 0) (local_token x ∷ sign (codes "=") ∷ word_token (codes "type") ∷ (type_tokens t ++ rest)) v end
   type_entity (Number n) t found rest h then =
       let x : Lexeme = local_token (Number n) in
@@ -165,7 +165,7 @@ module _ (limits : Limits) where
       (subst (λ k. Takes (named_type limits (Called k) >>= λ y. give (state (found ++ y ∷ []) [] [] [] 0)) (sign (codes "=") ∷ word_token (codes "type") ∷ (type_tokens t ++ rest)) (state (found ++ (Called w, t) ∷ []) [] [] [] 0) rest) (sym spelt)
       (chain (named_taken (Called w) t rest h) given)) then
 
-  types_read : (ts found : List (Name × Ty)) (rest : List Lexeme) {v : Parts} {end : List Lexeme} → NamedsFit ts → Reads (state (found ++ ts) [] [] [] 0) rest v end → Reads (state found [] [] [] 0) (line_tokens (map type_line ts) ++ rest) v end
+  types_read : (ts found : List (Name × Ty)) (rest : List Lexeme) {v : ModuleSoFar} {end : List Lexeme} → NamedsFit ts → Reads (state (found ++ ts) [] [] [] 0) rest v end → Reads (state found [] [] [] 0) (line_tokens (map type_line ts) ++ rest) v end
   unfolding type_line
   types_read [] found rest {v = v} {end = end} h then = subst (λ xs. Reads (state xs [] [] [] 0) rest v end) (append-nil found) then
   types_read (t ∷ ts) found rest {v = v} {end = end} h then =
@@ -194,7 +194,7 @@ module _ (limits : Limits) where
       ∙ ap (λ b. cond b inner (Err (r.Limit limit.Globals))) (lt-ltb (length m.globals) limits.globals room)
       ∙ ap (λ b. cond b (Ok true) (Err (r.Limit limit.Name))) few
 
-  global_entity : (x : Name) (types : List (Name × Ty)) (g : GlobalVar) (found : List GlobalVar) (rest : List Lexeme) {v : Parts} {end : List Lexeme} → g.name ≡ x → GlobalFits g → length found < limits.globals → IsFresh rest
+  global_entity : (x : Name) (types : List (Name × Ty)) (g : GlobalVar) (found : List GlobalVar) (rest : List Lexeme) {v : ModuleSoFar} {end : List Lexeme} → g.name ≡ x → GlobalFits g → length found < limits.globals → IsFresh rest
       → Reads (state types (found ++ g ∷ []) [] [] 0) rest v end → Reads (state types found [] [] 0) (global_token x ∷ sign (codes "=") ∷ word_token (global_word g.constant) ∷ (type_tokens g.ty ++ (init_tokens g.ty g.init ++ rest))) v end
   global_entity (Number n) types g found rest e h room fresh then = let name = subst (λ y. is_global_name y ≡ true) e h.global_name in absurd cc
   global_entity (Called w) types g found rest e h room fresh then =
@@ -202,7 +202,7 @@ module _ (limits : Limits) where
       let name = subst (λ y. is_global_name y ≡ true) e h.global_name in
       let short = subst (λ y. is_below limits.names y ≡ true) e h.short_name in
       let spelt : name_in x ≡ w = global_text_in w (and_parts (are_bytes w) _ name).0 in
-      let p : Parts = state types found [] [] 0 in
+      let p : ModuleSoFar = state types found [] [] 0 in
       entity_read s.Global p (state types (found ++ g ∷ []) [] [] 0) x (global_symbol (Called w)) (global_begin w p.«module» name short room)
       (subst (λ k. Takes (global_variable limits (Called k) >>= λ y. give (state types (found ++ y ∷ []) [] [] 0)) (sign (codes "=") ∷ word_token (global_word g.constant) ∷ (type_tokens g.ty ++ (init_tokens g.ty g.init ++ rest))) (state types (found ++ g ∷ []) [] [] 0) rest) (sym spelt)
       (chain (global_body (Called w) g.constant g.ty g rest (ap (λ y. record g { name = y }) e) h.type h.init fresh) given)) then
@@ -220,14 +220,14 @@ module _ (limits : Limits) where
       ≡ global_token g.name ∷ sign (codes "=") ∷ word_token (global_word g.constant) ∷ (type_tokens g.ty ++ (init_tokens g.ty g.init ++ ts))
   global_tokens g ts = ap (λ ys. global_token g.name ∷ sign (codes "=") ∷ word_token (global_word g.constant) ∷ ys) (append_assoc (type_tokens g.ty) (init_tokens g.ty g.init) ts)
 
-  globals_read : (types : List (Name × Ty)) (gs found : List GlobalVar) (rest : List Lexeme) {v : Parts} {end : List Lexeme} → GlobalsFit gs → length found + length gs ≤ limits.globals → IsFresh rest
+  globals_read : (types : List (Name × Ty)) (gs found : List GlobalVar) (rest : List Lexeme) {v : ModuleSoFar} {end : List Lexeme} → GlobalsFit gs → length found + length gs ≤ limits.globals → IsFresh rest
       → Reads (state types (found ++ gs) [] [] 0) rest v end → Reads (state types found [] [] 0) (line_tokens (map global_line gs) ++ rest) v end
   unfolding global_line
   globals_read types [] found rest {v = v} {end = end} h few fresh then = subst (λ xs. Reads (state types xs [] [] 0) rest v end) (append-nil found) then
   globals_read types (g ∷ gs) found rest {v = v} {end = end} h few fresh then =
-      let behind : List Lexeme = line_tokens (map global_line gs) ++ rest in
-      along (append_assoc (global_token g.name ∷ sign (codes "=") ∷ word_token (global_word g.constant) ∷ (type_tokens g.ty ++ init_tokens g.ty g.init)) (line_tokens (map global_line gs)) rest ∙ global_tokens g behind)
-      (global_entity g.name types g found behind refl h.0 (omega (arith, few)) (globals_fresh gs rest fresh)
+      let later : List Lexeme = line_tokens (map global_line gs) ++ rest in
+      along (append_assoc (global_token g.name ∷ sign (codes "=") ∷ word_token (global_word g.constant) ∷ (type_tokens g.ty ++ init_tokens g.ty g.init)) (line_tokens (map global_line gs)) rest ∙ global_tokens g later)
+      (global_entity g.name types g found later refl h.0 (omega (arith, few)) (globals_fresh gs rest fresh)
       (globals_read types gs (found ++ g ∷ []) rest h.1 (omega (arith, few, length-append found (g ∷ []))) fresh (subst (λ xs. Reads (state types xs [] [] 0) rest v end) (sym (append_assoc found (g ∷ []) gs)) then)))
 
   -- ---- declarations
@@ -248,17 +248,17 @@ module _ (limits : Limits) where
   decls_fresh [] rest h = h
   decls_fresh (d ∷ ds) rest h = fresh_declare
 
-  decls_read : (types : List (Name × Ty)) (globals : List GlobalVar) (ds found : List Decl) (rest : List Lexeme) {v : Parts} {end : List Lexeme} → DeclsFit ds → length found + length ds ≤ limits.functions → IsFresh rest
+  decls_read : (types : List (Name × Ty)) (globals : List GlobalVar) (ds found : List Decl) (rest : List Lexeme) {v : ModuleSoFar} {end : List Lexeme} → DeclsFit ds → length found + length ds ≤ limits.functions → IsFresh rest
       → Reads (state types globals (found ++ ds) [] 0) rest v end → Reads (state types globals found [] 0) (line_tokens (map declaration_line ds) ++ rest) v end
   unfolding declaration_line
   decls_read types globals [] found rest {v = v} {end = end} h few fresh then = subst (λ xs. Reads (state types globals xs [] 0) rest v end) (append-nil found) then
   decls_read types globals (d ∷ ds) found rest {v = v} {end = end} h few fresh then =
-      let behind : List Lexeme = line_tokens (map declaration_line ds) ++ rest in
+      let later : List Lexeme = line_tokens (map declaration_line ds) ++ rest in
       let tokens : List Lexeme = result_tokens d.ret ++ global_token d.name ∷ enclosed (codes "(") (codes ")") (map type_tokens d.params ++ dots (is_dotted d)) in
-      let p : Parts = state types globals found [] 0 in
+      let p : ModuleSoFar = state types globals found [] 0 in
       along (append_assoc (word_token (codes "declare") ∷ tokens) (line_tokens (map declaration_line ds)) rest)
       (entity_read s.Declare p (state types globals (found ++ d ∷ []) [] 0) (word_token (codes "declare")) declare_symbol (room_good p.«module» (omega (arith, few)))
-      (chain (declaration_taken limits d behind h.0 (decls_fresh ds rest fresh)) given)
+      (chain (declaration_taken limits d later h.0 (decls_fresh ds rest fresh)) given)
       (decls_read types globals ds (found ++ d ∷ []) rest h.1 (omega (arith, few, length-append found (d ∷ []))) fresh (subst (λ xs. Reads (state types globals xs [] 0) rest v end) (sym (append_assoc found (d ∷ []) ds)) then)))
 
   -- ---- functions
@@ -267,31 +267,31 @@ module _ (limits : Limits) where
   total before [] = before
   total before (f ∷ fs) = total (before + instructions_of f.blocks) fs
 
-  funcs_read : (dotted : Bool) (some : 0 < limits.indices) (types : List (Name × Ty)) (globals : List GlobalVar) (decls : List Decl) (fs found : List Func) (count : ℕ) (rest : List Lexeme) {v : Parts} {end : List Lexeme} → FuncsFit count fs
+  funcs_read : (dotted : Bool) (some : 0 < limits.indices) (types : List (Name × Ty)) (globals : List GlobalVar) (decls : List Decl) (fs found : List Func) (count : ℕ) (rest : List Lexeme) {v : ModuleSoFar} {end : List Lexeme} → FuncsFit count fs
       → length found + length fs + length decls ≤ limits.functions
       → Reads (state types globals decls (found ++ fs) (total count fs)) rest v end → Reads (state types globals decls found count) (line_tokens (flat_map (function_lines dotted) fs) ++ rest) v end
   funcs_read dotted some types globals decls [] found count rest {v = v} {end = end} h few then = subst (λ xs. Reads (state types globals decls xs count) rest v end) (append-nil found) then
   funcs_read dotted some types globals decls (f ∷ fs) found count rest {v = v} {end = end} h few then =
-      let behind : List Lexeme = line_tokens (flat_map (function_lines dotted) fs) ++ rest in
-      let p : Parts = state types globals decls found count in
+      let later : List Lexeme = line_tokens (flat_map (function_lines dotted) fs) ++ rest in
+      let p : ModuleSoFar = state types globals decls found count in
       along (ap (λ ys. ys ++ rest) (line_tokens-append (function_lines dotted f) (flat_map (function_lines dotted) fs)) ∙ append_assoc (line_tokens (function_lines dotted f)) (line_tokens (flat_map (function_lines dotted) fs)) rest
-      ∙ function_tokens limits dotted f behind)
+      ∙ function_tokens limits dotted f later)
       (entity_read s.Define p (state types globals decls (found ++ f ∷ []) (count + instructions_of f.blocks)) (word_token (codes "define")) define_symbol (room_good p.«module» (omega (arith, few)))
-      (chain (function_taken limits some dotted count f behind h.0) given)
+      (chain (function_taken limits some dotted count f later h.0) given)
       (funcs_read dotted some types globals decls fs (found ++ f ∷ []) (count + instructions_of f.blocks) rest h.1 (omega (arith, few, length-append found (f ∷ [])))
       (subst (λ xs. Reads (state types globals decls xs (total count (f ∷ fs))) rest v end) (sym (append_assoc found (f ∷ []) fs)) then)))
 
   funcs_fresh : (dotted : Bool) (fs : List Func) (rest : List Lexeme) → IsFresh rest → IsFresh (line_tokens (flat_map (function_lines dotted) fs) ++ rest)
   funcs_fresh dotted [] rest h = h
   funcs_fresh dotted (f ∷ fs) rest h =
-      let behind : List Lexeme = line_tokens (flat_map (function_lines dotted) fs) ++ rest in
+      let later : List Lexeme = line_tokens (flat_map (function_lines dotted) fs) ++ rest in
       subst (λ ts. Fresh (head end_of_text ts).symbol)
       (sym (ap (λ ys. ys ++ rest) (line_tokens-append (function_lines dotted f) (flat_map (function_lines dotted) fs)) ∙ append_assoc (line_tokens (function_lines dotted f)) (line_tokens (flat_map (function_lines dotted) fs)) rest
-      ∙ function_tokens limits dotted f behind)) fresh_define
+      ∙ function_tokens limits dotted f later)) fresh_define
 
   -- ---- the line of the mark, and the end
 
-  end_read : (p : Parts) → Reads p [] p []
+  end_read : (p : ModuleSoFar) → Reads p [] p []
   unfolding entity_begins
   end_read p = ended refl
 
@@ -303,7 +303,7 @@ module _ (limits : Limits) where
   unfolding symbol_of
   node_symbol = refl
 
-  mark_read : (marked : Bool) (p : Parts) → Reads p (tokens_in (mark_pieces marked)) p []
+  mark_read : (marked : Bool) (p : ModuleSoFar) → Reads p (tokens_in (mark_pieces marked)) p []
   unfolding mark_pieces
   mark_read false p = end_read p
   mark_read true p = entity_read s.Meta p p (meta_token (codes "!0")) node_symbol refl (chain node_taken given) (end_read p)

@@ -15,7 +15,7 @@ use Rattle.ms_text_grammar.specs.declared.symbols.Symbol.TheVariants as s
 use Rattle.ms_text_grammar.specs.Lexemes.{Lexeme, end_of_text, name_in}
 use Rattle.ms_text_grammar.specs.Names.{begins_msan, is_inserted, reserved_global, reserved_local, name_fits, text_name, local_name, global_name, number_name, local_by, global_by, local, global}
 use Rattle.ms_text_grammar.specs.Texts.{ReadsUpTo}
-use Rattle.ms_valid.specs.FormedNames.{are_bytes, is_local_name, is_global_name}
+use Rattle.ms_check_valid.specs.FormedNames.{are_bytes, is_local_name, is_global_name}
 use Rattle.ms_text_laws.proofs.Sound.{IsSound, AllSound, sound_head, no_value, same_value, if_good, if_else}
 
 -- ---- reserved names

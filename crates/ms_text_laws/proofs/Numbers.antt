@@ -10,8 +10,8 @@ use Rattle.ms_bits.specs.Signed.{signed, wrap}
 use Rattle.ms_lex.specs.Tokens.{Text}
 use Rattle.ms_lex.specs.Numbers as read
 use Rattle.ms_text_grammar.specs.Values.{fits}
-use Rattle.ms_text_layout.specs.Names.{signed_text}
-use Rattle.ms_text_layout.proofs.WholeNames.{decimal_digits, decimal_some}
+use Rattle.ms_text_grammar.specs.LayoutNames.{signed_text}
+use Rattle.ms_text_grammar.proofs.WholeNames.{decimal_digits, decimal_some}
 
 -- ---- decimal digits
 

@@ -1,4 +1,4 @@
--- Each instruction is read as what it was written of: behind its first word, with its mark.
+-- Each instruction is read as what it was written of: after its first word, with its mark.
 use Rattle.std.proofs.Common.{◌≡◌, ℕ, suc, ◌≤◌, ◌<◌, Bool, true, false, not, ◌&&◌, ◌||◌, List, [], ◌∷◌, ◌++◌, map, length, flat_map, Option, Some, None, refl, sym, ap, ◌∙◌, subst, append-nil, leb-true}
 use Rattle.std.specs.Prelude.{codes, nat_lt, nat_le, is_some}
 use Rattle.std.specs.List.{list_all}
@@ -16,7 +16,7 @@ use Rattle.ms_ir.specs.Names.{name_eq, main_name}
 use Rattle.ms_ir.specs.Instructions.{operands}
 use Rattle.ms_bits.specs.NoFlags.{no_flags}
 use Rattle.ms_ir.specs.declared.forms.Form.TheVariants.{Instrumented}
-use Rattle.ms_text_grammar.specs.declared.states.Body.{Body}
+use Rattle.ms_text_grammar.specs.declared.states.BodySoFar.{BodySoFar}
 use Rattle.ms_text_grammar.specs.declared.symbols.Symbol.{Symbol}
 use Rattle.ms_text_grammar.specs.declared.symbols.Symbol.TheVariants as s
 use Rattle.ms_text_grammar.specs.Lexemes.{Lexeme, symbol_of, word_symbol}
@@ -24,15 +24,15 @@ use Rattle.ms_text_grammar.specs.Steps.{Rule, binary_op, cast_op}
 use Rattle.ms_text_grammar.specs.Insts.{names_printf, with_suffixes}
 use Rattle.ms_text_grammar.specs.Bodies.{is_open, with_value, with_effect, with_end, with_call}
 use Rattle.ms_text_grammar.specs.Lines.{value_line, marked_line, effect_line, end_line}
-use Rattle.ms_valid.specs.FormedNames.{is_local_name, is_global_name}
-use Rattle.ms_valid.specs.FormedCode.{is_width, is_int_type, is_value_type, type_formed, result_formed, number_formed, operand_formed, are_among, binary_flags, cast_flags, shape_formed, op_formed, name_formed}
-use Rattle.ms_valid.specs.ReadLimits.{type_depth}
+use Rattle.ms_check_valid.specs.FormedNames.{is_local_name, is_global_name}
+use Rattle.ms_check_valid.specs.FormedCode.{is_width, is_int_type, is_value_type, type_formed, result_formed, number_formed, operand_formed, are_among, binary_flags, cast_flags, shape_formed, op_formed, name_formed}
+use Rattle.ms_check_valid.specs.ReadLimits.{type_depth}
 use Rattle.ms_ir.specs.Written.{Mention, OfLocal, type_mentions, operand_mentions, operands_mentions, labels, mentions, own_types, operand_types, op_types, result_type}
-use Rattle.ms_text_layout.specs.Pieces.{word as word_token, sign, comma, with_commas, enclosed}
-use Rattle.ms_text_layout.specs.Names.{global_token}
-use Rattle.ms_text_layout.specs.Types.{type_tokens, result_tokens}
-use Rattle.ms_text_layout.specs.Values.{value_tokens, typed_tokens, pair_tokens}
-use Rattle.ms_text_layout.specs.Insts.{binary_word, cast_word, predicate_text, flag_tokens, address_tokens, target_tokens, bit_tokens, edge_tokens, case_tokens, count_tokens, callee_type_tokens, returned_tokens, op_tokens, mark_tokens}
+use Rattle.ms_text_grammar.specs.LayoutPieces.{word as word_token, sign, comma, with_commas, enclosed}
+use Rattle.ms_text_grammar.specs.LayoutNames.{global_token}
+use Rattle.ms_text_grammar.specs.LayoutTypes.{type_tokens, result_tokens}
+use Rattle.ms_text_grammar.specs.LayoutValues.{value_tokens, typed_tokens, pair_tokens}
+use Rattle.ms_text_grammar.specs.LayoutInsts.{binary_word, cast_word, predicate_text, flag_tokens, address_tokens, target_tokens, bit_tokens, edge_tokens, case_tokens, count_tokens, callee_type_tokens, returned_tokens, op_tokens, mark_tokens}
 use Rattle.ms_text_laws.proofs.Limited.{Limits, binary_rule, cast_rule, call_rule, phi_line, call_line, instruction}
 use Rattle.ms_text_laws.proofs.Takes.{Takes, given, chain}
 use Rattle.ms_text_laws.proofs.Spelled.{is_below}
@@ -42,7 +42,7 @@ use Rattle.ms_text_laws.proofs.Flags.{binary_symbol, cast_symbol, binary_word_sy
 use Rattle.ms_text_laws.proofs.Insts.{are_within, within_parts, OperandsFit, first_operand, second_operand, rest_operands, Local, CasesFit, binary_taken, compare_taken, cast_taken, select_taken, freeze_taken, load_taken, store_taken, jump_taken, branch_taken, switch_taken, ret_value_taken, ret_void_taken}
 use Rattle.ms_text_laws.proofs.Marked.{EdgesFit, step_taken, alloca_taken, phi_taken, call_taken}
 
--- ---- the first word, and what is behind it
+-- ---- the first word, and what is after it
 
 abbrev pub op_head : Op → Lexeme
 op_head (op.Binary o flags t a b) = word_token (binary_word o)
@@ -138,7 +138,7 @@ op_split dotted op.Unreachable = refl
 
 -- ---- what an instruction adds to a body
 
-abbrev pub next_body : Body → Option Name → Op → Bool → Body
+abbrev pub next_body : BodySoFar → Option Name → Op → Bool → BodySoFar
 next_body b result (op.Phi t edges) marked = with_value b result true (op.Phi t edges, marked)
 next_body b result (op.Store t v a) marked = with_effect b (op.Store t v a, marked)
 next_body b result (op.Call ret callee args) marked = with_call b result (op.Call ret callee args, marked)
@@ -227,23 +227,23 @@ edges_fit limits t (e ∷ edges) f w n i l =
 
 -- ---- lines
 
-module _ (limits : Limits) (b : Body) (result : Option Name) (marked : Bool) (rest : List Lexeme) (fresh : IsFresh rest) where
-  abbrev behind : List Lexeme
-  behind = mark_tokens marked ++ rest
+module _ (limits : Limits) (b : BodySoFar) (result : Option Name) (marked : Bool) (rest : List Lexeme) (fresh : IsFresh rest) where
+  abbrev after : List Lexeme
+  after = mark_tokens marked ++ rest
 
-  valued_line : {rule : Rule Op} {ts : List Lexeme} {o : Op} → Takes rule ts o behind → Takes (value_line Instrumented b result rule) ts (with_value b result false (o, marked)) rest
+  valued_line : {rule : Rule Op} {ts : List Lexeme} {o : Op} → Takes rule ts o after → Takes (value_line Instrumented b result rule) ts (with_value b result false (o, marked)) rest
   unfolding value_line with_suffixes
   valued_line p = chain (chain p (chain (marked_taken marked rest fresh) given)) given
 
-  effect_taken : {rule : Rule Op} {ts : List Lexeme} {o : Op} → Takes rule ts o behind → Takes (effect_line Instrumented b rule) ts (with_effect b (o, marked)) rest
+  effect_taken : {rule : Rule Op} {ts : List Lexeme} {o : Op} → Takes rule ts o after → Takes (effect_line Instrumented b rule) ts (with_effect b (o, marked)) rest
   unfolding effect_line with_suffixes
   effect_taken p = chain (chain p (chain (marked_taken marked rest fresh) given)) given
 
-  end_taken : {rule : Rule Op} {ts : List Lexeme} {o : Op} → Takes rule ts o behind → Takes (end_line Instrumented b rule) ts (with_end b (o, marked)) rest
+  end_taken : {rule : Rule Op} {ts : List Lexeme} {o : Op} → Takes rule ts o after → Takes (end_line Instrumented b rule) ts (with_end b (o, marked)) rest
   unfolding end_line with_suffixes
   end_taken p = chain (chain p (chain (marked_taken marked rest fresh) given)) given
 
-  binary_line : (o : BinOp) {ts : List Lexeme} {c : Body} → Takes (value_line Instrumented b result (binary_rule limits o)) ts c rest → Takes (instruction limits b result (binary_symbol o)) ts c rest
+  binary_line : (o : BinOp) {ts : List Lexeme} {c : BodySoFar} → Takes (value_line Instrumented b result (binary_rule limits o)) ts c rest → Takes (instruction limits b result (binary_symbol o)) ts c rest
   unfolding instruction binary_op
   binary_line binary.Add p = p
   binary_line binary.Sub p = p
@@ -259,7 +259,7 @@ module _ (limits : Limits) (b : Body) (result : Option Name) (marked : Bool) (re
   binary_line binary.Or p = p
   binary_line binary.Xor p = p
 
-  cast_line : (o : CastOp) {ts : List Lexeme} {c : Body} → Takes (value_line Instrumented b result (cast_rule limits o)) ts c rest → Takes (instruction limits b result (cast_symbol o)) ts c rest
+  cast_line : (o : CastOp) {ts : List Lexeme} {c : BodySoFar} → Takes (value_line Instrumented b result (cast_rule limits o)) ts c rest → Takes (instruction limits b result (cast_symbol o)) ts c rest
   unfolding instruction binary_op cast_op
   cast_line cast.Trunc p = p
   cast_line cast.Zext p = p
@@ -306,27 +306,27 @@ module _ (limits : Limits) (b : Body) (result : Option Name) (marked : Bool) (re
   no_switch : (t : Ty) (v : Operand) (other : Name) (cases : List (ℕ × Name)) → is_int_type t ≡ false → OpFits limits (op.Switch t v other cases) → ⊥
   no_switch t v other cases e h = let int = (and_parts (is_int_type t) (list_all (λ c. number_formed t c.0) cases) (shape limits (op.Switch t v other cases) h)).0 in absurd cc
 
-  pub op_taken : (dotted : Bool) (o : Op) → 0 < limits.indices → OpFits limits o → name_formed (result_type o) result ≡ true → Takes (instruction limits b result (op_symbol o)) (op_tail dotted o ++ behind) (next_body b result o marked) rest
+  pub op_taken : (dotted : Bool) (o : Op) → 0 < limits.indices → OpFits limits o → name_formed (result_type o) result ≡ true → Takes (instruction limits b result (op_symbol o)) (op_tail dotted o ++ after) (next_body b result o marked) rest
   unfolding instruction binary_op cast_op phi_line call_line marked_line
   op_taken dotted (op.Binary o flags t x y) some h n =
       let all = plain_operands (op.Binary o flags t x y) h refl h.indices in
       let parts = and_parts (is_int_type t) (are_among flags (binary_flags o)) (shape limits (op.Binary o flags t x y) h) in
-      binary_line o (valued_line (binary_taken limits o flags t x y behind parts.0 parts.1 (first_operand limits (t, x) _ all) (second_operand limits (t, x) (t, y) _ all)))
+      binary_line o (valued_line (binary_taken limits o flags t x y after parts.0 parts.1 (first_operand limits (t, x) _ all) (second_operand limits (t, x) (t, y) _ all)))
   op_taken dotted (op.Icmp p flags t x y) some h n =
       let all = plain_operands (op.Icmp p flags t x y) h refl h.indices in
       let parts = and_parts (is_value_type t) (are_among flags (record no_flags { samesign = true })) (shape limits (op.Icmp p flags t x y) h) in
-      valued_line (compare_taken limits p flags t x y behind parts.0 parts.1 (first_operand limits (t, x) _ all) (second_operand limits (t, x) (t, y) _ all))
+      valued_line (compare_taken limits p flags t x y after parts.0 parts.1 (first_operand limits (t, x) _ all) (second_operand limits (t, x) (t, y) _ all))
   op_taken dotted (op.Cast o flags from x to) some h n =
       let all = plain_operands (op.Cast o flags from x to) h refl h.indices in
       let parts = and_parts (is_value_type from && is_value_type to) (are_among flags (cast_flags o)) (shape limits (op.Cast o flags from x to) h) in
       let types = and_parts (is_value_type from) (is_value_type to) parts.0 in
-      cast_line o (valued_line (cast_taken limits o flags from x to behind types.0 types.1 parts.1 (first_operand limits (from, x) _ all)))
+      cast_line o (valued_line (cast_taken limits o flags from x to after types.0 types.1 parts.1 (first_operand limits (from, x) _ all)))
   op_taken dotted (op.Select c t x y) some h n =
       let all = plain_operands (op.Select c t x y) h refl h.indices in
-      valued_line (select_taken limits c t x y behind (shape limits (op.Select c t x y) h) (first_operand limits (Int 1, c) _ all) (second_operand limits (Int 1, c) (t, x) _ all) (second_operand limits (t, x) (t, y) _ (rest_operands limits (Int 1, c) _ all)))
+      valued_line (select_taken limits c t x y after (shape limits (op.Select c t x y) h) (first_operand limits (Int 1, c) _ all) (second_operand limits (Int 1, c) (t, x) _ all) (second_operand limits (t, x) (t, y) _ (rest_operands limits (Int 1, c) _ all)))
   op_taken dotted (op.Freeze t x) some h n =
       let all = plain_operands (op.Freeze t x) h refl h.indices in
-      valued_line (freeze_taken limits t x behind (shape limits (op.Freeze t x) h) (first_operand limits (t, x) _ all))
+      valued_line (freeze_taken limits t x after (shape limits (op.Freeze t x) h) (first_operand limits (t, x) _ all))
   op_taken dotted (op.Phi t []) some h n = absurd (no_edge t h)
   op_taken dotted (op.Phi t (e ∷ edges)) some h n =
       let o : Op = op.Phi t (e ∷ edges) in
@@ -342,10 +342,10 @@ module _ (limits : Limits) (b : Body) (result : Option Name) (marked : Bool) (re
       chain (alloca_taken limits t u count marked rest some type parts.1 (first_operand limits (u, count) _ all) fresh) given
   op_taken dotted (op.Load t x) some h n =
       let all = plain_operands (op.Load t x) h refl h.indices in
-      valued_line (load_taken limits t x behind (shape limits (op.Load t x) h) (first_operand limits (Ptr, x) _ all))
+      valued_line (load_taken limits t x after (shape limits (op.Load t x) h) (first_operand limits (Ptr, x) _ all))
   op_taken dotted (op.Store t v x) some h n =
       let all = plain_operands (op.Store t v x) h refl h.indices in
-      effect_taken (store_taken limits t v x behind (shape limits (op.Store t v x) h) (first_operand limits (t, v) _ all) (second_operand limits (t, v) (Ptr, x) _ all))
+      effect_taken (store_taken limits t v x after (shape limits (op.Store t v x) h) (first_operand limits (t, v) _ all) (second_operand limits (t, v) (Ptr, x) _ all))
   op_taken dotted (op.Gep t base indices) some h n =
       let o : Op = op.Gep t base indices in
       let names = few_parts limits.names (type_mentions t) (operand_mentions base ++ operands_mentions indices) h.named in
@@ -362,25 +362,25 @@ module _ (limits : Limits) (b : Body) (result : Option Name) (marked : Bool) (re
       let second = and_parts (result_formed ret && is_global_name x) (not (name_eq x main_name)) third.0 in
       let first = and_parts (result_formed ret) (is_global_name x) second.0 in
       chain (as_named ret n (call_taken limits dotted ret x args marked rest first.0 first.1 names.0 second.1 third.1 all (printed_few ret x args h.printed) fresh)) given
-  op_taken dotted (op.Br to) some h n = end_taken (jump_taken limits to behind (first_local limits to [] (plain_labels (op.Br to) h refl)))
+  op_taken dotted (op.Br to) some h n = end_taken (jump_taken limits to after (first_local limits to [] (plain_labels (op.Br to) h refl)))
   op_taken dotted (op.CondBr c to other) some h n =
       let o : Op = op.CondBr c to other in
       let all = plain_operands o h refl h.indices in
       let names = plain_labels o h refl in
-      end_taken (branch_taken limits c to other behind (first_operand limits (Int 1, c) _ all) (first_local limits to (other ∷ []) names) (first_local limits other [] (rest_locals limits to (other ∷ []) names)))
+      end_taken (branch_taken limits c to other after (first_operand limits (Int 1, c) _ all) (first_local limits to (other ∷ []) names) (first_local limits other [] (rest_locals limits to (other ∷ []) names)))
   op_taken dotted (op.Switch (Int w) v other cases) some h n =
       let o : Op = op.Switch (Int w) v other cases in
       let all = plain_operands o h refl h.indices in
       let names = plain_labels o h refl in
       let parts = and_parts (is_width w) (list_all (λ c. number_formed (Int w) c.0) cases) (shape limits o h) in
-      end_taken (switch_taken limits w v other cases behind parts.0 (first_operand limits (Int w, v) _ all) (first_local limits other (map (λ c. c.1) cases) names)
+      end_taken (switch_taken limits w v other cases after parts.0 (first_operand limits (Int w, v) _ all) (first_local limits other (map (λ c. c.1) cases) names)
       (cases_fit limits w cases parts.1 (rest_locals limits other (map (λ c. c.1) cases) names)))
   op_taken dotted (op.Switch Ptr v other cases) some h n = absurd (no_switch Ptr v other cases refl h)
   op_taken dotted (op.Switch (Array' k form item) v other cases) some h n = absurd (no_switch (Array' k form item) v other cases refl h)
   op_taken dotted (op.Switch (Struct' packed form fields) v other cases) some h n = absurd (no_switch (Struct' packed form fields) v other cases refl h)
   op_taken dotted (op.Switch (Named x) v other cases) some h n = absurd (no_switch (Named x) v other cases refl h)
-  op_taken dotted (op.Ret None) some h n = end_taken (ret_void_taken limits behind)
+  op_taken dotted (op.Ret None) some h n = end_taken (ret_void_taken limits after)
   op_taken dotted (op.Ret (Some a)) some h n =
       let all = plain_operands (op.Ret (Some a)) h refl h.indices in
-      end_taken (ret_value_taken limits a.0 a.1 behind (shape limits (op.Ret (Some a)) h) (first_operand limits a [] all))
+      end_taken (ret_value_taken limits a.0 a.1 after (shape limits (op.Ret (Some a)) h) (first_operand limits a [] all))
   op_taken dotted op.Unreachable some h n = end_taken given

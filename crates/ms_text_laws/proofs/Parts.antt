@@ -12,8 +12,8 @@ use Rattle.ms_text_grammar.specs.Names.{local}
 use Rattle.ms_text_grammar.specs.Types.{int_type, value_type, result_type as result_rule, type_to, max_depth}
 use Rattle.ms_text_grammar.specs.Values.{number, value}
 use Rattle.ms_text_grammar.specs.Bodies.{is_void_call}
-use Rattle.ms_valid.specs.FormedNames.{is_local_name}
-use Rattle.ms_valid.specs.FormedCode.{is_width, is_value_type, type_formed, result_formed, number_formed, operand_formed, shape_formed, op_formed, is_terminator}
+use Rattle.ms_check_valid.specs.FormedNames.{is_local_name}
+use Rattle.ms_check_valid.specs.FormedCode.{is_width, is_value_type, type_formed, result_formed, number_formed, operand_formed, shape_formed, op_formed, is_terminator}
 use Rattle.ms_ir.specs.Written.{labels, result_type}
 use Rattle.ms_text_laws.proofs.Names.{local_formed}
 use Rattle.ms_text_laws.proofs.FormedTypes.{int_type_formed, value_type_formed, result_type_formed, type_formed_to}
@@ -42,7 +42,7 @@ IsCall o = (op_formed o ≡ true) × (is_void_call o ≡ is_none (result_type o)
 
 -- ---- an operation by its parts
 
--- operands that may stand behind their types
+-- operands that may stand after their types
 abbrev pub AllOperands : List (Ty × Operand) → Type 0
 AllOperands os = list_all (λ a. operand_formed a.0 a.1) os ≡ true
 

@@ -11,12 +11,12 @@ use Rattle.ms_ir.specs.declared.forms.Form.TheVariants.{Instrumented}
 use Rattle.ms_text_grammar.specs.Lexemes.{end_of_text, lexemes_of}
 use Rattle.ms_text_grammar.specs.Modules as modules
 use Rattle.ms_text_grammar.specs.Texts.{ReadsUpTo, Reads, max_tokens}
-use Rattle.ms_valid.specs.Formed.{Formed}
-use Rattle.ms_text_layout.specs.Pieces.{tokens_in}
-use Rattle.ms_text_layout.specs.Apart.{spans}
-use Rattle.ms_text_layout.specs.Modules.{module_pieces, written}
-use Rattle.ms_text_layout.proofs.CutBack.{tokens_back, lexemes_back}
-use Rattle.ms_text_layout.proofs.WholeModules.{module_apart}
+use Rattle.ms_check_valid.specs.Formed.{Formed}
+use Rattle.ms_text_grammar.specs.LayoutPieces.{tokens_in}
+use Rattle.ms_text_grammar.specs.LayoutApart.{spans}
+use Rattle.ms_text_grammar.specs.LayoutModules.{module_pieces, written}
+use Rattle.ms_text_grammar.proofs.CutBack.{tokens_back, lexemes_back}
+use Rattle.ms_text_grammar.proofs.WholeModules.{module_apart}
 use Rattle.ms_text_laws.specs.Fits.{FitsForm, FitsText}
 use Rattle.ms_text_laws.proofs.Limited.{Limits, standard, module_rule}
 use Rattle.ms_text_laws.proofs.Standard.{same_rule}

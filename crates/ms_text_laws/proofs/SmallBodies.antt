@@ -12,7 +12,7 @@ use Rattle.ms_ir.specs.declared.syntax.Name.TheVariants as name
 use Rattle.ms_ir.specs.declared.syntax.Op.{Op}
 use Rattle.ms_ir.specs.declared.syntax.Op.TheVariants as op
 use Rattle.ms_ir.specs.declared.forms.Form.{Form}
-use Rattle.ms_text_grammar.specs.declared.states.Body.{Body}
+use Rattle.ms_text_grammar.specs.declared.states.BodySoFar.{BodySoFar}
 use Rattle.ms_text_grammar.specs.declared.symbols.Symbol.{Symbol}
 use Rattle.ms_text_grammar.specs.declared.symbols.Symbol.TheVariants as s
 use Rattle.ms_text_grammar.specs.Lexemes.{Lexeme, name_in}
@@ -22,7 +22,7 @@ use Rattle.ms_text_grammar.specs.Insts.{Marked, binary_rule, compare_rule, cast_
 use Rattle.ms_text_grammar.specs.Bodies.{is_open, opened, opened_as, opened_by, name_or, numbers_left, line_begins, line_begins_by, with_value, with_effect, with_end, is_void_call}
 use Rattle.ms_text_grammar.specs.Lines.{value_line, marked_line, phi_line, call_line, effect_line, end_line, instruction_by, operation_by, instruction, named_line, record_line, line_by, line, is_whole, blocks}
 use Rattle.ms_text_laws.proofs.Sound.{all_pushed, if_good, if_else}
-use Rattle.ms_text_laws.proofs.Brings.{Brings, given, chained, behind, either, refused, looped}
+use Rattle.ms_text_laws.proofs.Brings.{Brings, given, chained, after, either, refused, looped}
 use Rattle.ms_text_laws.proofs.SmallNames.{is_small_name, number_small, local_small}
 use Rattle.ms_text_laws.proofs.SmallOps.{HasSmallParts, is_small_op, op_is_small}
 use Rattle.ms_text_laws.proofs.SmallRules.{may_have, IsSmallMarked, suffixed, binary_read, compare_read, cast_read, select_read, freeze_read, load_read, store_read, gep_read, alloca_read, call_read, phi_read, branch_read, switch_read, ret_read, unreachable_read}
@@ -39,7 +39,7 @@ abbrev pub is_small_block : Form → Block → Bool
 is_small_block form b = is_small_name form b.name && list_all (is_small_inst form) b.insts
 
 -- what the lines so far keep
-record Kept (form : Form) (b : Body) : Type 0 where
+record Kept (form : Form) (b : BodySoFar) : Type 0 where
   blocks : list_all (is_small_block form) b.blocks ≡ true
   named : is_small_result form b.name ≡ true
   insts : list_all (is_small_inst form) b.insts ≡ true
@@ -54,7 +54,7 @@ named_or form (Some x) number h = h
 
 -- ---- one instruction more
 
-module _ (form : Form) (a : Body) (k : Kept form a) where
+module _ (form : Form) (a : BodySoFar) (k : Kept form a) where
   value_kept : (result : Option Name) (phis : Bool) (m : Marked) → is_small_result form result ≡ true → IsSmallMarked form m → Kept form (with_value a result phis m)
   value_kept result phis m n h = record {
     blocks = k.blocks;
@@ -136,11 +136,11 @@ module _ (form : Form) (a : Body) (k : Kept form a) where
 
   named_line_read : (n : Name) → is_small_name form n ≡ true → Brings (named_line form a n) (Kept form)
   unfolding named_line
-  named_line_read n h = behind (λ equals. behind (λ x. instruction_read (Some n) x h))
+  named_line_read n h = after (λ equals. after (λ x. instruction_read (Some n) x h))
 
   record_line_read : Brings (record_line form a) (Kept form)
   unfolding record_line
-  record_line_read = behind (λ paren. behind (λ over. given k))
+  record_line_read = after (λ paren. after (λ over. given k))
 
 -- ---- a line and its first token
 
@@ -148,18 +148,18 @@ unless_stops : (b : Bool) (v : Verdict Bool) → cond b (Ok false) v ≡ Ok true
 unless_stops true v h = absurd cc
 unless_stops false v h = h
 
-opens_kept : (form : Form) (b : Body) (n : Name) (numbers : ℕ) → is_small_name form n ≡ true → Kept form b → Kept form (opened_as b n numbers)
+opens_kept : (form : Form) (b : BodySoFar) (n : Name) (numbers : ℕ) → is_small_name form n ≡ true → Kept form b → Kept form (opened_as b n numbers)
 opens_kept form b n numbers h k = record { blocks = k.blocks; named = h; insts = refl }
 
-opened_kept_by : (form : Form) (b : Body) (n : Option Name) → Kept form b → Kept form (opened_by n b)
+opened_kept_by : (form : Form) (b : BodySoFar) (n : Option Name) → Kept form b → Kept form (opened_by n b)
 opened_kept_by form b (Some n) k = k
 opened_kept_by form b None k = opens_kept form b (name.Number b.next) 1 (number_small form b.next) k
 
-opened_kept : (form : Form) (b : Body) → Kept form b → Kept form (opened b)
+opened_kept : (form : Form) (b : BodySoFar) → Kept form b → Kept form (opened b)
 unfolding opened
 opened_kept form b k = opened_kept_by form b b.name k
 
-module _ (form : Form) (b : Body) (k : Kept form b) (t : Lexeme) where
+module _ (form : Form) (b : BodySoFar) (k : Kept form b) (t : Lexeme) where
   line_by_read : (x : Symbol) → line_begins_by form b x t ≡ Ok true → Brings (line_by form b x t) (Kept form)
   line_by_read s.Label g =
       let closed = unless_stops (is_open b.name) _ g in
@@ -183,18 +183,18 @@ module _ (form : Form) (b : Body) (k : Kept form b) (t : Lexeme) where
 -- ---- all blocks
 
 -- before the first line
-abbrev IsEmpty : Body → Type 0
+abbrev IsEmpty : BodySoFar → Type 0
 IsEmpty b = (b.blocks ≡ []) × (b.name ≡ None) × (b.insts ≡ [])
 
-empty_kept : (form : Form) (b : Body) → IsEmpty b → Kept form b
+empty_kept : (form : Form) (b : BodySoFar) → IsEmpty b → Kept form b
 empty_kept form b e = record {
   blocks = subst (λ xs. list_all (is_small_block form) xs ≡ true) (sym e.0) refl;
   named = subst (λ n. is_small_result form n ≡ true) (sym e.1) refl;
   insts = subst (λ xs. list_all (is_small_inst form) xs ≡ true) (sym e.2) refl;
 }
 
-pub blocks_read : (form : Form) (start : Body) → start.blocks ≡ [] → start.name ≡ None → start.insts ≡ [] → Brings (blocks form start) (λ bs. list_all (is_small_block form) bs ≡ true)
+pub blocks_read : (form : Form) (start : BodySoFar) → start.blocks ≡ [] → start.name ≡ None → start.insts ≡ [] → Brings (blocks form start) (λ bs. list_all (is_small_block form) bs ≡ true)
 unfolding blocks
 blocks_read form start none closed empty =
     chained {P = Kept form} (looped (empty_kept form start (none, closed, empty)) (λ b t k e. line_read form b k t e))
-    (λ body k. either (is_whole body) (behind (λ word. given k.blocks)) refused)
+    (λ body k. either (is_whole body) (after (λ word. given k.blocks)) refused)

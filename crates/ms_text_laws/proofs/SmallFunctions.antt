@@ -18,9 +18,9 @@ use Rattle.ms_text_grammar.specs.declared.symbols.Symbol.TheVariants as s
 use Rattle.ms_text_grammar.specs.Lexemes.{name_in}
 use Rattle.ms_text_grammar.specs.Types.{value_type_of}
 use Rattle.ms_text_grammar.specs.Insts.{max_parameters, names_printf}
-use Rattle.ms_text_grammar.specs.Functions.{no_parameters, has_room, parameter_name_by, parameter_name, typed_parameter, parameter, parameters, declaration, body_behind, function}
+use Rattle.ms_text_grammar.specs.Functions.{no_parameters, has_room, parameter_name_by, parameter_name, typed_parameter, parameter, parameters, declaration, body_after, function}
 use Rattle.ms_text_laws.proofs.Sound.{all_pushed, same_value, if_good, if_within}
-use Rattle.ms_text_laws.proofs.Brings.{Brings, given, judged, chained, behind, either, listed_brings}
+use Rattle.ms_text_laws.proofs.Brings.{Brings, given, judged, chained, after, either, listed_brings}
 use Rattle.ms_text_laws.proofs.SmallNames.{is_small_name, number_small, local_name_small, global_read}
 use Rattle.ms_text_laws.proofs.SmallValues.{few_pushed}
 use Rattle.ms_text_laws.proofs.SmallBodies.{is_small_block, blocks_read}
@@ -39,19 +39,19 @@ module _ (form : Form) where
 
   name_read : (number : ℕ) → Brings (parameter_name form number) (λ n. is_small_name form n ≡ true)
   unfolding parameter_name
-  name_read number = behind (λ x. name_by_read number x)
+  name_read number = after (λ x. name_by_read number x)
 
   typed_read : (ps : Parameters) → AreFew form ps → Brings (typed_parameter form ps) (AreFew form)
   unfolding typed_parameter
   typed_read ps k =
       chained {P = λ t. nat_lt (length ps.found) 100 ≡ true}
       (judged (λ t v e. (and_parts (nat_lt (length ps.found) max_parameters) (nat_lt ps.next max_parameters) (if_within (has_room ps) limit.Parameters (value_type_of t) v e).0).0))
-      (λ t room. behind (λ over. chained (name_read ps.next) (λ n h.
+      (λ t room. after (λ over. chained (name_read ps.next) (λ n h.
       given (record { named = all_pushed (λ p. is_small_name form p.1) ps.found (t, n) k.named h; few = few_pushed 100 ps.found (t, n) room }))))
 
   parameter_read : (dotted : Bool) (ps : Parameters) → AreFew form ps → Brings (parameter form dotted ps) (AreFew form)
   unfolding parameter
-  parameter_read dotted ps k = behind (λ dots. either dots (behind (λ taken. given (record { named = k.named; few = k.few }))) (typed_read ps k))
+  parameter_read dotted ps k = after (λ dots. either dots (after (λ taken. given (record { named = k.named; few = k.few }))) (typed_read ps k))
 
   parameters_read : (dotted : Bool) → Brings (parameters form dotted) (AreFew form)
   unfolding parameters
@@ -74,14 +74,14 @@ few_mapped found h = ap (λ n. nat_le n 100) (length-map found (λ (p : Ty × Na
 pub declaration_read : (form : Form) → Brings (declaration form) (λ d. is_small_decl form d ≡ true)
 unfolding declaration
 declaration_read form =
-    behind (λ attached. behind (λ words. behind (λ result. chained (global_read form) (λ n g. behind (λ paren. chained (parameters_read form (names_printf n)) (λ ps k. behind (λ over.
+    after (λ attached. after (λ words. after (λ result. chained (global_read form) (λ n g. after (λ paren. chained (parameters_read form (names_printf n)) (λ ps k. after (λ over.
     given (and_from (is_small_name form n) (nat_le (length (map (λ p. p.0) ps.found)) 100) g (few_mapped ps.found k.few)))))))))
 
 pub function_read : (form : Form) (before : ℕ) → Brings (function form before) (λ f. is_small_func form f ≡ true)
 unfolding function
 function_read form before =
-    behind (λ words. behind (λ result. chained (global_read form) (λ n g. behind (λ paren. chained (parameters_read form false) (λ ps k. behind (λ over. behind (λ brace.
-    chained (blocks_read form (body_behind ps before) refl refl refl) (λ bs h.
+    after (λ words. after (λ result. chained (global_read form) (λ n g. after (λ paren. chained (parameters_read form false) (λ ps k. after (λ over. after (λ brace.
+    chained (blocks_read form (body_after ps before) refl refl refl) (λ bs h.
     let counted = and_from (is_small_name form n) (nat_le (length ps.found) 100) g k.few in
     let params = list_all (λ p. is_small_name form p.1) ps.found in
     given (and_from (is_small_name form n && nat_le (length ps.found) 100 && params) (list_all (is_small_block form) bs)

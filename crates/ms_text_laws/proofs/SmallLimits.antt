@@ -22,9 +22,9 @@ use Rattle.ms_text_grammar.specs.Bodies.{max_instructions}
 use Rattle.ms_text_grammar.specs.Bounds.{WithinLimits}
 use Rattle.ms_text_grammar.specs.Texts.{Reads, max_tokens}
 use Rattle.ms_text_grammar.proofs.Bounds.{module_within}
-use Rattle.ms_valid.specs.NamesKnown.{global_mentions}
-use Rattle.ms_valid.specs.ReadLimits.{mentioned, type_depth, init_depth, is_short, is_shallow_global, are_shallow, few_indices, few_init_indices, func_names, module_names, ReadLimits}
-use Rattle.ms_valid.specs.Uninstrumented.{names_are_free, IsUninstrumented, CanInstrument}
+use Rattle.ms_check_valid.specs.NamesKnown.{global_mentions}
+use Rattle.ms_check_valid.specs.ReadLimits.{mentioned, type_depth, init_depth, is_short, is_shallow_global, are_shallow, few_indices, few_init_indices, func_names, module_names, ReadLimits}
+use Rattle.ms_check_valid.specs.Uninstrumented.{names_are_free, IsUninstrumented, CanInstrument}
 use Rattle.ms_text_laws.specs.Fits.{few_arguments, FitsForm}
 use Rattle.ms_text_laws.proofs.Counts.{few_operands, counted_funcs}
 use Rattle.ms_text_laws.proofs.SmallNames.{is_small_name, small_mentions, all_joined, all_so, all_among, all_mapped}

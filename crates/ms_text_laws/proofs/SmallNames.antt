@@ -16,7 +16,7 @@ use Rattle.ms_text_grammar.specs.declared.symbols.Symbol.{Symbol}
 use Rattle.ms_text_grammar.specs.declared.symbols.Symbol.TheVariants as s
 use Rattle.ms_text_grammar.specs.Lexemes.{Lexeme, name_in}
 use Rattle.ms_text_grammar.specs.Names.{reserved_global, reserved_local, name_fits, text_name, local_name, global_name, number_name, local_by, global_by, local, global}
-use Rattle.ms_valid.specs.ReadLimits.{is_short, mentioned}
+use Rattle.ms_check_valid.specs.ReadLimits.{is_short, mentioned}
 use Rattle.ms_text_laws.proofs.Sound.{no_value, same_value, if_good, if_else}
 use Rattle.ms_text_laws.proofs.Brings.{Brings, judged}
 

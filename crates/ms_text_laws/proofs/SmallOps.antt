@@ -12,7 +12,7 @@ use Rattle.ms_ir.specs.Instructions.{operands}
 use Rattle.ms_ir.specs.Written.{OfLocal, type_mentions, operand_mentions, operands_mentions, operand_types, own_types, op_types, labels, mentions}
 use Rattle.ms_ir.specs.declared.forms.Form.{Form}
 use Rattle.ms_text_grammar.specs.Insts.{names_printf}
-use Rattle.ms_valid.specs.ReadLimits.{mentioned, type_depth, few_constant_indices, few_indices}
+use Rattle.ms_check_valid.specs.ReadLimits.{mentioned, type_depth, few_constant_indices, few_indices}
 use Rattle.ms_text_laws.specs.Fits.{few_arguments}
 use Rattle.ms_text_laws.proofs.SmallNames.{is_small_name, small_mentions, all_joined, all_so, all_among, all_mapped}
 use Rattle.ms_text_laws.proofs.SmallTypes.{is_small_type, small_parts}

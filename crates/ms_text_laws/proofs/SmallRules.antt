@@ -27,7 +27,7 @@ use Rattle.ms_text_grammar.specs.Skipped.{kind_by, attached_rest, attached, suff
 use Rattle.ms_text_grammar.specs.Insts.{Marked, with_suffixes, binary_rule, compare_rule, cast_rule, select_rule, freeze_rule, address, load_rule, store_rule, index_by, index_turn, gep_rule, alloca_of, alloca_rule, call_type, is_printf, callee_by, callee, names_printf, max_parameters, argument, arguments, call_end, call_rule, edge, edge_by, edge_turn, phi_rule, target, branch_on, branch_rule, case_rest, switch_rule, ret_value, ret_rule}
 use Rattle.ms_text_laws.proofs.Sound.{all_pushed, no_value, same_value, if_else, if_within}
 use Rattle.ms_text_laws.proofs.Yields.{mapped_more}
-use Rattle.ms_text_laws.proofs.Brings.{Brings, given, judged, chained, behind, either, looped, listed_brings}
+use Rattle.ms_text_laws.proofs.Brings.{Brings, given, judged, chained, after, either, looped, listed_brings}
 use Rattle.ms_text_laws.proofs.SmallNames.{is_small_name, global_name_small, local_read}
 use Rattle.ms_text_laws.proofs.SmallTypes.{is_small_type, int_small, ptr_small, value_type_of_small, value_type_read, is_small_result, result_type_read, type_read}
 use Rattle.ms_text_laws.proofs.SmallValues.{is_small_operand, few_pushed, value_read}
@@ -63,20 +63,20 @@ module _ (form : Form) where
   kind_read x t v h = no_value _ v h
 
   attached_rest_read : (marked marks : Bool) (x : Symbol) → may_have form marked ≡ true → may_have form marks ≡ true → BringsMark (attached_rest form marked marks x)
-  attached_rest_read marked marks s.Bang h k = behind (λ taken. behind (λ brace. behind (λ over. given h)))
-  attached_rest_read marked marks x h k = behind (λ kind. behind (λ over. given (or_marked form marked marks h k)))
+  attached_rest_read marked marks s.Bang h k = after (λ taken. after (λ brace. after (λ over. given h)))
+  attached_rest_read marked marks x h k = after (λ kind. after (λ over. given (or_marked form marked marks h k)))
 
   attached_read : (marked : Bool) → may_have form marked ≡ true → BringsMark (attached form marked)
   unfolding attached
-  attached_read marked h = chained {P = λ b. may_have form b ≡ true} (judged (λ t v e. kind_read t.symbol t v e)) (λ marks k. behind (λ x. attached_rest_read marked marks x h k))
+  attached_read marked h = chained {P = λ b. may_have form b ≡ true} (judged (λ t v e. kind_read t.symbol t v e)) (λ marks k. after (λ x. attached_rest_read marked marks x h k))
 
   suffix_by_read : (marked : Bool) (x : Symbol) → may_have form marked ≡ true → BringsMark (suffix_by form marked x)
-  suffix_by_read marked s.Align h = behind (λ taken. behind (λ number. given h))
+  suffix_by_read marked s.Align h = after (λ taken. after (λ number. given h))
   suffix_by_read marked x h = attached_read marked h
 
   suffix_read : (marked : Bool) → may_have form marked ≡ true → BringsMark (suffix form marked)
   unfolding suffix
-  suffix_read marked h = behind (λ x. suffix_by_read marked x h)
+  suffix_read marked h = after (λ x. suffix_by_read marked x h)
 
   suffixes_read : (marked : Bool) → may_have form marked ≡ true → BringsMark (suffixes form marked)
   unfolding suffixes
@@ -133,26 +133,26 @@ module _ (form : Form) where
   pub binary_read : (o : BinOp) → Brings (binary_rule form o) (HasSmallParts form)
   unfolding binary_rule
   binary_read o =
-      behind (λ flags. behind (λ width. chained (operand_read (Int width)) (λ a p. behind (λ comma. chained (operand_read (Int width)) (λ b q.
+      after (λ flags. after (λ width. chained (operand_read (Int width)) (λ a p. after (λ comma. chained (operand_read (Int width)) (λ b q.
       given (record { own = refl; parts = two_pairs (Int width) (Int width) a b (int_is width) (int_is width) p q; names = refl; counts = refl }))))))
 
   pub compare_read : Brings (compare_rule form) (HasSmallParts form)
   unfolding compare_rule
   compare_read =
-      behind (λ flags. behind (λ predicate. chained (value_type_read form 32) (λ t w. chained (operand_read t) (λ a p. behind (λ comma. chained (operand_read t) (λ b q.
+      after (λ flags. after (λ predicate. chained (value_type_read form 32) (λ t w. chained (operand_read t) (λ a p. after (λ comma. chained (operand_read t) (λ b q.
       given (record { own = refl; parts = two_pairs t t a b w w p q; names = refl; counts = refl })))))))
 
   pub cast_read : (o : CastOp) → Brings (cast_rule form o) (HasSmallParts form)
   unfolding cast_rule
   cast_read o =
-      behind (λ flags. chained (value_type_read form 32) (λ t w. chained (operand_read t) (λ a p. behind (λ word. chained (value_type_read form 32) (λ u v.
+      after (λ flags. chained (value_type_read form 32) (λ t w. chained (operand_read t) (λ a p. after (λ word. chained (value_type_read form 32) (λ u v.
       given (record { own = one_type u v; parts = one_pair t a w p; names = refl; counts = refl }))))))
 
   pub select_read : Brings (select_rule form) (HasSmallParts form)
   unfolding select_rule
   select_read =
-      behind (λ bit. chained (operand_read (Int 1)) (λ c r. behind (λ comma. chained (value_type_read form 32) (λ t w. chained (operand_read t) (λ a p.
-      behind (λ again. behind (λ same. chained (operand_read t) (λ b q.
+      after (λ bit. chained (operand_read (Int 1)) (λ c r. after (λ comma. chained (value_type_read form 32) (λ t w. chained (operand_read t) (λ a p.
+      after (λ again. after (λ same. chained (operand_read t) (λ b q.
       given (record { own = refl; parts = pair_more (Int 1) c ((t, a) ∷ (t, b) ∷ []) (int_is 1) r (two_pairs t t a b w w p q); names = refl; counts = refl })))))))))
 
   pub freeze_read : Brings (freeze_rule form) (HasSmallParts form)
@@ -163,7 +163,7 @@ module _ (form : Form) where
 
   address_read : Brings (address form) IsOperand
   unfolding address
-  address_read = behind (λ comma. behind (λ word. operand_read Ptr))
+  address_read = after (λ comma. after (λ word. operand_read Ptr))
 
   pub load_read : Brings (load_rule form) (HasSmallParts form)
   unfolding load_rule
@@ -187,12 +187,12 @@ module _ (form : Form) where
 
   index_read : (found : List (Ty × Operand)) → FewIndices found → Brings (index_turn form found) (λ i. FewIndices i.found)
   unfolding index_turn
-  index_read found h = behind (λ x. index_by_read found x h)
+  index_read found h = after (λ x. index_by_read found x h)
 
   pub gep_read : Brings (gep_rule form) IsSmallMarked
   unfolding gep_rule
   gep_read =
-      behind (λ words. chained (type_read form 32) (λ t w. chained address_read (λ base p.
+      after (λ words. chained (type_read form 32) (λ t w. chained address_read (λ base p.
       chained {P = λ i. FewIndices i.found} (looped (refl, refl) (λ indices comma h e. index_read indices.found h)) (λ indices h. chained (all_suffixes_read indices.ended) (λ marked k.
       given (record { own = one_type t w; parts = pair_more Ptr base indices.found (ptr_small form 32) p h.0; names = refl; counts = h.1 }, k))))))
 
@@ -234,7 +234,7 @@ module _ (form : Form) where
   argument_read counted found h =
       chained {P = λ t. IsType t × ((not counted || nat_lt (length found) 100) ≡ true)}
       (judged (λ t v e. let good = if_within (not counted || nat_lt (length found) max_parameters) limit.Parameters (value_type_of t) v e in (value_type_of_small form 32 t v good.1, good.0)))
-      (λ t w. behind (λ over. chained (operand_read t) (λ a p. given (pair_pushed found t a h.0 w.0 p, counted_pushed counted found (t, a) w.1))))
+      (λ t w. after (λ over. chained (operand_read t) (λ a p. given (pair_pushed found t a h.0 w.0 p, counted_pushed counted found (t, a) w.1))))
 
   none_counted : (counted : Bool) → AreArguments counted []
   none_counted true = (refl, refl)
@@ -250,7 +250,7 @@ module _ (form : Form) where
 
   call_end_read : BringsMark (call_end form)
   unfolding call_end
-  call_end_read = behind (λ ended. either ended (given (unmarked form)) (behind (λ bundle. all_suffixes_read false)))
+  call_end_read = after (λ ended. either ended (given (unmarked form)) (after (λ bundle. all_suffixes_read false)))
 
   call_is : (ret : Option Ty) (x : Name) (args : List (Ty × Operand)) → is_small_result form ret ≡ true → is_small_name form x ≡ true → AreArguments (names_printf x) args → HasSmallParts form (op.Call ret x args)
   call_is None x args w g h = record { own = refl; parts = h.0; names = refl; counts = and_from (is_small_name form x) (not (names_printf x) || nat_le (length args) 100) g h.1 }
@@ -259,8 +259,8 @@ module _ (form : Form) where
   pub call_read : (named : Bool) (first : Symbol) → Brings (call_rule form named first) IsSmallMarked
   unfolding call_rule
   call_read named first =
-      behind (λ word. behind (λ over. chained (call_type_read named) (λ ret w. behind (λ dotted. chained (callee_read dotted) (λ x g.
-      behind (λ paren. chained (arguments_read (names_printf x)) (λ args h. chained call_end_read (λ marked k. given (call_is ret x args w g h, k)))))))))
+      after (λ word. after (λ over. chained (call_type_read named) (λ ret w. after (λ dotted. chained (callee_read dotted) (λ x g.
+      after (λ paren. chained (arguments_read (names_printf x)) (λ args h. chained call_end_read (λ marked k. given (call_is ret x args w g h, k)))))))))
 
   -- ---- phis
 
@@ -269,7 +269,7 @@ module _ (form : Form) where
 
   edge_read : (t : Ty) → Brings (edge form t) (λ e. IsOperand e.0 × (is_small_name form e.1 ≡ true))
   unfolding edge
-  edge_read t = chained (operand_read t) (λ v p. behind (λ comma. chained (local_read form) (λ from q. behind (λ bracket. given (p, q)))))
+  edge_read t = chained (operand_read t) (λ v p. after (λ comma. chained (local_read form) (λ from q. after (λ bracket. given (p, q)))))
 
   edge_more : (t : Ty) (found : List (Operand × Name)) (e : Operand × Name) → IsType t → AreEdges t found → IsOperand e.0 → is_small_name form e.1 ≡ true → AreEdges t (found ++ e ∷ [])
   edge_more t found e w h p q = (
@@ -278,17 +278,17 @@ module _ (form : Form) where
   )
 
   edge_by_read : (t : Ty) (found : List (Operand × Name)) (x : Symbol) → IsType t → AreEdges t found → Brings (edge_by form t found x) (λ edges. AreEdges t edges.found)
-  edge_by_read t found s.OpenBracket w h = behind (λ bracket. chained (edge_read t) (λ e p. given (edge_more t found e w h p.0 p.1)))
+  edge_by_read t found s.OpenBracket w h = after (λ bracket. chained (edge_read t) (λ e p. given (edge_more t found e w h p.0 p.1)))
   edge_by_read t found x w h = given h
 
   edge_turn_read : (t : Ty) (found : List (Operand × Name)) → IsType t → AreEdges t found → Brings (edge_turn form t found) (λ edges. AreEdges t edges.found)
   unfolding edge_turn
-  edge_turn_read t found w h = behind (λ x. edge_by_read t found x w h)
+  edge_turn_read t found w h = after (λ x. edge_by_read t found x w h)
 
   pub phi_read : Brings (phi_rule form) IsSmallMarked
   unfolding phi_rule
   phi_read =
-      chained (value_type_read form 32) (λ t w. behind (λ bracket. chained (edge_read t) (λ first p.
+      chained (value_type_read form 32) (λ t w. after (λ bracket. chained (edge_read t) (λ first p.
       chained {P = λ edges. AreEdges t edges.found} (looped (edge_more t [] first w (refl, refl) p.0 p.1) (λ edges comma h e. edge_turn_read t edges.found w h)) (λ edges h.
       chained (all_suffixes_read edges.ended) (λ marked k. given (record { own = one_type t w; parts = h.0; names = h.1; counts = refl }, k))))))
 
@@ -296,7 +296,7 @@ module _ (form : Form) where
 
   target_read : Brings (target form) (λ n. is_small_name form n ≡ true)
   unfolding target
-  target_read = behind (λ word. local_read form)
+  target_read = after (λ word. local_read form)
 
   one_name : (n : Name) → is_small_name form n ≡ true → list_all (is_small_name form) (n ∷ []) ≡ true
   one_name n h = and_from (is_small_name form n) true h refl
@@ -304,25 +304,25 @@ module _ (form : Form) where
   branch_on_read : Brings (branch_on form) (HasSmallParts form)
   unfolding branch_on
   branch_on_read =
-      behind (λ bit. chained (operand_read (Int 1)) (λ c r. behind (λ comma. chained target_read (λ to p. behind (λ again. chained target_read (λ other q.
+      after (λ bit. chained (operand_read (Int 1)) (λ c r. after (λ comma. chained target_read (λ to p. after (λ again. chained target_read (λ other q.
       given (record { own = refl; parts = one_pair (Int 1) c (int_is 1) r; names = and_from (is_small_name form to) (is_small_name form other && true) p (one_name other q); counts = refl })))))))
 
   pub branch_read : Brings (branch_rule form) (HasSmallParts form)
   unfolding branch_rule
-  branch_read = behind (λ plain. either plain (chained target_read (λ to p. given (record { own = refl; parts = refl; names = one_name to p; counts = refl }))) branch_on_read)
+  branch_read = after (λ plain. either plain (chained target_read (λ to p. given (record { own = refl; parts = refl; names = one_name to p; counts = refl }))) branch_on_read)
 
   abbrev AreCases : List (ℕ × Name) → Type 0
   AreCases found = list_all (is_small_name form) (map (λ c. c.1) found) ≡ true
 
   case_read : (width : ℕ) (found : List (ℕ × Name)) → AreCases found → Brings (case_rest form width found) AreCases
   unfolding case_rest
-  case_read width found h = behind (λ n. behind (λ comma. chained target_read (λ to q. given (mapped_more (is_small_name form) (λ c. c.1) found (n, to) h q))))
+  case_read width found h = after (λ n. after (λ comma. chained target_read (λ to q. given (mapped_more (is_small_name form) (λ c. c.1) found (n, to) h q))))
 
   pub switch_read : Brings (switch_rule form) (HasSmallParts form)
   unfolding switch_rule
   switch_read =
-      behind (λ width. chained (operand_read (Int width)) (λ v p. behind (λ comma. chained target_read (λ other q. behind (λ bracket.
-      chained {P = AreCases} (looped refl (λ found t h e. case_read width found h)) (λ cases h. behind (λ end.
+      after (λ width. chained (operand_read (Int width)) (λ v p. after (λ comma. chained target_read (λ other q. after (λ bracket.
+      chained {P = AreCases} (looped refl (λ found t h e. case_read width found h)) (λ cases h. after (λ end.
       given (record { own = refl; parts = one_pair (Int width) v (int_is width) p; names = and_from (is_small_name form other) _ q h; counts = refl }))))))))
 
   ret_value_read : (t : Option Ty) → is_small_result form t ≡ true → Brings (ret_value form t) (HasSmallParts form)

@@ -15,10 +15,10 @@ use Rattle.ms_text_grammar.specs.declared.symbols.Symbol.TheVariants as s
 use Rattle.ms_text_grammar.specs.Lexemes.{Lexeme, width_in}
 use Rattle.ms_text_grammar.specs.Steps.{Rule}
 use Rattle.ms_text_grammar.specs.Types.{value_type_by, value_type_of, value_type, result_type_by, result_type, flat, array_rest, struct_rest, packed_rest, nested, opens, type_to, struct_by, struct_type}
-use Rattle.ms_valid.specs.ReadLimits.{type_depth, row_depth, mentioned}
-use Rattle.ms_valid.proofs.TypeShapes.{type_mentions-array, type_mentions-struct}
+use Rattle.ms_check_valid.specs.ReadLimits.{type_depth, row_depth, mentioned}
+use Rattle.ms_check_valid.proofs.TypeShapes.{type_mentions-array, type_mentions-struct}
 use Rattle.ms_text_laws.proofs.Sound.{no_value, same_value}
-use Rattle.ms_text_laws.proofs.Brings.{Brings, given, judged, chained, behind, either, refused, stopped, items_bring}
+use Rattle.ms_text_laws.proofs.Brings.{Brings, given, judged, chained, after, either, refused, stopped, items_bring}
 use Rattle.ms_text_laws.proofs.SmallNames.{is_small_name, small_mentions, all_joined, all_among, local_read}
 
 -- so many arrays and structs of a type at most are open at once, and the names in it are small
@@ -104,12 +104,12 @@ is_small_result form None = true
 is_small_result form (Some t) = is_small_type form 32 t
 
 result_type_by_read : (form : Form) (x : Symbol) → Brings (result_type_by x) (λ t. is_small_result form t ≡ true)
-result_type_by_read form s.Void = behind (λ taken. given refl)
+result_type_by_read form s.Void = after (λ taken. given refl)
 result_type_by_read form x = chained (value_type_read form 32) (λ t h. given h)
 
 pub result_type_read : (form : Form) → Brings result_type (λ t. is_small_result form t ≡ true)
 unfolding result_type
-result_type_read form = behind (λ x. result_type_by_read form x)
+result_type_read form = after (λ x. result_type_by_read form x)
 
 -- ---- all types
 
@@ -126,7 +126,7 @@ flat_read form depth x = refused
 module _ (form : Form) (depth : ℕ) (part : Rule Ty) (each : BringsType form depth part) where
   array_read : BringsType form (suc depth) (array_rest part)
   unfolding array_rest
-  array_read = behind (λ n. behind (λ word. chained each (λ t h. behind (λ close. given (array_small form depth n t h)))))
+  array_read = after (λ n. after (λ word. chained each (λ t h. after (λ close. given (array_small form depth n t h)))))
 
   struct_rest_read : BringsType form (suc depth) (struct_rest part)
   unfolding struct_rest
@@ -134,24 +134,24 @@ module _ (form : Form) (depth : ℕ) (part : Rule Ty) (each : BringsType form de
 
   packed_rest_read : BringsType form (suc depth) (packed_rest part)
   unfolding packed_rest
-  packed_rest_read = behind (λ brace. chained (items_bring s.CloseBrace part (is_small_type form depth) each) (λ ts h. behind (λ greater. given (struct_small form depth true ts h))))
+  packed_rest_read = after (λ brace. chained (items_bring s.CloseBrace part (is_small_type form depth) each) (λ ts h. after (λ greater. given (struct_small form depth true ts h))))
 
   nested_read : (x : Symbol) → BringsType form (suc depth) (nested form part x)
-  nested_read s.OpenBracket = behind (λ taken. array_read)
-  nested_read s.OpenBrace = behind (λ taken. struct_rest_read)
-  nested_read s.Less = behind (λ taken. packed_rest_read)
+  nested_read s.OpenBracket = after (λ taken. array_read)
+  nested_read s.OpenBrace = after (λ taken. struct_rest_read)
+  nested_read s.Less = after (λ taken. packed_rest_read)
   nested_read x = flat_read form (suc depth) x
 
 pub type_read : (form : Form) (depth : ℕ) → BringsType form depth (type_to form depth)
 unfolding type_to
-type_read form zero = behind (λ x. either (opens x) (stopped (r.Limit limit.Types)) (flat_read form zero x))
-type_read form (suc depth) = behind (λ x. nested_read form depth (type_to form depth) (type_read form depth) x)
+type_read form zero = after (λ x. either (opens x) (stopped (r.Limit limit.Types)) (flat_read form zero x))
+type_read form (suc depth) = after (λ x. nested_read form depth (type_to form depth) (type_read form depth) x)
 
 struct_by_read : (form : Form) (x : Symbol) → BringsType form 32 (struct_by form x)
-struct_by_read form s.OpenBrace = behind (λ taken. struct_rest_read form 31 (type_to form 31) (type_read form 31))
-struct_by_read form s.Less = behind (λ taken. packed_rest_read form 31 (type_to form 31) (type_read form 31))
+struct_by_read form s.OpenBrace = after (λ taken. struct_rest_read form 31 (type_to form 31) (type_read form 31))
+struct_by_read form s.Less = after (λ taken. packed_rest_read form 31 (type_to form 31) (type_read form 31))
 struct_by_read form x = refused
 
 pub struct_read : (form : Form) → BringsType form 32 (struct_type form)
 unfolding struct_type
-struct_read form = behind (λ x. struct_by_read form x)
+struct_read form = after (λ x. struct_by_read form x)

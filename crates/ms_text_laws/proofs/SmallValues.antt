@@ -26,10 +26,10 @@ use Rattle.ms_text_grammar.specs.Names.{local_by, global_by}
 use Rattle.ms_text_grammar.specs.Types.{int_width, is_ptr, int_type_of, type_to, opens}
 use Rattle.ms_text_grammar.specs.Values.{number_by, max_indices, constant_index, constant_indices, Address, gep_from, base_by, base_to, max_within, offset, is_int_width, int_value, local_value, simple_by, simple_value, value_by, value_within, flat_init, typed, array_init, struct_init, packed_init, nested_init, init_to}
 use Rattle.ms_text_grammar.proofs.Bounds.{length_more}
-use Rattle.ms_valid.specs.ReadLimits.{mentioned, type_depth, steps_depth, init_depth, items_depth, few_constant_indices, few_init_indices, few_items_indices}
-use Rattle.ms_valid.proofs.TypeShapes.{init_mentions-array, init_mentions-struct}
+use Rattle.ms_check_valid.specs.ReadLimits.{mentioned, type_depth, steps_depth, init_depth, items_depth, few_constant_indices, few_init_indices, few_items_indices}
+use Rattle.ms_check_valid.proofs.TypeShapes.{init_mentions-array, init_mentions-struct}
 use Rattle.ms_text_laws.proofs.Sound.{all_pushed, no_value, same_value, if_good, if_mapped, if_within}
-use Rattle.ms_text_laws.proofs.Brings.{Brings, given, judged, chained, behind, either, stopped, looped, items_bring}
+use Rattle.ms_text_laws.proofs.Brings.{Brings, given, judged, chained, after, either, stopped, looped, items_bring}
 use Rattle.ms_text_laws.proofs.SmallNames.{is_small_name, small_mentions, all_joined, all_so, all_among, all_mapped, local_by_small, global_by_small, global_read}
 use Rattle.ms_text_laws.proofs.SmallTypes.{is_small_type, small_parts, type_read}
 
@@ -61,7 +61,7 @@ index_read : (depth : ℕ) (found : List (Ty × ℕ)) → FewIndices depth found
 unfolding constant_index
 index_read depth found h =
     chained {P = λ width. nat_lt (length found) 64 ≡ true} (judged (λ t w e. (if_within (nat_lt (length found) max_indices) limit.Indices (int_type_of t) w e).0))
-    (λ width room. behind (λ n. given (few_pushed 64 found (Int width, n) room, all_pushed (λ i. nat_le (type_depth i.0) depth) found (Int width, n) h.1 (int_shallow depth width))))
+    (λ width room. after (λ n. given (few_pushed 64 found (Int width, n) room, all_pushed (λ i. nat_le (type_depth i.0) depth) found (Int width, n) h.1 (int_shallow depth width))))
 
 indices_read : (depth : ℕ) → Brings constant_indices (FewIndices depth)
 unfolding constant_indices
@@ -113,8 +113,8 @@ module _ (form : Form) (depth : ℕ) where
   gep_read : (most : ℕ) (base : Rule Address) → Brings base (IsSmallAddress form depth most) → Brings (gep_from form depth base) (IsSmallAddress form depth (suc most))
   unfolding gep_from
   gep_read most base p =
-      behind (λ words. behind (λ paren. chained (type_read form depth) (λ t w. behind (λ comma. behind (λ pointer. chained p (λ a g.
-      chained (indices_read depth) (λ indices h. behind (λ close. given (around a t indices g w h)))))))))
+      after (λ words. after (λ paren. chained (type_read form depth) (λ t w. after (λ comma. after (λ pointer. chained p (λ a g.
+      chained (indices_read depth) (λ indices h. after (λ close. given (around a t indices g w h)))))))))
     where
       around : (a : Address) (t : Ty) (indices : List (Ty × ℕ)) → IsSmallAddress form depth most a → is_small_type form depth t ≡ true → FewIndices depth indices
           → IsSmallAddress form depth (suc most) (a.0, (t, indices) ∷ a.1)
@@ -128,9 +128,9 @@ module _ (form : Form) (depth : ℕ) where
 
   base_read : (within : ℕ) → Brings (base_to form depth within) (IsSmallAddress form depth within)
   unfolding base_to
-  base_read zero = behind (λ x. base_by_read zero (stop (r.Limit limit.Indices)) (stopped (r.Limit limit.Indices)) x)
+  base_read zero = after (λ x. base_by_read zero (stop (r.Limit limit.Indices)) (stopped (r.Limit limit.Indices)) x)
   base_read (suc within) =
-      behind (λ x. base_by_read (suc within) (skip >> gep_from form depth (base_to form depth within)) (behind (λ taken. gep_read within (base_to form depth within) (base_read within))) x)
+      after (λ x. base_by_read (suc within) (skip >> gep_from form depth (base_to form depth within)) (after (λ taken. gep_read within (base_to form depth within) (base_read within))) x)
 
   offset_read : Brings (offset form depth) (λ o. is_small_operand form depth o ≡ true)
   unfolding offset
@@ -182,12 +182,12 @@ module _ (form : Form) (depth : ℕ) where
   simple_read locals type = judged (λ t v h. simple_by_read locals type t.symbol t v h)
 
   value_by_read : (locals : Bool) (type : Ty) (x : Symbol) → Brings (value_by form depth locals type x) IsSmall
-  value_by_read locals type s.GetElementPtr = behind (λ taken. offset_read form depth)
+  value_by_read locals type s.GetElementPtr = after (λ taken. offset_read form depth)
   value_by_read locals type x = simple_read locals type
 
   pub value_read : (locals : Bool) (type : Ty) → Brings (value_within form depth locals type) IsSmall
   unfolding value_within
-  value_read locals type = behind (λ x. value_by_read locals type x)
+  value_read locals type = after (λ x. value_by_read locals type x)
 
 -- ---- initialisers
 
@@ -288,7 +288,7 @@ module _ (form : Form) (depth : ℕ) where
       init_from depth (initial.Value o) (value_depth o all.1) first.1 first.0
 
   flat_read : (type : Ty) (x : Symbol) → Brings (flat_init form depth type x) (λ i. is_small_init form depth i ≡ true)
-  flat_read type s.ZeroInitializer = behind (λ taken. given (init_from depth initial.Zero (omega arith) refl refl))
+  flat_read type s.ZeroInitializer = after (λ taken. given (init_from depth initial.Zero (omega arith) refl refl))
   flat_read type s.CText =
       judged (λ t v h. subst (λ i. is_small_init form depth i ≡ true) (same_value (initial.Text (name_in t)) v h) (init_from depth (initial.Text (name_in t)) (omega arith) refl refl))
   flat_read type x = chained (value_read form depth false type) (λ o h. given (value_small o h))
@@ -296,10 +296,10 @@ module _ (form : Form) (depth : ℕ) where
 module _ (form : Form) (depth : ℕ) (part : Rule (Ty × Init)) (each : Brings part (λ i. is_small_item form depth i ≡ true)) where
   nested_read : (type : Ty) (y x : Symbol) → Brings (nested_init part (flat_init form (suc depth) type y) x) (λ i. is_small_init form (suc depth) i ≡ true)
   unfolding array_init struct_init packed_init
-  nested_read type y s.OpenBracket = behind (λ taken. chained (items_bring s.CloseBracket part (is_small_item form depth) each) (λ xs h. given (array_small form depth xs h)))
-  nested_read type y s.OpenBrace = behind (λ taken. chained (items_bring s.CloseBrace part (is_small_item form depth) each) (λ xs h. given (struct_small form depth false xs h)))
+  nested_read type y s.OpenBracket = after (λ taken. chained (items_bring s.CloseBracket part (is_small_item form depth) each) (λ xs h. given (array_small form depth xs h)))
+  nested_read type y s.OpenBrace = after (λ taken. chained (items_bring s.CloseBrace part (is_small_item form depth) each) (λ xs h. given (struct_small form depth false xs h)))
   nested_read type y s.Less =
-      behind (λ taken. behind (λ brace. chained (items_bring s.CloseBrace part (is_small_item form depth) each) (λ xs h. behind (λ greater. given (struct_small form depth true xs h)))))
+      after (λ taken. after (λ brace. chained (items_bring s.CloseBrace part (is_small_item form depth) each) (λ xs h. after (λ greater. given (struct_small form depth true xs h)))))
   nested_read type y x = flat_read form (suc depth) type y
 
 typed_read : (form : Form) (depth : ℕ) → ((type : Ty) → Brings (init_to form depth type) (λ i. is_small_init form depth i ≡ true))
@@ -309,6 +309,6 @@ typed_read form depth inner =
 
 pub init_read : (form : Form) (depth : ℕ) (type : Ty) → Brings (init_to form depth type) (λ i. is_small_init form depth i ≡ true)
 unfolding init_to
-init_read form zero type = behind (λ x. either (opens x) (stopped (r.Limit limit.Types)) (flat_read form zero type x))
+init_read form zero type = after (λ x. either (opens x) (stopped (r.Limit limit.Types)) (flat_read form zero type x))
 init_read form (suc depth) type =
-    behind (λ x. nested_read form depth (typed (type_to form depth) (init_to form depth)) (typed_read form depth (init_read form depth)) type x x)
+    after (λ x. nested_read form depth (typed (type_to form depth) (init_to form depth)) (typed_read form depth (init_read form depth)) type x x)

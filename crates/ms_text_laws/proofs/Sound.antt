@@ -22,8 +22,8 @@ use Rattle.ms_text_grammar.specs.Lexemes.{Lexeme, Row, keywords, punctuation_sym
 use Rattle.ms_text_grammar.specs.Steps.{Rule, Verdict, within, judge_map, skip, sees, word, comma_begins, listed, with_item, items}
 use Rattle.ms_text_grammar.specs.Texts.{HasTokens, ReadsUpTo}
 use Rattle.ms_text_grammar.proofs.Rests.{reads_keep}
-use Rattle.ms_valid.specs.FormedNames.{are_bytes}
-use Rattle.ms_valid.specs.FormedCode.{is_width}
+use Rattle.ms_check_valid.specs.FormedNames.{are_bytes}
+use Rattle.ms_check_valid.specs.FormedCode.{is_width}
 
 -- a lexeme of a text of bytes: its name is bytes, and an integer type's width is one of 1 to 64
 pub record IsSound (t : Lexeme) : Type 0 where

@@ -19,12 +19,12 @@ use Rattle.ms_text_grammar.specs.declared.symbols.Symbol.{Symbol}
 use Rattle.ms_text_grammar.specs.declared.symbols.Symbol.TheVariants as s
 use Rattle.ms_text_grammar.specs.Lexemes.{Lexeme, Row, keywords, symbol_in, type_or_plain, int_symbol, word_symbol, symbol_of, name_in, width_in}
 use Rattle.ms_text_grammar.specs.Names.{begins_msan, is_inserted, reserved_local, reserved_global, number_name}
-use Rattle.ms_valid.specs.FormedNames.{are_bytes, is_local_name, is_global_name}
-use Rattle.ms_text_layout.specs.Pieces.{word}
-use Rattle.ms_text_layout.specs.Names.{quoted, is_plain, name_text, local_token, global_token, label_token}
-use Rattle.ms_text_layout.proofs.WholeNames.{decimal_digits, decimal_some}
-use Rattle.ms_text_layout.proofs.SpelledBack.{name_back}
-use Rattle.ms_text_layout.proofs.WholeKinds.{not_true}
+use Rattle.ms_check_valid.specs.FormedNames.{are_bytes, is_local_name, is_global_name}
+use Rattle.ms_text_grammar.specs.LayoutPieces.{word}
+use Rattle.ms_text_grammar.specs.LayoutNames.{quoted, is_plain, name_text, local_token, global_token, label_token}
+use Rattle.ms_text_grammar.proofs.WholeNames.{decimal_digits, decimal_some}
+use Rattle.ms_text_grammar.proofs.SpelledBack.{name_back}
+use Rattle.ms_text_grammar.proofs.WholeKinds.{not_true}
 use Rattle.ms_text_laws.proofs.Limited.{Limits, local_name, global_name, local_by, global_by}
 use Rattle.ms_text_laws.proofs.Numbers.{decimal_back}
 

@@ -19,12 +19,12 @@ use Rattle.ms_ir.specs.declared.syntax.Module.{Module}
 use Rattle.ms_ir.specs.Instructions.{operands, over_funcs}
 use Rattle.ms_text_grammar.specs.Insts.{names_printf}
 use Rattle.ms_text_grammar.specs.Bodies.{max_instructions}
-use Rattle.ms_text_grammar.specs.Functions.{next_behind as next_param}
+use Rattle.ms_text_grammar.specs.Functions.{next_after as next_param}
 use Rattle.ms_text_grammar.specs.Modules.{instructions_of}
-use Rattle.ms_valid.specs.FormedNames.{are_numbered}
-use Rattle.ms_valid.specs.FormedCode.{inst_formed, is_body}
-use Rattle.ms_valid.specs.Formed.{block_formed, func_formed, Formed}
-use Rattle.ms_valid.specs.ReadLimits.{type_depth, init_depth, few_init_indices, few_items_indices, few_indices, is_short, is_shallow_global, are_shallow, module_names}
+use Rattle.ms_check_valid.specs.FormedNames.{are_numbered}
+use Rattle.ms_check_valid.specs.FormedCode.{inst_formed, is_body}
+use Rattle.ms_check_valid.specs.Formed.{block_formed, func_formed, Formed}
+use Rattle.ms_check_valid.specs.ReadLimits.{type_depth, init_depth, few_init_indices, few_items_indices, few_indices, is_short, is_shallow_global, are_shallow, module_names}
 use Rattle.ms_ir.specs.Written.{op_types}
 use Rattle.ms_ir.specs.Locals.{func_insts, locals}
 use Rattle.ms_text_laws.specs.Fits.{few_arguments, FitsForm}

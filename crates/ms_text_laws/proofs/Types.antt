@@ -15,14 +15,14 @@ use Rattle.ms_text_grammar.specs.Lexemes.{Lexeme, end_of_text, is, same_symbol, 
 use Rattle.ms_text_grammar.specs.Steps.{Rule, word, items, with_item, refusal}
 use Rattle.ms_text_grammar.specs.Skipped.{is_closer}
 use Rattle.ms_text_grammar.specs.Types.{value_type_by, value_type, result_type, opens, count_by, count, packed_brace, array_rest, struct_rest, packed_rest}
-use Rattle.ms_valid.specs.FormedNames.{is_local_name}
-use Rattle.ms_valid.specs.FormedCode.{is_width, is_value_type, type_formed, row_formed, result_formed}
-use Rattle.ms_valid.specs.ReadLimits.{type_depth, row_depth, mentioned}
+use Rattle.ms_check_valid.specs.FormedNames.{is_local_name}
+use Rattle.ms_check_valid.specs.FormedCode.{is_width, is_value_type, type_formed, row_formed, result_formed}
+use Rattle.ms_check_valid.specs.ReadLimits.{type_depth, row_depth, mentioned}
 use Rattle.ms_ir.specs.Written.{Mention, type_mentions, row_mentions}
-use Rattle.ms_text_layout.specs.Pieces.{word as word_token, sign, with_commas}
-use Rattle.ms_text_layout.specs.Names.{local_token, count_token}
-use Rattle.ms_text_layout.specs.Types.{type_tokens, row_tokens, struct_tokens, result_tokens}
-use Rattle.ms_valid.specs.Formed.{is_struct}
+use Rattle.ms_text_grammar.specs.LayoutPieces.{word as word_token, sign, with_commas}
+use Rattle.ms_text_grammar.specs.LayoutNames.{local_token, count_token}
+use Rattle.ms_text_grammar.specs.LayoutTypes.{type_tokens, row_tokens, struct_tokens, result_tokens}
+use Rattle.ms_check_valid.specs.Formed.{is_struct}
 use Rattle.ms_text_laws.proofs.Limited.{Limits, flat, nested, type_to, struct_type, local}
 use Rattle.ms_text_laws.proofs.Takes.{Takes, given, taken, chain, by_symbol, other, word_taken, along}
 use Rattle.ms_text_laws.proofs.Numbers.{signed_back}

@@ -23,15 +23,15 @@ use Rattle.ms_text_grammar.specs.Lexemes.{Lexeme, end_of_text, is, same_symbol, 
 use Rattle.ms_text_grammar.specs.Steps.{Rule, word, items, with_item, refusal, within, judge_map}
 use Rattle.ms_text_grammar.specs.Types.{int_type_of, opens}
 use Rattle.ms_text_grammar.specs.Values.{Address, number_by, number, gep_words, typed, array_init, struct_init, packed_init, nested_init}
-use Rattle.ms_valid.specs.FormedNames.{are_bytes, is_local_name, is_global_name}
-use Rattle.ms_valid.specs.FormedCode.{is_width, type_formed, number_formed, step_formed, operand_formed, is_constant, init_formed, items_formed}
-use Rattle.ms_valid.specs.ReadLimits.{type_depth, steps_depth, init_depth, items_depth}
+use Rattle.ms_check_valid.specs.FormedNames.{are_bytes, is_local_name, is_global_name}
+use Rattle.ms_check_valid.specs.FormedCode.{is_width, type_formed, number_formed, step_formed, operand_formed, is_constant, init_formed, items_formed}
+use Rattle.ms_check_valid.specs.ReadLimits.{type_depth, steps_depth, init_depth, items_depth}
 use Rattle.ms_ir.specs.Written.{type_mentions, operand_mentions, init_mentions, items_mentions, OfGlobal}
-use Rattle.ms_text_layout.specs.Pieces.{word as word_token, sign, comma, behind_commas, with_commas, enclosed}
-use Rattle.ms_text_layout.specs.Names.{local_token, global_token, number_token, bytes_token, signed_text}
-use Rattle.ms_text_layout.specs.Types.{type_tokens}
-use Rattle.ms_text_layout.specs.Values.{integer_token, constant_index_tokens, offset_tokens, base_tokens, value_tokens, init_tokens, items_tokens}
-use Rattle.ms_text_layout.proofs.SpelledBack.{string_back}
+use Rattle.ms_text_grammar.specs.LayoutPieces.{word as word_token, sign, comma, after_commas, with_commas, enclosed}
+use Rattle.ms_text_grammar.specs.LayoutNames.{local_token, global_token, number_token, bytes_token, signed_text}
+use Rattle.ms_text_grammar.specs.LayoutTypes.{type_tokens}
+use Rattle.ms_text_grammar.specs.LayoutValues.{integer_token, constant_index_tokens, offset_tokens, base_tokens, value_tokens, init_tokens, items_tokens}
+use Rattle.ms_text_grammar.proofs.SpelledBack.{string_back}
 use Rattle.ms_text_grammar.specs.Skipped.{is_closer}
 use Rattle.ms_text_laws.proofs.Limited.{Limits, global, type_to, constant_index, constant_indices, gep_from, base_to, offset, simple_by, simple_value, value_within, local_value, flat_init, init_to}
 use Rattle.ms_text_laws.proofs.Takes.{Takes, given, taken, chain, ended, by_symbol, other, word_taken, along}
@@ -143,7 +143,7 @@ starts_value s.Global = true
 starts_value s.GetElementPtr = true
 starts_value x = false
 
--- an operand as it may stand behind a type, within the limits
+-- an operand as it may stand after a type, within the limits
 pub record ValueFits (limits : Limits) (depth : ℕ) (t : Ty) (a : Operand) : Type 0 where
   pub formed : operand_formed t a ≡ true
   pub shallow : offset_depth a ≤ depth
@@ -189,17 +189,17 @@ module _ (limits : Limits) where
       )
 
   offset_tokens_are : (t : Ty) (base : List Lexeme) (indices : List (Ty × ℕ)) (rest : List Lexeme) → offset_tokens t base indices ++ rest
-      ≡ word_token (codes "getelementptr") ∷ sign (codes "(") ∷ (type_tokens t ++ comma ∷ word_token (codes "ptr") ∷ (base ++ (behind_commas (map constant_index_tokens indices) ++ sign (codes ")") ∷ rest)))
+      ≡ word_token (codes "getelementptr") ∷ sign (codes "(") ∷ (type_tokens t ++ comma ∷ word_token (codes "ptr") ∷ (base ++ (after_commas (map constant_index_tokens indices) ++ sign (codes ")") ∷ rest)))
   unfolding offset_tokens
   offset_tokens_are t base indices rest = ap (λ ys. word_token (codes "getelementptr") ∷ sign (codes "(") ∷ ys)
       (regrouped (with_commas (type_tokens t ∷ (word_token (codes "ptr") ∷ base) ∷ map constant_index_tokens indices)) (sign (codes ")")) rest
-      ∙ append_assoc (type_tokens t) (comma ∷ word_token (codes "ptr") ∷ (base ++ behind_commas (map constant_index_tokens indices))) (sign (codes ")") ∷ rest)
-      ∙ ap (λ ys. type_tokens t ++ comma ∷ word_token (codes "ptr") ∷ ys) (append_assoc base (behind_commas (map constant_index_tokens indices)) (sign (codes ")") ∷ rest)))
+      ∙ append_assoc (type_tokens t) (comma ∷ word_token (codes "ptr") ∷ (base ++ after_commas (map constant_index_tokens indices))) (sign (codes ")") ∷ rest)
+      ∙ ap (λ ys. type_tokens t ++ comma ∷ word_token (codes "ptr") ∷ ys) (append_assoc base (after_commas (map constant_index_tokens indices)) (sign (codes ")") ∷ rest)))
 
   -- a step, whose base is written so
   step_taken : (step : AddressStep) (base : Rule Address) (inner : List Lexeme) (a : Address) (depth : ℕ) (rest : List Lexeme) → ((more : List Lexeme) → Takes base (inner ++ more) a more) → TypeFits limits depth step.0
       → list_all (λ i. number_formed i.0 i.1) step.1 ≡ true → length step.1 ≤ limits.indices
-      → Takes (gep_from limits depth base) (sign (codes "(") ∷ (type_tokens step.0 ++ comma ∷ word_token (codes "ptr") ∷ (inner ++ (behind_commas (map constant_index_tokens step.1) ++ sign (codes ")") ∷ rest)))) (a.0, step ∷ a.1) rest
+      → Takes (gep_from limits depth base) (sign (codes "(") ∷ (type_tokens step.0 ++ comma ∷ word_token (codes "ptr") ∷ (inner ++ (after_commas (map constant_index_tokens step.1) ++ sign (codes ")") ∷ rest)))) (a.0, step ∷ a.1) rest
   unfolding gep_from gep_words constant_indices symbol_of
   step_taken step base inner a depth rest from h all most =
       chain (ended refl) (chain open_paren_taken (chain (type_taken limits step.0 depth _ h) (chain comma_taken (chain ptr_taken (chain (from _)
@@ -371,7 +371,7 @@ abbrev mutual
   few_among most end_of-Init-Array-0-2 = true
   few_among most (more_of-Init-Array-0-2 t i rest) = few_within most i && few_among most rest
 
--- an initialiser as it may stand behind a type, within the limits
+-- an initialiser as it may stand after a type, within the limits
 pub record InitFits (limits : Limits) (depth : ℕ) (t : Ty) (i : Init) : Type 0 where
   pub formed : init_formed t i ≡ true
   pub shallow : init_depth i ≤ depth

@@ -13,12 +13,12 @@ use Rattle.ms_text_grammar.specs.declared.refusals.Cause.{Cause}
 use Rattle.ms_text_grammar.specs.Lexemes.{Lexeme, end_of_text, lexemes_of}
 use Rattle.ms_text_grammar.specs.Modules as modules
 use Rattle.ms_text_grammar.specs.Texts.{Reads, ReadsUpTo, Stops, StopsAt, max_tokens}
-use Rattle.ms_valid.specs.Formed.{Formed}
-use Rattle.ms_text_layout.specs.Apart.{spans}
-use Rattle.ms_text_layout.specs.Modules.{module_pieces, written}
-use Rattle.ms_text_layout.specs.Pieces.{tokens_in}
-use Rattle.ms_text_layout.proofs.CutBack.{tokens_back, lexemes_back}
-use Rattle.ms_text_layout.proofs.WholeModules.{module_apart}
+use Rattle.ms_check_valid.specs.Formed.{Formed}
+use Rattle.ms_text_grammar.specs.LayoutApart.{spans}
+use Rattle.ms_text_grammar.specs.LayoutModules.{module_pieces, written}
+use Rattle.ms_text_grammar.specs.LayoutPieces.{tokens_in}
+use Rattle.ms_text_grammar.proofs.CutBack.{tokens_back, lexemes_back}
+use Rattle.ms_text_grammar.proofs.WholeModules.{module_apart}
 use Rattle.ms_text_laws.specs.Fits.{NamesLimit}
 use Rattle.ms_text_laws.proofs.Agreeing.{Agrees}
 use Rattle.ms_text_laws.proofs.LargerBodies.{module_looser}

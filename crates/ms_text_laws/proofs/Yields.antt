@@ -23,8 +23,8 @@ pub chained : {A B : Type 0} {P : A → Type 0} {Q : B → Type 0} {g : Rule A} 
 chained {g = g} p q = record { each = λ ts v rest s h. (q h.0 (p.each ts h.0 h.1 s h.2)).each h.1 v rest (sound_rest g ts h.0 h.1 s h.2) h.3 }
 
 -- whatever the first piece reads
-pub behind : {A B : Type 0} {Q : B → Type 0} {g : Rule A} {k : A → Rule B} → ((a : A) → Yields (k a) Q) → Yields (seq g k) Q
-behind {g = g} q = record { each = λ ts v rest s h. (q h.0).each h.1 v rest (sound_rest g ts h.0 h.1 s h.2) h.3 }
+pub after : {A B : Type 0} {Q : B → Type 0} {g : Rule A} {k : A → Rule B} → ((a : A) → Yields (k a) Q) → Yields (seq g k) Q
+after {g = g} q = record { each = λ ts v rest s h. (q h.0).each h.1 v rest (sound_rest g ts h.0 h.1 s h.2) h.3 }
 
 pub either : {A : Type 0} {P : A → Type 0} {g h : Rule A} (b : Bool) → Yields g P → Yields h P → Yields (cond b g h) P
 either true p q = p

@@ -12,8 +12,8 @@ use Rattle.ms_text_grammar.specs.Insts.{names_printf}
 use Rattle.ms_text_grammar.specs.Bodies.{max_instructions}
 use Rattle.ms_text_grammar.specs.Texts.{max_bytes, max_tokens}
 use Rattle.ms_ir.specs.Locals.{func_insts}
-use Rattle.ms_valid.specs.ReadLimits.{ReadLimits}
-use Rattle.ms_text_layout.specs.Modules.{module_pieces, written}
+use Rattle.ms_check_valid.specs.ReadLimits.{ReadLimits}
+use Rattle.ms_text_grammar.specs.LayoutModules.{module_pieces, written}
 
 -- a call of `printf` has at most 100 arguments; those of other calls are counted by the parameters of the callee
 abbrev pub few_arguments : Op → Bool

@@ -9,8 +9,8 @@ ghost use Rattle.ms_lex.specs.Numbers as read;
 ghost use Rattle.ms_ir.specs.{declared.syntax.Module.{Module}, declared.forms.Form.TheVariants.{Instrumented}};
 ghost use Rattle.ms_text_grammar.specs.{declared.refusals.Cause.{Cause}, Lexemes.{end_of_text}, Modules.{module_rule}};
 ghost use Rattle.ms_text_grammar.specs.Texts.{Reads, Stops, max_tokens};
-ghost use Rattle.ms_valid.specs.Formed.{Formed};
-ghost use Rattle.ms_text_layout.specs.{Modules.{module_pieces, written}, Names.{signed_text}, Pieces.{tokens_in}};
+ghost use Rattle.ms_check_valid.specs.Formed.{Formed};
+ghost use Rattle.ms_text_grammar.specs.{LayoutModules.{module_pieces, written}, LayoutNames.{signed_text}, LayoutPieces.{tokens_in}};
 ghost use Rattle.ms_text_laws.specs.Fits.{FitsForm, FitsText, NamesLimit};
 
 /// Digits of a number below 2^64 are read as that number. So is the signed text of a word of an integer type, modulo 2 to

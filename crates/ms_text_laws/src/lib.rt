@@ -3,7 +3,6 @@
 #![tactic(auto)]
 
 pub mod answered;
-pub mod examples;
 pub mod formed;
 pub mod laws;
 pub mod limits;

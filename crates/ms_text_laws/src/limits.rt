@@ -4,7 +4,7 @@ ghost use Rattle.ms_lex.specs.Tokens.{Text};
 ghost use Rattle.ms_ir.specs.{declared.syntax.Module.{Module}, declared.forms.Form.{Form}};
 ghost use Rattle.ms_ir.specs.declared.forms.Form.TheVariants.{Plain};
 ghost use Rattle.ms_text_grammar.specs.{Bodies.{max_instructions}, Texts.{Reads}};
-ghost use Rattle.ms_valid.specs.{ReadLimits.{ReadLimits}, Uninstrumented.{CanInstrument}};
+ghost use Rattle.ms_check_valid.specs.{ReadLimits.{ReadLimits}, Uninstrumented.{CanInstrument}};
 ghost use Rattle.ms_text_laws.specs.Fits.{FitsForm};
 
 /// Every module that is read keeps the limits of the form of its text: on instructions, functions, globals, parameters,

@@ -3,7 +3,7 @@
 ghost use Rattle.std.specs.Prelude.{◌≡◌, [], codes};
 ghost use Rattle.ms_lex.specs.{Grammar.{done, fails, run}, Sums.{sum}};
 
-use ms_lex::{HasGrammar, reads_or_stops};
+use ms_lex::{HasGrammar, law_reads_or_stops};
 
 struct Sums;
 
@@ -32,6 +32,6 @@ fn sums_are_read()
 
 #[test]
 fn laws_of_a_small_grammar() {
-    reads_or_stops(&Sums);
+    law_reads_or_stops(&Sums);
     sums_are_read();
 }

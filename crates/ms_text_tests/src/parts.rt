@@ -29,10 +29,10 @@ enum Piece {
     /// A function.
     Function,
     /// A function after so many instructions.
-    Behind(u32),
+    After(u32),
 }
 
-use Piece::{Attributes, Behind, Bit, Byte, Function, Pointer, Type, Word};
+use Piece::{After, Attributes, Bit, Byte, Function, Pointer, Type, Word};
 
 /// The number of the token after the piece, or why it isn't read.
 #[derive(Debug)]
@@ -221,31 +221,31 @@ static FUNCTIONS: [Part; 10] = [
         0,
         Not(Syntax(6, 20)),
     ),
-    Part(Behind(131070), Plain, MAIN, 0, Next(17)),
+    Part(After(131070), Plain, MAIN, 0, Next(17)),
     Part(
-        Behind(131071),
+        After(131071),
         Plain,
         MAIN,
         0,
         Not(Limited(Limit::Instructions, 13, 43)),
     ),
     Part(
-        Behind(131072),
+        After(131072),
         Plain,
         MAIN,
         0,
         Not(Limited(Limit::Instructions, 6, 23)),
     ),
-    Part(Behind(4194302), Instrumented, MAIN, 0, Next(17)),
+    Part(After(4194302), Instrumented, MAIN, 0, Next(17)),
     Part(
-        Behind(4194303),
+        After(4194303),
         Instrumented,
         MAIN,
         0,
         Not(Limited(Limit::Instructions, 13, 43)),
     ),
     Part(
-        Behind(4294967295),
+        After(4294967295),
         Instrumented,
         MAIN,
         0,
@@ -269,7 +269,7 @@ fn next_of<A: Drop>(read: Result<(A, u32), ReadError>) -> Result<u32, ReadError>
     }
 }
 
-fn value_behind(
+fn value_after(
     alloc: Global,
     text: &[u8],
     found: &[Token],
@@ -303,8 +303,8 @@ fn read(
         Type => next_of(read_type(alloc, text, found, at, form)),
         Attributes => skip_attributes(alloc, text, found, at, form),
         Function => next_of(read_body(alloc, text, found, at, 0, form)),
-        Behind(before) => next_of(read_body(alloc, text, found, at, before, form)),
-        _ => value_behind(alloc, text, found, at, piece, form),
+        After(before) => next_of(read_body(alloc, text, found, at, before, form)),
+        _ => value_after(alloc, text, found, at, piece, form),
     }
 }
 

@@ -9,18 +9,18 @@ use Rattle.ms_ir.specs.declared.calls.Slot.TheVariants as slot
 use Rattle.ms_ir.specs.Names.{slot_room}
 use Rattle.ms_ir.specs.Signatures.{answers}
 use Rattle.ms_ir.specs.Instructions.{over_funcs}
-use Rattle.ms_valid.specs.Formed.{Formed}
-use Rattle.ms_valid.specs.Valid.{Valid}
+use Rattle.ms_check_valid.specs.Formed.{Formed}
+use Rattle.ms_check_valid.specs.Valid.{Valid}
 use Rattle.ms_runs.specs.declared.runs.Setup.{Setup}
 use Rattle.ms_runs.specs.World.{World}
 use Rattle.ms_runs.specs.Control.{entered}
 use Rattle.ms_runs.specs.Act.{plain_reading}
 use Rattle.ms_runs.specs.Plain.{PlainState, plain_start}
 use Rattle.ms_runs.specs.Threads.{first_clean}
-use Rattle.ms_good_laws.specs.GoodStates.{GoodFrame, IsBelow, IsStart}
-use Rattle.ms_good_laws.proofs.Readings.{plain_unset}
-use Rattle.ms_good_laws.proofs.WorldChanges.{range_keeps}
-use Rattle.ms_threads_runs.specs.PlainFibers.{no_others}
+use Rattle.ms_runs_good_laws.specs.GoodStates.{GoodFrame, IsBelow, IsStart}
+use Rattle.ms_runs_good_laws.proofs.Readings.{plain_unset}
+use Rattle.ms_runs_good_laws.proofs.WorldChanges.{range_keeps}
+use Rattle.ms_runs_threads.specs.PlainFibers.{no_others}
 use Rattle.ms_threads_laws.proofs.StartedFibers.{start_types, unary_good}
 use Rattle.ms_host.specs.State.{Beside, KeepsGiven, nothing_beside}
 use Rattle.ms_host.specs.Shows.{Shows}
@@ -32,9 +32,9 @@ use Rattle.ms_machine.specs.Spawning.{SpawnedFor}
 use Rattle.ms_printf.specs.CallSites.{AreCallSites}
 use Rattle.ms_runtime.specs.Served.{IsBeside}
 use Rattle.ms_runtime.specs.Going.{ahead, Begins}
-use Rattle.ms_threads.specs.declared.guests.Thread.{Thread as Guest}
-use Rattle.ms_threads.specs.declared.runs.Threads.{Threads}
-use Rattle.ms_threads.specs.Guests.{stand_at, thread_of, guest_at, part_at, SameCalls, IsNew, Shares}
+use Rattle.ms_threads.specs.declared.thread_table.Thread.{Thread as Guest}
+use Rattle.ms_threads.specs.declared.runs.ThreadedRun.{ThreadedRun}
+use Rattle.ms_threads.specs.ThreadTables.{stand_at, thread_of, guest_at, part_at, SameCalls, IsNew, Shares}
 use Rattle.ms_threads.specs.Going.{StandsAt, Standings, goes_at, ends_from, Beginning, Going, most_ahead}
 use Rattle.ms_threads.proofs.Places.{same_frames, none_more, no_call}
 
@@ -53,26 +53,26 @@ module _ (m : Module) (u : Setup) (schedule : List ℕ) where
   turn_there zero ts g e = absurd (cc)
   turn_there (suc k) ts g e = (omega arith, ap (slice_get ts) (let z : suc k - 1 ≡ k = omega arith in z) ∙ e)
 
-  pub begin_there : (t : Threads) (b : Beginning m u schedule t) → (0 < t.guests.turn) × (slice_get t.guests.threads.items (t.guests.turn - 1) ≡ Some b.guest)
-  begin_there t b = turn_there t.guests.turn t.guests.threads.items b.guest b.there
+  pub begin_there : (t : ThreadedRun) (b : Beginning m u schedule t) → (0 < t.table.turn) × (slice_get t.table.threads.items (t.table.turn - 1) ≡ Some b.guest)
+  begin_there t b = turn_there t.table.turn t.table.threads.items b.guest b.there
 
-  pub begin_start : (t : Threads) (b : Beginning m u schedule t) → IsStart m b.guest.func
+  pub begin_start : (t : ThreadedRun) (b : Beginning m u schedule t) → IsStart m b.guest.func
   begin_start t b =
-      b.between.stands.starts (t.guests.turn - 1) b.guest.func
-      (slice_get-map (λ (x : Guest). x.func) t.guests.threads.items (t.guests.turn - 1) ∙ ap (option_map (λ (x : Guest). x.func)) (begin_there t b).1)
+      b.between.stands.starts (t.table.turn - 1) b.guest.func
+      (slice_get-map (λ (x : Guest). x.func) t.table.threads.items (t.table.turn - 1) ∙ ap (option_map (λ (x : Guest). x.func)) (begin_there t b).1)
 
-  module _ (formed : Formed m) (valid : Valid m) (t t' : Threads) (b : Beginning m u schedule t) (few : b.guest.argument < 2 ^ 64) (fiber : Fiber) (spawned : SpawnedFor m b.guest.func b.guest.argument fiber) (calls : SameCalls fiber t'.running.fiber)
-      (guests : t'.guests ≡ t.guests) (depot : t'.running.depot ≡ t.running.depot) (told : t'.running.told ≡ t.running.told) (budget : t'.running.budget ≡ t.running.budget) (printf : t'.running.printf ≡ t.running.printf)
+  module _ (formed : Formed m) (valid : Valid m) (t t' : ThreadedRun) (b : Beginning m u schedule t) (few : b.guest.argument < 2 ^ 64) (fiber : Fiber) (spawned : SpawnedFor m b.guest.func b.guest.argument fiber) (calls : SameCalls fiber t'.running.fiber)
+      (guests : t'.table ≡ t.table) (depot : t'.running.depot ≡ t.running.depot) (told : t'.running.told ≡ t.running.told) (budget : t'.running.budget ≡ t.running.budget) (printf : t'.running.printf ≡ t.running.printf)
       (slots : (cells : ℕ → ℕ) → ShowsSlots t.running.world.slots cells → ShowsSlots t'.running.world.slots (first_clean cells)) (shows : (beside : Beside) (world : World) → Shows t.running.world beside world → Shows t'.running.world beside world)
       (given : KeepsGiven t.running.world t'.running.world) (made : t'.running.world.made ≡ t.running.world.made) where
     abbrev state : PlainState
     state = record { frames = entered plain_reading m b.guest.func (b.guest.argument ∷ []) b.shared.world ∷ []; slots = first_clean b.shared.slots; world = b.shared.world }
 
-    turn_is : b.shared.world.turn ≡ t.guests.turn
+    turn_is : b.shared.world.turn ≡ t.table.turn
     turn_is = ap (λ f. f.turn) b.between.shows.fibers ∙ b.between.shares.turn
 
     beside_main : is_spawned b.shared.world ≡ true
-    beside_main = ap (λ (n : ℕ). not (eqb n 0)) turn_is ∙ by_number t.guests.turn (begin_there t b).0
+    beside_main = ap (λ (n : ℕ). not (eqb n 0)) turn_is ∙ by_number t.table.turn (begin_there t b).0
       where
         by_number : (n : ℕ) → 0 < n → not (eqb n 0) ≡ true
         by_number n some = ap not (ne_eqb n 0 (λ e. omega (arith, some, e)))
@@ -121,7 +121,7 @@ module _ (m : Module) (u : Setup) (schedule : List ℕ) where
 
   -- ---- the start
 
-  pub going_begun : 0 < length schedule → (t : Threads) → Begins m u t.running → IsNew t.guests → Going m u schedule t
+  pub going_begun : 0 < length schedule → (t : ThreadedRun) → Begins m u t.running → IsNew t.table → Going m u schedule t
   going_begun some t b new = record {
     beside = nothing_beside;
     state = plain_start m u;
@@ -138,8 +138,8 @@ module _ (m : Module) (u : Setup) (schedule : List ℕ) where
     };
     standings = record {
       counted = ap length new.stands.1.1 ∙ sym (ap (λ ts. length ts + 1) new.threads);
-      few = let one : length t.guests.stands.items ≡ 1 = ap length new.stands.1.1 in omega (arith, one);
-      turn = let one : length t.guests.stands.items ≡ 1 = ap length new.stands.1.1 in let turn = new.turn in omega (arith, one, turn);
+      few = let one : length t.table.parked.items ≡ 1 = ap length new.stands.1.1 in omega (arith, one);
+      turn = let one : length t.table.parked.items ≡ 1 = ap length new.stands.1.1 in let turn = new.turn in omega (arith, one, turn);
       stands = λ k. subst (λ o. StandsAt m u k o None) (sym (ap (λ ps. stand_at ps k) new.stands.1.1 ∙ none_more [] new.stands.0 (no_call new.stands.0 new.stands.1.0) k)) tt;
       place = new.place ∙ sym (mod-eq_of_lt some);
       starts = λ k f e. absurd (none k f (subst (λ xs. slice_get (map (λ (x : Guest). x.func) xs) k ≡ Some f) new.threads e));

@@ -7,23 +7,23 @@ use Rattle.ms_runs.specs.declared.runs.RunResult.{RunResult}
 use Rattle.ms_runs.specs.declared.runs.Setup.{Setup}
 use Rattle.ms_runs.specs.Faithful.{Fair, Undisturbed}
 use Rattle.ms_runs.specs.Masks.{by_completions}
-use Rattle.ms_valid.specs.Formed.{Formed}
-use Rattle.ms_valid.specs.Uninstrumented.{CanInstrument}
-use Rattle.ms_valid.specs.Valid.{Valid}
-use Rattle.ms_good_laws.specs.Fills.{to_first_report}
-use Rattle.ms_good_laws.specs.GoodWorlds.{GivesBytes}
-use Rattle.ms_fills_laws.specs.First.{FirstOf}
-use Rattle.ms_fills_laws.proofs.Whole.{quiet_first, nothing_told}
+use Rattle.ms_check_valid.specs.Formed.{Formed}
+use Rattle.ms_check_valid.specs.Uninstrumented.{CanInstrument}
+use Rattle.ms_check_valid.specs.Valid.{Valid}
+use Rattle.ms_runs_good_laws.specs.Fills.{to_first_report}
+use Rattle.ms_runs_good_laws.specs.GoodWorlds.{GivesBytes}
+use Rattle.ms_runs_fills_laws.specs.First.{FirstOf}
+use Rattle.ms_runs_fills_laws.proofs.Whole.{quiet_first, nothing_told}
 use Rattle.ms_pass_laws.proofs.Unmarked.{module_strips}
 use Rattle.ms_pass_laws.proofs.Whole.{strip_pass}
-use Rattle.ms_elide_laws.specs.Eliding.{eliding}
-use Rattle.ms_elide_laws.specs.Elided.{IsElided}
-use Rattle.ms_elide_laws.proofs.Elided.{known, formed_valid}
-use Rattle.ms_threads_runs.specs.PlainFibers.{plain_threads}
-use Rattle.ms_threads_runs.specs.ShadowFibers.{shadow_threads}
+use Rattle.ms_pass_form_laws.specs.Eliding.{eliding}
+use Rattle.ms_pass_form_laws.specs.Elided.{IsElided}
+use Rattle.ms_pass_form_laws.proofs.Elided.{known, formed_valid}
+use Rattle.ms_runs_threads.specs.PlainFibers.{plain_threads}
+use Rattle.ms_runs_threads.specs.ShadowFibers.{shadow_threads}
 use Rattle.ms_threads_laws.proofs.SameShown.{threads_undisturbed}
 use Rattle.ms_threads_laws.proofs.KeptRuns.{threads_followed}
-use Rattle.ms_threads_fills_laws.proofs.UnderFills.{first_threads, alone_threads, first_same, same_threads, shown_threads}
+use Rattle.ms_threads_laws.proofs.UnderFills.{first_threads, alone_threads, first_same, same_threads, shown_threads}
 use Rattle.ms_threads.specs.Faithful.{ThreadsUnderFills, FaithfulThreads}
 use Rattle.ms_threads.specs.Fills.{ThreadsHoldUnderFills}
 use Rattle.ms_threads.proofs.Stripped as stripped

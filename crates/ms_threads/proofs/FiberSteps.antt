@@ -18,18 +18,18 @@ use Rattle.ms_runs.specs.Act.{plain_reading}
 use Rattle.ms_runs.specs.Plain.{PlainState, Stepped, More, Stop, and_then, plain_inst, steps, setting_of}
 use Rattle.ms_runs.specs.Poisoned.{Poisoned}
 use Rattle.ms_runs.specs.Threads.{with_answer, result_mask, result_origin}
-use Rattle.ms_threads_runs.specs.Fibers.{Due, Own, Asks, Returns, Others, Fibers, Goes, Waits, goes_on, standing, ended, moved, fibers_step}
-use Rattle.ms_threads_runs.specs.PlainFibers.{Shared, due_inst, due_of, due_at, frames_due, words_due, through_marked, plain_reach, plain_going, plain_answer}
+use Rattle.ms_runs_threads.specs.Fibers.{Due, Own, Asks, Returns, Others, Fibers, Goes, Waits, goes_on, standing, ended, moved, fibers_step}
+use Rattle.ms_runs_threads.specs.PlainFibers.{Shared, due_inst, due_of, due_at, frames_due, words_due, through_marked, plain_reach, plain_going, plain_answer}
 use Rattle.ms_host.specs.State.{WorldState, Beside}
 use Rattle.ms_host.specs.declared.calls.Asked.{Asked}
 use Rattle.ms_host.specs.declared.calls.Asked.TheVariants as asked
 use Rattle.ms_host.specs.declared.calls.HostCall.{HostCall}
 use Rattle.ms_machine_steps.specs.Waiting.{IsAsked, FirstWaits, Finishes}
 use Rattle.ms_machine_steps.specs.Advances.{step_of, reach_of, due_in, Within, Ends, AllOwn}
-use Rattle.ms_threads.specs.Guests.{IsThreadCall}
+use Rattle.ms_threads.specs.ThreadTables.{IsThreadCall}
 use Rattle.ms_threads.specs.Going.{fiber_of, shared_in, goes_at, ends_from, ends_after}
 
--- what stands at a place stands first behind it
+-- what stands at a place stands first after it
 pub dropped : (xs : List Inst) (k : ℕ) (x : Inst) → slice_get xs k ≡ Some x → drop k xs ≡ x ∷ drop (suc k) xs
 dropped [] k x e = absurd (cc)
 dropped (y ∷ xs) zero x e = ap (λ z. z ∷ xs) (same e)
@@ -106,7 +106,7 @@ module _ (m : Module) (u : Setup) (schedule : List ℕ) where
   run_spent left a b others all e =
       ap (λ j. ends_from m u schedule j (goes_at a others)) (let z : left ≡ left + 0 = omega arith in z) ∙ own_steps left 0 a b others all e
 
-  -- behind its first steps a run goes on with the step from there
+  -- after its first steps a run goes on with the step from there
   pub run_due : (left rest n : ℕ) (a b : PlainState) (others : Others (List (Frame ℕ))) → rest + n + 1 ≡ left → AllOwn m u n a → steps (step_of m u) n a ≡ More b
       → ends_from m u schedule left (goes_at a others) ≡ ends_after m u schedule rest (step (goes_at b others))
   run_due left rest n a b others e all came =
@@ -189,15 +189,15 @@ module _ (m : Module) (u : Setup) (schedule : List ℕ) where
         ∙ ap (λ v. record { value = v; mask = result_mask a.slots; origin = result_origin a.slots })
         (ap (λ o. word 0 (words_due plain_reading (setting_of m u) m h.frame o)) due_is ∙ sym h.gives)
 
-    -- what all share behind it
-    abbrev pub behind_return : Shared
-    behind_return = record { slots = a.slots; world = with_answer answered_word (given_back h.frame a.world) }
+    -- what all share after it
+    abbrev pub after_return : Shared
+    after_return = record { slots = a.slots; world = with_answer answered_word (given_back h.frame a.world) }
 
-    ended_is : ended (fiber_of m u) a.frames (shared_in a) ≡ behind_return
+    ended_is : ended (fiber_of m u) a.frames (shared_in a) ≡ after_return
     ended_is =
         ap (λ p. record { slots = a.slots; world = with_answer p ((fiber_of m u).left a.frames a.world) }) answer_is
         ∙ ap (λ fs. record { slots = a.slots; world = with_answer answered_word ((fiber_of m u).left fs a.world) }) h.frames
 
     -- the fiber has ended, and a pick is due
-    pub step_returns : (others : Others (List (Frame ℕ))) → step (goes_at a others) ≡ More (Waits behind_return others)
+    pub step_returns : (others : Others (List (Frame ℕ))) → step (goes_at a others) ≡ More (Waits after_return others)
     step_returns others = ap (by_due a others) returns_due ∙ ap (on_returns others) returns_reach ∙ ap (λ s. More (Waits s others)) ended_is

@@ -10,6 +10,6 @@ pub mod FiberSteps
 pub mod Turns
 pub mod Starting
 pub mod Picks
-pub mod Behind
+pub mod After
 pub mod Begun
 pub mod Results

@@ -4,9 +4,9 @@ use Rattle.std.proofs.Math.ListN.{set}
 use Rattle.std.proofs.lemmas.Bool.{eq-eqb}
 use Rattle.std.proofs.lemmas.List.{length-map, get_or-set_same, get_or-set_other}
 use Rattle.ms_runs.specs.Threads.{thread_at, has_ended}
-use Rattle.ms_threads_runs.specs.Fibers.{may_go, is_runnable, numbers_from}
-use Rattle.ms_threads.specs.declared.guests.Guests.{Guests}
-use Rattle.ms_threads.specs.Guests.{Standing, thread_of, standing_joins, threads_of, stands_of, runnable_in, Counted}
+use Rattle.ms_runs_threads.specs.Fibers.{may_go, is_runnable, numbers_from}
+use Rattle.ms_threads.specs.declared.thread_table.ThreadTable.{ThreadTable}
+use Rattle.ms_threads.specs.ThreadTables.{Standing, thread_of, standing_joins, threads_of, stands_of, runnable_in, Counted}
 
 -- ---- numbers that pass a test
 
@@ -52,7 +52,7 @@ module _ (p : ℕ → Bool) where
   pub place_here : (k n d : ℕ) → k < n → d < one (p k) → get_or (rest k n) d 0 ≡ k
   place_here k n d lt few = ap (λ xs. get_or xs d 0) (rest_on k n lt) ∙ here (p k) k (rest (k + 1) n) d few
 
-  -- the list of the first ones, with one number more behind them, and those from the next number on
+  -- the list of the first ones, with one number more after them, and those from the next number on
   pub listed_on : (k n count : ℕ) (ready : List ℕ) → k < n → count < length ready → ((d : ℕ) → d < count → get_or ready d 0 ≡ get_or (rest 0 n) d 0) → ((d : ℕ) → get_or (rest k n) d 0 ≡ get_or (rest 0 n) (count + d) 0)
       → (d : ℕ) → d < count + one (p k) → get_or (set ready count k) d 0 ≡ get_or (rest 0 n) d 0
   listed_on k n count ready lt room listed ahead d few = by_test (eqb d count) refl
@@ -90,18 +90,18 @@ module _ (p : ℕ → Bool) where
 -- ---- threads
 
 -- whether the thread with a number may go on
-abbrev pub test_of : Guests → ℕ → Bool
+abbrev pub test_of : ThreadTable → ℕ → Bool
 test_of g k = is_runnable standing_joins (threads_of g) (stands_of g) k
 
-pub all_of : (g : Guests) → Counted g → runnable_in g ≡ rest (test_of g) 0 (length g.stands.items)
-all_of g counted = ap (λ d. filter (test_of g) (numbers_from 0 d)) (let e : length (threads_of g) + 1 ≡ length g.stands.items - 0 = omega (arith, counted, length-map g.threads.items thread_of) in e)
+pub all_of : (g : ThreadTable) → Counted g → runnable_in g ≡ rest (test_of g) 0 (length g.parked.items)
+all_of g counted = ap (λ d. filter (test_of g) (numbers_from 0 d)) (let e : length (threads_of g) + 1 ≡ length g.parked.items - 0 = omega (arith, counted, length-map g.threads.items thread_of) in e)
 
 -- another goes by where it stands
-pub goes_by : (g : Guests) (k : ℕ) (o : Option Standing) (b : Bool) → false ≡ has_ended (thread_at k (threads_of g)) → stands_of g k ≡ o → b ≡ may_go standing_joins k (threads_of g) o → b ≡ test_of g k
+pub goes_by : (g : ThreadTable) (k : ℕ) (o : Option Standing) (b : Bool) → false ≡ has_ended (thread_at k (threads_of g)) → stands_of g k ≡ o → b ≡ may_go standing_joins k (threads_of g) o → b ≡ test_of g k
 goes_by g k o b e is goes = goes ∙ ap (may_go standing_joins k (threads_of g)) (sym is) ∙ ap (λ t. not t && may_go standing_joins k (threads_of g) (stands_of g k)) e
 
 -- the one that is picked may go on
-pub picked_goes : (g : Guests) → Counted g → (d : ℕ) → d < length (runnable_in g) → (test_of g (get_or (runnable_in g) d 0) ≡ true) × (get_or (runnable_in g) d 0 < length g.stands.items)
+pub picked_goes : (g : ThreadTable) → Counted g → (d : ℕ) → d < length (runnable_in g) → (test_of g (get_or (runnable_in g) d 0) ≡ true) × (get_or (runnable_in g) d 0 < length g.parked.items)
 picked_goes g counted d lt =
     let h = passes (test_of g) 0 (length (threads_of g) + 1) d 0 lt in
     (h.0, omega (arith, h.1, counted, length-map g.threads.items thread_of))

@@ -16,8 +16,8 @@ use Rattle.ms_runs.specs.Control.{Frame, here, read_all}
 use Rattle.ms_runs.specs.Act.{plain_reading}
 use Rattle.ms_runs.specs.Plain.{setting_of}
 use Rattle.ms_runs.specs.Threads.{Fibers, fibers_of, thread_at, has_ended}
-use Rattle.ms_threads_runs.specs.Fibers.{Others, Waits, waits, may_go, is_runnable, numbers_from, runnable, standing, turned, resumed, resumes, picked, site_at}
-use Rattle.ms_threads_runs.specs.PlainFibers.{Shared, plain_threads, due_inst, joins_of, op_joins, inst_joins, frames_joins, frames_site, words_due}
+use Rattle.ms_runs_threads.specs.Fibers.{Others, Waits, waits, may_go, is_runnable, numbers_from, runnable, standing, turned, resumed, resumes, picked, site_at}
+use Rattle.ms_runs_threads.specs.PlainFibers.{Shared, plain_threads, due_inst, joins_of, op_joins, inst_joins, frames_joins, frames_site, words_due}
 use Rattle.ms_host.specs.State.{WorldState, Beside}
 use Rattle.ms_host.specs.Shows.{Shows}
 use Rattle.ms_host.specs.declared.calls.Asked.{Asked}
@@ -28,11 +28,11 @@ use Rattle.ms_machine_frames.specs.declared.fibers.Fiber.{Fiber}
 use Rattle.ms_machine_steps.specs.Waiting.{IsAsked, FirstWaits}
 use Rattle.ms_runtime.specs.declared.runs.Running.{Running}
 use Rattle.ms_runtime.specs.Served.{IsBeside}
-use Rattle.ms_runtime.specs.Going.{Answers, LeftBehind, HasSlack}
-use Rattle.ms_threads.specs.declared.guests.Thread.{Thread as Guest}
-use Rattle.ms_threads.specs.declared.guests.Guests.{Guests}
-use Rattle.ms_threads.specs.declared.runs.Threads.{Threads}
-use Rattle.ms_threads.specs.Guests.{Standing, standing_of, stand_at, thread_of, guest_at, threads_of, stands_of, site_of, asked_joins, call_joins, standing_joins, runnable_in, IsThreadCall, Stands, Picked}
+use Rattle.ms_runtime.specs.Going.{Answers, LeftAfter, HasSlack}
+use Rattle.ms_threads.specs.declared.thread_table.Thread.{Thread as Guest}
+use Rattle.ms_threads.specs.declared.thread_table.ThreadTable.{ThreadTable}
+use Rattle.ms_threads.specs.declared.runs.ThreadedRun.{ThreadedRun}
+use Rattle.ms_threads.specs.ThreadTables.{Standing, standing_of, stand_at, thread_of, guest_at, threads_of, stands_of, site_of, asked_joins, call_joins, standing_joins, runnable_in, IsThreadCall, Stands, Picked}
 use Rattle.ms_threads.specs.Going.{StandsFor, StandsAt, fiber_of, shared_in, ends_from, ends_after, last_of, Between, most_ahead, far_of, Asking, Picking, Performing, Beginning}
 use Rattle.ms_threads.proofs.Numbered.{test_of, picked_goes}
 use Rattle.ms_threads.proofs.Threading.{same_thread, shows_fibers, shares_turned, shares_same}
@@ -51,16 +51,16 @@ module _ (m : Module) (u : Setup) (schedule : List ℕ) where
   blind_of (asked.External e) is r h = omega (arith, h)
   blind_of (asked.Runtime f) is r h = absurd is
 
-  rest_of_call : (of : Asked) → IsThreadCall of → (rest left : ℕ) → LeftBehind of rest left → rest ≡ left
+  rest_of_call : (of : Asked) → IsThreadCall of → (rest left : ℕ) → LeftAfter of rest left → rest ≡ left
   rest_of_call (asked.External e) is rest left h = h
   rest_of_call (asked.Runtime f) is rest left h = absurd is
 
-  pub stood_picks : (t t' : Threads) (call : HostCall) (a : Asking m u schedule call t) → IsThreadCall call.asked → Stands (Some (standing_of t.running.fiber call)) t.guests t'.guests
+  pub stood_picks : (t t' : ThreadedRun) (call : HostCall) (a : Asking m u schedule call t) → IsThreadCall call.asked → Stands (Some (standing_of t.running.fiber call)) t.table t'.table
       → t'.running.world ≡ t.running.world → t'.running.depot ≡ t.running.depot → t'.running.told ≡ t.running.told → t'.running.budget ≡ t.running.budget → t'.running.printf ≡ t.running.printf → Picking m u schedule t'
   stood_picks t t' call a is st world depot told budget printf = record {
     beside = a.beside;
     shared = shared_in a.within;
-    others = record a.others { stands = standing t.guests.turn (Some a.within.frames) a.others.stands };
+    others = record a.others { stands = standing t.table.turn (Some a.within.frames) a.others.stands };
     between = record {
       bytes = a.stands.bytes;
       shows = subst (λ w. Shows w a.beside a.within.world) (sym world) a.stands.shows;
@@ -69,8 +69,8 @@ module _ (m : Module) (u : Setup) (schedule : List ℕ) where
       held = a.stands.sound.slots;
       good = a.stands.sound.world;
       told = subst (λ d. IsBeside d t'.running.told a.beside) (sym depot) (subst (λ r. IsBeside t.running.depot r a.beside) (sym told) a.told);
-      shares = shares_same t.guests t'.guests a.beside.fibers a.shares st.same.turn st.threads;
-      stands = standings_stood m u schedule (Some (standing_of t.running.fiber call)) (Some a.within.frames) t.guests t'.guests a.others a.standings st now;
+      shares = shares_same t.table t'.table a.beside.fibers a.shares st.same.turn st.threads;
+      stands = standings_stood m u schedule (Some (standing_of t.running.fiber call)) (Some a.within.frames) t.table t'.table a.others a.standings st now;
       roots = ap (λ d. d.roots) depot ∙ a.keeping.roots;
       few = subst (λ r. length r.reports < u.reports) (sym told) a.keeping.few;
       room = let made : t'.running.world.made ≡ t.running.world.made = ap (λ (w : WorldState). w.made) world in let left : t'.running.budget.left ≡ t.running.budget.left = ap (λ b. b.left) budget in
@@ -80,15 +80,15 @@ module _ (m : Module) (u : Setup) (schedule : List ℕ) where
     blind = let b : t'.running.told.blind ≡ t.running.told.blind = ap (λ r. r.blind) told in let most : most_ahead m t'.running ≡ most_ahead m t.running = ap (λ b. b.left * (over_funcs (λ inst. 1) m.funcs + 1) + over_funcs (λ inst. 1) m.funcs) budget in
         omega (arith, b, most, blind_of call.asked is t.running a.blind);
     same =
-        ap (λ n. ends_from m u schedule n (Waits (shared_in a.within) (record a.others { stands = standing t.guests.turn (Some a.within.frames) a.others.stands }))) (ap (λ b. b.left) budget ∙ sym (rest_of_call call.asked is a.rest t.running.budget.left a.counted))
+        ap (λ n. ends_from m u schedule n (Waits (shared_in a.within) (record a.others { stands = standing t.table.turn (Some a.within.frames) a.others.stands }))) (ap (λ b. b.left) budget ∙ sym (rest_of_call call.asked is a.rest t.running.budget.left a.counted))
         ∙ ap (λ n. ends_from m u schedule a.rest (Waits (shared_in a.within) (record a.others { stands = standing n (Some a.within.frames) a.others.stands }))) (sym turn_is)
         ∙ sym (ap (ends_after m u schedule a.rest) (step_asks m u schedule a.within call a.others is a.waits)) ∙ a.same;
   }
     where
-      turn_is : a.within.world.turn ≡ t.guests.turn
+      turn_is : a.within.world.turn ≡ t.table.turn
       turn_is = ap (λ f. f.turn) a.stands.shows.fibers ∙ a.shares.turn
 
-      now : StandsFor m u t.guests.turn (standing_of t.running.fiber call) a.within.frames
+      now : StandsFor m u t.table.turn (standing_of t.running.fiber call) a.within.frames
       now = record {
         frames = a.stands.frames;
         waits = a.waits;
@@ -141,17 +141,17 @@ module _ (m : Module) (u : Setup) (schedule : List ℕ) where
   same_may threads n None (Some fs) h = absurd h
   same_may threads n (Some s) None h = absurd h
 
-  module _ (t : Threads) (p : Picking m u schedule t) where
-    threads_are : p.shared.world.threads ≡ threads_of t.guests
+  module _ (t : ThreadedRun) (p : Picking m u schedule t) where
+    threads_are : p.shared.world.threads ≡ threads_of t.table
     threads_are = ap (λ f. f.threads) p.between.shows.fibers ∙ p.between.shares.threads
 
-    tests : (k : ℕ) → is_runnable (fiber_of m u).joins (threads_of t.guests) p.others.stands k ≡ test_of t.guests k
-    tests k = ap (λ b. not (has_ended (thread_at k (threads_of t.guests))) && b) (same_may (threads_of t.guests) k (stands_of t.guests k) (p.others.stands k) (p.between.stands.stands k))
+    tests : (k : ℕ) → is_runnable (fiber_of m u).joins (threads_of t.table) p.others.stands k ≡ test_of t.table k
+    tests k = ap (λ b. not (has_ended (thread_at k (threads_of t.table))) && b) (same_may (threads_of t.table) k (stands_of t.table k) (p.others.stands k) (p.between.stands.stands k))
 
-    same_runnable : runnable (fiber_of m u).joins p.shared.world.threads p.others.stands ≡ runnable_in t.guests
+    same_runnable : runnable (fiber_of m u).joins p.shared.world.threads p.others.stands ≡ runnable_in t.table
     same_runnable =
         ap (λ threads. runnable (fiber_of m u).joins threads p.others.stands) threads_are
-        ∙ ap (λ (test : ℕ → Bool). filter test (numbers_from 0 (length (threads_of t.guests) + 1))) (λ i k. tests k i)
+        ∙ ap (λ (test : ℕ → Bool). filter test (numbers_from 0 (length (threads_of t.table) + 1))) (λ i k. tests k i)
 
     few : t.running.told.blind ≤ 2 ^ 62
     few = omega (arith, p.blind)
@@ -161,23 +161,23 @@ module _ (m : Module) (u : Setup) (schedule : List ℕ) where
     pick_spent none =
         ends_so m u schedule «end».Spent p.shared.world p.beside t (sym (ap (λ n. ends_from m u schedule n (Waits p.shared p.others)) none) ∙ p.same) p.between.shows p.between.told few
 
-    -- the steps behind a pick
+    -- the steps after a pick
     abbrev pub left_of : ℕ
     left_of = t.running.budget.left - 1
 
     one_left : t.running.budget.left ≢ 0 → t.running.budget.left ≡ suc left_of
     one_left some = omega (arith, some)
 
-    after : t.running.budget.left ≢ 0 → ends_after m u schedule left_of (picked (fiber_of m u) schedule p.shared p.others (runnable_in t.guests)) ≡ last_of m u schedule
+    after : t.running.budget.left ≢ 0 → ends_after m u schedule left_of (picked (fiber_of m u) schedule p.shared p.others (runnable_in t.table)) ≡ last_of m u schedule
     after some =
         ap (λ ks. ends_after m u schedule left_of (picked (fiber_of m u) schedule p.shared p.others ks)) (sym same_runnable)
         ∙ sym (ap (λ n. ends_from m u schedule n (Waits p.shared p.others)) (one_left some)) ∙ p.same
 
     -- nobody may go on
-    pub pick_deadlocks : t.running.budget.left ≢ 0 → runnable_in t.guests ≡ [] → (site : ℕ) → site ≡ site_of (stands_of t.guests 0) → Answers (plain_threads m u schedule) («end».Trap trap.Deadlock site) t.running
+    pub pick_deadlocks : t.running.budget.left ≢ 0 → runnable_in t.table ≡ [] → (site : ℕ) → site ≡ site_of (stands_of t.table 0) → Answers (plain_threads m u schedule) («end».Trap trap.Deadlock site) t.running
     pick_deadlocks some none site is =
         ends_so m u schedule («end».Trap trap.Deadlock site) p.shared.world p.beside t
-        (ap (λ s. («end».Trap trap.Deadlock s, p.shared.world)) (is ∙ sym (same_site 0 (stands_of t.guests 0) (p.others.stands 0) (p.between.stands.stands 0)))
+        (ap (λ s. («end».Trap trap.Deadlock s, p.shared.world)) (is ∙ sym (same_site 0 (stands_of t.table 0) (p.others.stands 0) (p.between.stands.stands 0)))
         ∙ sym (ap (λ ks. ends_after m u schedule left_of (picked (fiber_of m u) schedule p.shared p.others ks)) none) ∙ after some)
         p.between.shows p.between.told few
 
@@ -193,26 +193,26 @@ module _ (m : Module) (u : Setup) (schedule : List ℕ) where
     picks [] some = absurd (omega (arith, some))
     picks (k ∷ ks) some = ap (resumes (fiber_of m u) p.shared p.others) (get_any (k ∷ ks) (get_or schedule (p.others.picks % length schedule) 0 % length (k ∷ ks)) k 0 (mod_below (get_or schedule (p.others.picks % length schedule) 0) (length (k ∷ ks)) some))
 
-    module _ (some : t.running.budget.left ≢ 0) (scheduled : 0 < length schedule) (h : Guests) (pk : Picked schedule t.guests h) where
-      turn_is : h.turn ≡ get_or (runnable_in t.guests) (get_or schedule (p.others.picks % length schedule) 0 % length (runnable_in t.guests)) 0
-      turn_is = pk.turn ∙ ap (λ n. get_or (runnable_in t.guests) (get_or schedule n 0 % length (runnable_in t.guests)) 0) p.between.stands.place
+    module _ (some : t.running.budget.left ≢ 0) (scheduled : 0 < length schedule) (h : ThreadTable) (pk : Picked schedule t.table h) where
+      turn_is : h.turn ≡ get_or (runnable_in t.table) (get_or schedule (p.others.picks % length schedule) 0 % length (runnable_in t.table)) 0
+      turn_is = pk.turn ∙ ap (λ n. get_or (runnable_in t.table) (get_or schedule n 0 % length (runnable_in t.table)) 0) p.between.stands.place
 
-      goes : (test_of t.guests h.turn ≡ true) × (h.turn < length t.guests.stands.items)
+      goes : (test_of t.table h.turn ≡ true) × (h.turn < length t.table.parked.items)
       goes =
-          let q = picked_goes t.guests p.between.stands.counted (get_or schedule t.guests.place 0 % length (runnable_in t.guests)) (mod_below (get_or schedule t.guests.place 0) (length (runnable_in t.guests)) pk.some) in
-          (subst (λ n. test_of t.guests n ≡ true) (sym pk.turn) q.0, subst (λ n. n < length t.guests.stands.items) (sym pk.turn) q.1)
+          let q = picked_goes t.table p.between.stands.counted (get_or schedule t.table.next_pick 0 % length (runnable_in t.table)) (mod_below (get_or schedule t.table.next_pick 0) (length (runnable_in t.table)) pk.some) in
+          (subst (λ n. test_of t.table n ≡ true) (sym pk.turn) q.0, subst (λ n. n < length t.table.parked.items) (sym pk.turn) q.1)
 
       -- its number is that of a thread
-      pub picked_few : h.turn < length h.stands.items
+      pub picked_few : h.turn < length h.parked.items
       picked_few = subst (λ v. h.turn < length v.items) (sym pk.stands) goes.1
 
-      parts : (not (has_ended (thread_at h.turn (threads_of t.guests))) ≡ true) × (may_go standing_joins h.turn (threads_of t.guests) (stands_of t.guests h.turn) ≡ true)
-      parts = and_parts (not (has_ended (thread_at h.turn (threads_of t.guests)))) (may_go standing_joins h.turn (threads_of t.guests) (stands_of t.guests h.turn)) goes.0
+      parts : (not (has_ended (thread_at h.turn (threads_of t.table))) ≡ true) × (may_go standing_joins h.turn (threads_of t.table) (stands_of t.table h.turn) ≡ true)
+      parts = and_parts (not (has_ended (thread_at h.turn (threads_of t.table)))) (may_go standing_joins h.turn (threads_of t.table) (stands_of t.table h.turn)) goes.0
 
       resumes_so : ends_after m u schedule left_of (resumes (fiber_of m u) p.shared p.others h.turn) ≡ last_of m u schedule
       resumes_so =
           ap (λ n. ends_after m u schedule left_of (resumes (fiber_of m u) p.shared p.others n)) turn_is
-          ∙ sym (ap (ends_after m u schedule left_of) (picks (runnable_in t.guests) pk.some)) ∙ after some
+          ∙ sym (ap (ends_after m u schedule left_of) (picks (runnable_in t.table) pk.some)) ∙ after some
 
       -- the world and the fibers then
       abbrev shared' : Shared
@@ -224,11 +224,11 @@ module _ (m : Module) (u : Setup) (schedule : List ℕ) where
       abbrev beside' : Beside
       beside' = record p.beside { fibers = record p.beside.fibers { turn = h.turn } }
 
-      module _ (t' : Threads) (fiber : Fiber) (st : Stands None h t'.guests) (running : t'.running ≡ record t.running { fiber = fiber }) where
-        threads' : t'.guests.threads ≡ t.guests.threads
+      module _ (t' : ThreadedRun) (fiber : Fiber) (st : Stands None h t'.table) (running : t'.running ≡ record t.running { fiber = fiber }) where
+        threads' : t'.table.threads ≡ t.table.threads
         threads' = st.threads ∙ pk.threads
 
-        turn' : t'.guests.turn ≡ h.turn
+        turn' : t'.table.turn ≡ h.turn
         turn' = st.same.turn
 
         between' : Between m u schedule t' beside' shared' others'
@@ -242,8 +242,8 @@ module _ (m : Module) (u : Setup) (schedule : List ℕ) where
           held = p.between.held;
           good = let w = p.between.good in record { bytes = w.bytes; shadow = w.shadow; origins = w.origins; pairs = w.pairs; input = w.input; output = w.output; sizes = w.sizes; answers = w.answers };
           told = subst (λ (r : Running). IsBeside r.depot r.told beside') (sym running) (record { pairs = p.between.told.pairs; reports = p.between.told.reports; blind = p.between.told.blind });
-          shares = shares_turned h.turn t.guests t'.guests p.beside.fibers p.between.shares turn' threads';
-          stands = standings_stood m u schedule None None h t'.guests (record p.others { picks = p.others.picks + 1 }) (standings_picked m u schedule t.guests h p.others scheduled p.between.stands pk goes.1) st tt;
+          shares = shares_turned h.turn t.table t'.table p.beside.fibers p.between.shares turn' threads';
+          stands = standings_stood m u schedule None None h t'.table (record p.others { picks = p.others.picks + 1 }) (standings_picked m u schedule t.table h p.others scheduled p.between.stands pk goes.1) st tt;
           roots = ap (λ (r : Running). r.depot.roots) running ∙ p.between.roots;
           few = subst (λ (r : Running). length r.told.reports < u.reports) (sym running) p.between.few;
           room = subst (λ (r : Running). r.world.made + 2 ^ 27 * r.budget.left ≤ 2 ^ 58) (sym running) p.between.room;
@@ -260,13 +260,13 @@ module _ (m : Module) (u : Setup) (schedule : List ℕ) where
         pub pick_performs : (s : Standing) → stands_of h h.turn ≡ Some s → Performing m u schedule s t'
         pick_performs s at = by_fiber (p.others.stands h.turn) refl (subst (λ o. StandsAt m u h.turn o (p.others.stands h.turn)) stood (p.between.stands.stands h.turn))
           where
-            stood : stands_of t.guests h.turn ≡ Some s
+            stood : stands_of t.table h.turn ≡ Some s
             stood = ap (λ v. stand_at v.items h.turn) (sym pk.stands) ∙ at
 
-            free : waits t'.guests.turn (threads_of t'.guests) (call_joins s.call) ≡ false
+            free : waits t'.table.turn (threads_of t'.table) (call_joins s.call) ≡ false
             free =
-                ap (λ n. waits n (threads_of t'.guests) (call_joins s.call)) turn' ∙ ap (λ v. waits h.turn (map thread_of v.items) (call_joins s.call)) threads'
-                ∙ is_false (waits h.turn (threads_of t.guests) (call_joins s.call)) (sym (ap (may_go standing_joins h.turn (threads_of t.guests)) stood) ∙ parts.1)
+                ap (λ n. waits n (threads_of t'.table) (call_joins s.call)) turn' ∙ ap (λ v. waits h.turn (map thread_of v.items) (call_joins s.call)) threads'
+                ∙ is_false (waits h.turn (threads_of t.table) (call_joins s.call)) (sym (ap (may_go standing_joins h.turn (threads_of t.table)) stood) ∙ parts.1)
               where
                 is_false : (b : Bool) → not b ≡ true → b ≡ false
                 is_false true e = absurd (true≢false (sym e))
@@ -292,15 +292,15 @@ module _ (m : Module) (u : Setup) (schedule : List ℕ) where
         pub pick_begins : stands_of h h.turn ≡ None → Beginning m u schedule t'
         pick_begins at = by_fiber (p.others.stands h.turn) refl (subst (λ o. StandsAt m u h.turn o (p.others.stands h.turn)) stood (p.between.stands.stands h.turn))
           where
-            stood : stands_of t.guests h.turn ≡ None
+            stood : stands_of t.table h.turn ≡ None
             stood = ap (λ v. stand_at v.items h.turn) (sym pk.stands) ∙ at
 
-            there : is_some (thread_at h.turn (threads_of t.guests)) ≡ true
-            there = sym (ap (may_go standing_joins h.turn (threads_of t.guests)) stood) ∙ parts.1
+            there : is_some (thread_at h.turn (threads_of t.table)) ≡ true
+            there = sym (ap (may_go standing_joins h.turn (threads_of t.table)) stood) ∙ parts.1
 
-            by_guest : (f : Option (List (Frame ℕ))) → p.others.stands h.turn ≡ f → StandsAt m u h.turn None f → (o : Option Guest) → guest_at h.turn t.guests.threads.items ≡ o → Beginning m u schedule t'
+            by_guest : (f : Option (List (Frame ℕ))) → p.others.stands h.turn ≡ f → StandsAt m u h.turn None f → (o : Option Guest) → guest_at h.turn t.table.threads.items ≡ o → Beginning m u schedule t'
             by_guest (Some fs) e st o is = absurd st
-            by_guest None e st None is = absurd (true≢false (sym there ∙ ap is_some (sym (same_thread h.turn t.guests.threads.items)) ∙ ap (λ q. is_some (option_map thread_of q)) is))
+            by_guest None e st None is = absurd (true≢false (sym there ∙ ap is_some (sym (same_thread h.turn t.table.threads.items)) ∙ ap (λ q. is_some (option_map thread_of q)) is))
             by_guest None e st (Some guest) is = record {
               beside = beside';
               shared = shared';
@@ -308,14 +308,14 @@ module _ (m : Module) (u : Setup) (schedule : List ℕ) where
               between = between';
               blind = blind';
               guest = guest;
-              there = ap (λ n. guest_at n t'.guests.threads.items) turn' ∙ ap (λ v. guest_at h.turn v.items) threads' ∙ is;
+              there = ap (λ n. guest_at n t'.table.threads.items) turn' ∙ ap (λ v. guest_at h.turn v.items) threads' ∙ is;
               left = left_of;
               some = left';
               same =
                   sym (ap (λ o. ends_after m u schedule left_of (resumed (fiber_of m u) shared' others' h.turn o (thread_at h.turn p.shared.world.threads))) e
-                  ∙ ap (λ o. ends_after m u schedule left_of (resumed (fiber_of m u) shared' others' h.turn None o)) (ap (thread_at h.turn) threads_are ∙ sym (same_thread h.turn t.guests.threads.items) ∙ ap (option_map thread_of) is))
+                  ∙ ap (λ o. ends_after m u schedule left_of (resumed (fiber_of m u) shared' others' h.turn None o)) (ap (thread_at h.turn) threads_are ∙ sym (same_thread h.turn t.table.threads.items) ∙ ap (option_map thread_of) is))
                   ∙ resumes_so;
             }
 
             by_fiber : (f : Option (List (Frame ℕ))) → p.others.stands h.turn ≡ f → StandsAt m u h.turn None f → Beginning m u schedule t'
-            by_fiber f e st = by_guest f e st (guest_at h.turn t.guests.threads.items) refl
+            by_fiber f e st = by_guest f e st (guest_at h.turn t.table.threads.items) refl

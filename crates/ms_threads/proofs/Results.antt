@@ -23,20 +23,20 @@ use Rattle.ms_host.specs.declared.calls.Asked.TheVariants as asked
 use Rattle.ms_host.specs.declared.calls.Answer.TheVariants.{Resumed}
 use Rattle.ms_host.specs.declared.calls.HostCall.{HostCall}
 use Rattle.ms_machine_steps.specs.Waiting.{types_due}
-use Rattle.ms_good_laws.specs.GoodStates.{IsBelow}
-use Rattle.ms_good_laws.specs.Straight.{HaveTypes}
+use Rattle.ms_runs_good_laws.specs.GoodStates.{IsBelow}
+use Rattle.ms_runs_good_laws.specs.Straight.{HaveTypes}
 use Rattle.ms_machine_steps.proofs.Asking.{asked_types}
-use Rattle.ms_good_laws.proofs.FibersKept.{runtime_keeps}
+use Rattle.ms_runs_good_laws.proofs.FibersKept.{runtime_keeps}
 use Rattle.ms_runtime.specs.Served.{IsBeside, CanAnswer, Served, Fits}
 use Rattle.ms_runtime.proofs.Fitting.{fits_asked}
 use Rattle.ms_runtime.specs.Answering.{AnsweredFor}
 use Rattle.ms_runtime.specs.Going.{Asking as AskingAlone}
-use Rattle.ms_threads.specs.declared.guests.Thread.{Thread as Guest}
-use Rattle.ms_threads.specs.declared.runs.Threads.{Threads}
-use Rattle.ms_threads.specs.Guests.{thread_of, guest_at, part_at, threads_of, IsThreadCall, IsResult}
+use Rattle.ms_threads.specs.declared.thread_table.Thread.{Thread as Guest}
+use Rattle.ms_threads.specs.declared.runs.ThreadedRun.{ThreadedRun}
+use Rattle.ms_threads.specs.ThreadTables.{thread_of, guest_at, part_at, threads_of, IsThreadCall, IsResult}
 use Rattle.ms_threads.specs.Going.{Asking}
 use Rattle.ms_threads.proofs.Threading.{same_thread}
-use Rattle.ms_threads.proofs.Behind.{not_thread}
+use Rattle.ms_threads.proofs.After.{not_thread}
 
 -- what is asked for where it is the result of a thread
 effect_result : (setting : Setting) (site : ℕ) (of : Asked) (types : List Ty) (args : List ℕ) (world : World) → IsResult of
@@ -86,7 +86,7 @@ module _ (setting : Setting) (a id answer site : ℕ) (world : World) where
 
 -- ---- the answer
 
-module _ (m : Module) (u : Setup) (schedule : List ℕ) (t : Threads) (call : HostCall) (a : Asking m u schedule call t) (is : IsResult call.asked) where
+module _ (m : Module) (u : Setup) (schedule : List ℕ) (t : ThreadedRun) (call : HostCall) (a : Asking m u schedule call t) (is : IsResult call.asked) where
   abbrev changed : World
   changed = thread_result (setting_of m u) (get_or call.args 0 0) (get_or call.args 1 0) (get_or call.args 2 0) (get_or call.args 3 0) a.within.world
 
@@ -130,25 +130,25 @@ module _ (m : Module) (u : Setup) (schedule : List ℕ) (t : Threads) (call : Ho
 -- ---- the thread
 
 -- of none, and of one that goes on
-pub none_over : (t : Threads) (world : World) (id : ℕ) (o : Option Guest) → world.threads ≡ threads_of t.guests → guest_at id t.guests.threads.items ≡ o → (b : Bool) → has_ended (option_map thread_of o) ≡ b → has_ended (thread_at id world.threads) ≡ b
-none_over t world id o threads is b e = ap (λ ts. has_ended (thread_at id ts)) threads ∙ sym (ap has_ended (same_thread id t.guests.threads.items)) ∙ ap (λ q. has_ended (option_map thread_of q)) is ∙ e
+pub none_over : (t : ThreadedRun) (world : World) (id : ℕ) (o : Option Guest) → world.threads ≡ threads_of t.table → guest_at id t.table.threads.items ≡ o → (b : Bool) → has_ended (option_map thread_of o) ≡ b → has_ended (thread_at id world.threads) ≡ b
+none_over t world id o threads is b e = ap (λ ts. has_ended (thread_at id ts)) threads ∙ sym (ap has_ended (same_thread id t.table.threads.items)) ∙ ap (λ q. has_ended (option_map thread_of q)) is ∙ e
 
 -- what one answered
 pub part_of : (part : Guest → ℕ) (held : ℕ → ℕ) (ts : List Guest) → ((k : ℕ) → held (suc k) ≡ part_at part ts k) → (id : ℕ) (g : Guest) → guest_at id ts ≡ Some g → held id ≡ part g
 part_of part held ts are zero g e = absurd (cc)
 part_of part held ts are (suc k) g e = are k ∙ ap (λ o. unwrap_or (option_map part o) 0) e
 
-pub by_id : (t : Threads) (o : Option Guest) (n id : ℕ) → n ≡ id → guest_at n t.guests.threads.items ≡ o → guest_at id t.guests.threads.items ≡ o
-by_id t o n id e is = ap (λ k. guest_at k t.guests.threads.items) (sym e) ∙ is
+pub by_id : (t : ThreadedRun) (o : Option Guest) (n id : ℕ) → n ≡ id → guest_at n t.table.threads.items ≡ o → guest_at id t.table.threads.items ≡ o
+by_id t o n id e is = ap (λ k. guest_at k t.table.threads.items) (sym e) ∙ is
 
-module _ (m : Module) (u : Setup) (schedule : List ℕ) (t : Threads) (call : HostCall) (a : Asking m u schedule call t) where
+module _ (m : Module) (u : Setup) (schedule : List ℕ) (t : ThreadedRun) (call : HostCall) (a : Asking m u schedule call t) where
   -- the threads of its world
-  pub threads_in : a.within.world.threads ≡ threads_of t.guests
+  pub threads_in : a.within.world.threads ≡ threads_of t.table
   threads_in = ap (λ f. f.threads) a.stands.shows.fibers ∙ a.shares.threads
 
   -- what the code did is what was asked for
   pub on_served : (is : IsResult call.asked) {A E : Type 0} (r : Result A E) (w : WorldState) (d : DepotState) (g : Guest) (addr id site : ℕ) → addr ≡ get_or call.args 0 0 → id ≡ get_or call.args 1 0 → site ≡ get_or call.args 3 0
-      → guest_at (get_or call.args 1 0) t.guests.threads.items ≡ Some g → get_or call.args 2 0 ≡ 0 → addr ≢ 0 → has_ended (thread_at (get_or call.args 1 0) a.within.world.threads) ≡ true
+      → guest_at (get_or call.args 1 0) t.table.threads.items ≡ Some g → get_or call.args 2 0 ≡ 0 → addr ≢ 0 → has_ended (thread_at (get_or call.args 1 0) a.within.world.threads) ≡ true
       → ((setting : Setting) (beside : Beside) (meant : World) (told : RunResult) → setting.roots ≡ t.running.depot.roots → IsBeside t.running.depot told beside → Shows t.running.world beside meant
       → OnOk r (Served (Does (if is_good meant addr 8 then store_origin setting addr g.mask g.origin site (set_shadow addr 8 (byte_of g.mask) meant) else meant)) (Resumed None) w d told))
       → d.roots ≡ t.running.depot.roots → Keeps t.running.world w → w.made ≡ t.running.world.made
@@ -160,10 +160,10 @@ module _ (m : Module) (u : Setup) (schedule : List ℕ) (t : Threads) (call : Ho
       (λ v. (runtime_keeps (setting_of m u) function.ThreadResult call.args v).kept)
     where
       mask : a.within.world.answer_masks (get_or call.args 1 0) ≡ g.mask
-      mask = ap (λ f. f.answer_masks (get_or call.args 1 0)) a.stands.shows.fibers ∙ part_of (λ x. x.mask) a.beside.fibers.answer_masks t.guests.threads.items a.shares.masks (get_or call.args 1 0) g there
+      mask = ap (λ f. f.answer_masks (get_or call.args 1 0)) a.stands.shows.fibers ∙ part_of (λ x. x.mask) a.beside.fibers.answer_masks t.table.threads.items a.shares.masks (get_or call.args 1 0) g there
 
       origin : a.within.world.answer_origins (get_or call.args 1 0) ≡ g.origin
-      origin = ap (λ f. f.answer_origins (get_or call.args 1 0)) a.stands.shows.fibers ∙ part_of (λ x. x.origin) a.beside.fibers.answer_origins t.guests.threads.items a.shares.origins (get_or call.args 1 0) g there
+      origin = ap (λ f. f.answer_origins (get_or call.args 1 0)) a.stands.shows.fibers ∙ part_of (λ x. x.origin) a.beside.fibers.answer_origins t.table.threads.items a.shares.origins (get_or call.args 1 0) g there
 
       all : thread_result (setting_of m u) (get_or call.args 0 0) (get_or call.args 1 0) (get_or call.args 2 0) (get_or call.args 3 0) a.within.world
           ≡ (if is_good a.within.world addr 8 then store_origin (setting_of m u) addr g.mask g.origin site (set_shadow addr 8 (byte_of g.mask) a.within.world) else a.within.world)
@@ -178,7 +178,7 @@ can_answer (asked.External e) beside other none = not_thread e other
 can_answer (asked.Runtime function.ThreadResult) beside other none = absurd (none tt)
 can_answer (asked.Runtime f) beside other none = tt
 
-abbrev pub asking_alone : (m : Module) (u : Setup) (schedule : List ℕ) (t : Threads) (call : HostCall) (a : Asking m u schedule call t) → CanAnswer call.asked a.beside → AskingAlone m u call t.running
+abbrev pub asking_alone : (m : Module) (u : Setup) (schedule : List ℕ) (t : ThreadedRun) (call : HostCall) (a : Asking m u schedule call t) → CanAnswer call.asked a.beside → AskingAlone m u call t.running
 asking_alone m u schedule t call a can = record {
   beside = a.beside;
   within = a.within;

@@ -23,20 +23,20 @@ use Rattle.ms_ir.specs.Areas.{Fixed, area_base}
 use Rattle.ms_ir.specs.Equal.{type_eq, result_type_eq}
 use Rattle.ms_ir.specs.Signatures.{Signature, answers, signature_eq, func_signature, defined_signature, declared_signature, signature_of}
 use Rattle.ms_ir.specs.Instructions.{func_index, func_at, one_undef}
-use Rattle.ms_valid.specs.TypesAgree.{operand_fits, argument_fault, is_start, is_create, fits_call, printf_fault, is_printf, first_misfit, call_fault, fault_unless, op_fault}
-use Rattle.ms_valid.specs.Formed.{Formed}
-use Rattle.ms_valid.specs.Valid.{Valid}
-use Rattle.ms_valid.proofs.AtInstructions.{fits_at}
-use Rattle.ms_valid.proofs.ByParts.{fits_outside}
-use Rattle.ms_valid.proofs.SmallNumbers.{small_numbers}
+use Rattle.ms_check_valid.specs.TypesAgree.{operand_fits, argument_fault, is_start, is_create, fits_call, printf_fault, is_printf, first_misfit, call_fault, fault_unless, op_fault}
+use Rattle.ms_check_valid.specs.Formed.{Formed}
+use Rattle.ms_check_valid.specs.Valid.{Valid}
+use Rattle.ms_check_valid.proofs.AtInstructions.{fits_at}
+use Rattle.ms_check_valid.proofs.ByParts.{fits_outside}
+use Rattle.ms_check_valid.proofs.SmallNumbers.{small_numbers}
 use Rattle.ms_runs.specs.declared.runs.Setup.{Setup}
 use Rattle.ms_runs.specs.Globals.{own_address, address_of, address_from}
 use Rattle.ms_runs.specs.Control.{Frame, here, read_all}
 use Rattle.ms_runs.specs.Act.{plain_reading, operand_word}
 use Rattle.ms_runs.specs.Plain.{setting_of}
-use Rattle.ms_good_laws.specs.GoodStates.{IsStart}
-use Rattle.ms_good_laws.proofs.CallTypes.{external_named_so, both_none, func_found, external_call}
-use Rattle.ms_good_laws.proofs.Frames.{same_insts}
+use Rattle.ms_runs_good_laws.specs.GoodStates.{IsStart}
+use Rattle.ms_runs_good_laws.proofs.CallTypes.{external_named_so, both_none, func_found, external_call}
+use Rattle.ms_runs_good_laws.proofs.Frames.{same_insts}
 use Rattle.ms_host.specs.declared.calls.Asked.{Asked}
 use Rattle.ms_host.specs.declared.calls.Asked.TheVariants as asked
 use Rattle.ms_host.specs.declared.calls.HostCall.{HostCall}
@@ -44,7 +44,7 @@ use Rattle.ms_machine_frames.specs.declared.fibers.Fiber.{Fiber}
 use Rattle.ms_machine_frames.specs.Standing.{frames_of}
 use Rattle.ms_machine_steps.specs.Waiting.{IsAsked, Waits, FirstWaits}
 use Rattle.ms_machine.specs.Running.{AllStandFor}
-use Rattle.ms_threads.specs.Guests.{asked_starts}
+use Rattle.ms_threads.specs.ThreadTables.{asked_starts}
 use Rattle.ms_threads_laws.proofs.StartedFibers.{found_so}
 
 -- ---- the operand

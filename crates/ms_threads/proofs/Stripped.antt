@@ -14,12 +14,12 @@ use Rattle.ms_ir.specs.Names.{lookup, externals, is_inserted_name}
 use Rattle.ms_ir.specs.Written.{mentions}
 use Rattle.ms_ir.specs.ThreadCalls.{is_asked, calls_thread, is_block_threaded, is_func_threaded, is_threaded}
 use Rattle.ms_ir.specs.Instructions.{func_index, func_at, insts_at, is_unmarked, strip_block, strip_func, strip}
-use Rattle.ms_valid.specs.Paths.{insts_of}
-use Rattle.ms_valid.specs.MarksFit.{may_be_marked, all_results, is_inserted, marked_results, mark_fits}
-use Rattle.ms_valid.specs.Valid.{Valid}
-use Rattle.ms_valid.proofs.AtInstructions.{fits_at}
+use Rattle.ms_check_valid.specs.Paths.{insts_of}
+use Rattle.ms_check_valid.specs.MarksFit.{may_be_marked, all_results, is_inserted, marked_results, mark_fits}
+use Rattle.ms_check_valid.specs.Valid.{Valid}
+use Rattle.ms_check_valid.proofs.AtInstructions.{fits_at}
 use Rattle.ms_runs_laws.proofs.Stripped.{func_kept}
-use Rattle.ms_good_laws.proofs.Frames.{same_insts}
+use Rattle.ms_runs_good_laws.proofs.Frames.{same_insts}
 use Rattle.ms_threads.proofs.Apart.{runtime_apart}
 
 -- ---- marked instructions

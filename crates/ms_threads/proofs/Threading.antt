@@ -15,7 +15,7 @@ use Rattle.ms_runs.specs.Memory.{is_good, store_number}
 use Rattle.ms_runs.specs.Externals.{where_good, create, join, joined}
 use Rattle.ms_runs.specs.Threads.{Fibers, fibers_of, fiber_limit, thread_at, changed_at, changed_thread, with_fiber, with_joined, has_ended, join_answer, set_at}
 use Rattle.ms_runs.specs.Poisoned.{Poisoned}
-use Rattle.ms_threads_runs.specs.Fibers.{waits}
+use Rattle.ms_runs_threads.specs.Fibers.{waits}
 use Rattle.ms_host.specs.declared.calls.Asked.{Asked}
 use Rattle.ms_host.specs.declared.calls.Asked.TheVariants as asked
 use Rattle.ms_host.specs.declared.calls.Answer.{Answer}
@@ -23,9 +23,9 @@ use Rattle.ms_host.specs.declared.calls.Answer.TheVariants as answer
 use Rattle.ms_host.specs.State.{WorldState, Beside}
 use Rattle.ms_host.specs.Shows.{Shows}
 use Rattle.ms_host.specs.Answers.{effect_asked}
-use Rattle.ms_threads.specs.declared.guests.Thread.{Thread as Guest}
-use Rattle.ms_threads.specs.declared.guests.Guests.{Guests}
-use Rattle.ms_threads.specs.Guests.{thread_of, fresh, joined_guest, ended_guest, guest_at, part_at, changed_guests, changed_guest, stand_at, asked_creates, asked_joins, IsThreadCall, threads_of, Shares, Added, Changed, KeepsStands, Did}
+use Rattle.ms_threads.specs.declared.thread_table.Thread.{Thread as Guest}
+use Rattle.ms_threads.specs.declared.thread_table.ThreadTable.{ThreadTable}
+use Rattle.ms_threads.specs.ThreadTables.{thread_of, fresh, joined_guest, ended_guest, guest_at, part_at, changed_guests, changed_guest, stand_at, asked_creates, asked_joins, IsThreadCall, threads_of, Shares, Added, Changed, KeepsStands, Did}
 use Rattle.ms_threads.proofs.Places.{none_more, no_call}
 
 -- ---- lists
@@ -123,7 +123,7 @@ shows_fibers w beside world f shows = record {
 abbrev pub one_more_fiber : (func argument : ℕ) → Fibers → Fibers
 one_more_fiber func argument f = record f { threads = f.threads ++ record { func = func; argument = argument; ended = false; joined = false } ∷ [] }
 
-pub shares_made : (func argument : ℕ) (g h : Guests) (f : Fibers) → Shares g f → Added func argument g h → Shares h (one_more_fiber func argument f)
+pub shares_made : (func argument : ℕ) (g h : ThreadTable) (f : Fibers) → Shares g f → Added func argument g h → Shares h (one_more_fiber func argument f)
 shares_made func argument g h f s a = record {
   turn = s.turn ∙ sym a.same.turn;
   threads =
@@ -138,7 +138,7 @@ shares_made func argument g h f s a = record {
 abbrev pub joined_fiber : ℕ → Fibers → Fibers
 joined_fiber id f = record f { threads = changed_thread id (λ t. record t { joined = true }) f.threads }
 
-pub shares_joined : (id : ℕ) (g h : Guests) (f : Fibers) → Shares g f → Changed id joined_guest g h → Shares h (joined_fiber id f)
+pub shares_joined : (id : ℕ) (g h : ThreadTable) (f : Fibers) → Shares g f → Changed id joined_guest g h → Shares h (joined_fiber id f)
 shares_joined zero g h f s c = record {
   turn = s.turn ∙ sym c.same.turn;
   threads = s.threads ∙ sym (ap (map thread_of) c.threads);
@@ -165,7 +165,7 @@ ended_fiber p f = record f {
   answer_origins = set_at f.answer_origins f.turn (if eqb p.mask 0 then 0 else p.origin);
 }
 
-pub shares_ended : (value mask origin : ℕ) (g h : Guests) (f : Fibers) → Shares g f → g.turn ≤ length g.threads.items → Changed g.turn (ended_guest value mask origin) g h
+pub shares_ended : (value mask origin : ℕ) (g h : ThreadTable) (f : Fibers) → Shares g f → g.turn ≤ length g.threads.items → Changed g.turn (ended_guest value mask origin) g h
     → Shares h (ended_fiber (record { value = value; mask = mask; origin = origin }) f)
 shares_ended value mask origin g h f s few c = by_turn g.turn refl (subst (λ (n : ℕ). h.threads.items ≡ changed_guest n (ended_guest value mask origin) g.threads.items) refl c.threads)
   where
@@ -224,7 +224,7 @@ shares_ended value mask origin g h f s few c = by_turn g.turn refl (subst (λ (n
         }
 
 -- another has the turn
-pub shares_turned : (n : ℕ) (g h : Guests) (f : Fibers) → Shares g f → h.turn ≡ n → h.threads ≡ g.threads → Shares h (record f { turn = n })
+pub shares_turned : (n : ℕ) (g h : ThreadTable) (f : Fibers) → Shares g f → h.turn ≡ n → h.threads ≡ g.threads → Shares h (record f { turn = n })
 shares_turned n g h f s turn threads = record {
   turn = sym turn;
   threads = s.threads ∙ sym (ap (λ v. map thread_of v.items) threads);
@@ -234,7 +234,7 @@ shares_turned n g h f s turn threads = record {
 }
 
 -- the threads stay
-pub shares_same : (g h : Guests) (f : Fibers) → Shares g f → h.turn ≡ g.turn → h.threads ≡ g.threads → Shares h f
+pub shares_same : (g h : ThreadTable) (f : Fibers) → Shares g f → h.turn ≡ g.turn → h.threads ≡ g.threads → Shares h f
 shares_same g h f s turn threads = record {
   turn = s.turn ∙ sym turn;
   threads = s.threads ∙ sym (ap (λ v. map thread_of v.items) threads);
@@ -246,26 +246,26 @@ shares_same g h f s turn threads = record {
 -- ---- thread calls
 
 -- the threads that a world has
-threads_in : (w : WorldState) (beside : Beside) (world : World) (g : Guests) → Shows w beside world → Shares g beside.fibers → world.threads ≡ threads_of g
+threads_in : (w : WorldState) (beside : Beside) (world : World) (g : ThreadTable) → Shows w beside world → Shares g beside.fibers → world.threads ≡ threads_of g
 threads_in w beside world g shows s = ap (λ f. f.threads) shows.fibers ∙ s.threads
 
-turn_in : (w : WorldState) (beside : Beside) (world : World) (g : Guests) → Shows w beside world → Shares g beside.fibers → world.turn ≡ g.turn
+turn_in : (w : WorldState) (beside : Beside) (world : World) (g : ThreadTable) → Shows w beside world → Shares g beside.fibers → world.turn ≡ g.turn
 turn_in w beside world g shows s = ap (λ f. f.turn) shows.fibers ∙ s.turn
 
-made_in : (w : WorldState) (beside : Beside) (world : World) (g : Guests) → Shows w beside world → Shares g beside.fibers → length world.threads ≡ length g.threads.items
+made_in : (w : WorldState) (beside : Beside) (world : World) (g : ThreadTable) → Shows w beside world → Shares g beside.fibers → length world.threads ≡ length g.threads.items
 made_in w beside world g shows s = ap length (threads_in w beside world g shows s) ∙ length-map g.threads.items thread_of
 
 -- an effect that is another one's
-pub did_as : (e e' : Effect) (a : Answer) (beside : Beside) (g : Guests) (w : WorldState) → e ≡ e' → Did e' a beside g w → Did e a beside g w
+pub did_as : (e e' : Effect) (a : Answer) (beside : Beside) (g : ThreadTable) (w : WorldState) → e ≡ e' → Did e' a beside g w → Did e a beside g w
 did_as e e' a beside g w is d = subst (λ x. Did x a beside g w) (sym is) d
 
 -- an answer that is another one
-pub did_so : (e : Effect) (a a' : Answer) (beside : Beside) (g : Guests) (w : WorldState) → a ≡ a' → Did e a' beside g w → Did e a beside g w
+pub did_so : (e : Effect) (a a' : Answer) (beside : Beside) (g : ThreadTable) (w : WorldState) → a ≡ a' → Did e a' beside g w → Did e a beside g w
 did_so e a a' beside g w is d = subst (λ x. Did e x beside g w) (sym is) d
 
 module _ (site id func argument : ℕ) where
   -- as many were made as may be
-  pub create_full : (g : Guests) (beside : Beside) (w : WorldState) (world : World) → Shows w beside world → Shares g beside.fibers → leb fiber_limit (length g.threads.items + 1) ≡ true
+  pub create_full : (g : ThreadTable) (beside : Beside) (w : WorldState) (world : World) → Shows w beside world → Shares g beside.fibers → leb fiber_limit (length g.threads.items + 1) ≡ true
       → Did (create site id func argument world) (answer.Resumed (Some 11)) beside g w
   create_full g beside w world shows s full =
       did_as (create site id func argument world) (Gives 11 world) (answer.Resumed (Some 11)) beside g w
@@ -273,7 +273,7 @@ module _ (site id func argument : ℕ) where
       (ap (λ n. leb fiber_limit (n + 1)) (made_in w beside world g shows s) ∙ full))
       (beside.fibers, ((refl, shows), s))
 
-  module _ (g h : Guests) (beside : Beside) (w w' : WorldState) (world : World) (shows : Shows w beside world) (s : Shares g beside.fibers) (room : leb fiber_limit (length g.threads.items + 1) ≡ false) (added : Added func argument g h) where
+  module _ (g h : ThreadTable) (beside : Beside) (w w' : WorldState) (world : World) (shows : Shows w beside world) (s : Shares g beside.fibers) (room : leb fiber_limit (length g.threads.items + 1) ≡ false) (added : Added func argument g h) where
     made : World
     made = store_number id 8 (length world.threads + 1) (with_fiber func argument world)
 
@@ -308,7 +308,7 @@ module _ (site id func argument : ℕ) where
         did_as (create site id func argument world) (Ends («end».Trap trap.BadAddress site) world) (answer.Ended («end».Trap trap.BadAddress site)) beside h w' (is_made false good) (beside.fibers, ((refl, after), tt))
 
 -- a join that is granted and needn't wait is of a thread that has ended
-module _ (id : ℕ) (g : Guests) (n : ℕ) (is : n ≡ join_answer g.turn id (threads_of g)) (none : n ≡ 0) (free : waits g.turn (threads_of g) (Some id) ≡ false) where
+module _ (id : ℕ) (g : ThreadTable) (n : ℕ) (is : n ≡ join_answer g.turn id (threads_of g)) (none : n ≡ 0) (free : waits g.turn (threads_of g) (Some id) ≡ false) where
   has : has_ended (thread_at id (threads_of g)) ≡ true
   has = by_test (has_ended (thread_at id (threads_of g))) (sym (ap (λ k. eqb k 0 && not (has_ended (thread_at id (threads_of g)))) (sym is ∙ none)) ∙ free)
     where
@@ -329,7 +329,7 @@ module _ (id : ℕ) (g : Guests) (n : ℕ) (is : n ≡ join_answer g.turn id (th
       by_number zero e = absurd (true≢false (sym e))
       by_number (suc k) e = (omega arith, omega (arith, within g.threads.items k e))
 
-module _ (site id r : ℕ) (g : Guests) (beside : Beside) (w : WorldState) (world : World) (shows : Shows w beside world) (s : Shares g beside.fibers) where
+module _ (site id r : ℕ) (g : ThreadTable) (beside : Beside) (w : WorldState) (world : World) (shows : Shows w beside world) (s : Shares g beside.fibers) where
   -- what a join answers
   answers : join_answer world.turn id world.threads ≡ join_answer g.turn id (threads_of g)
   answers = ap (λ t. join_answer t id world.threads) (turn_in w beside world g shows s) ∙ ap (join_answer g.turn id) (threads_in w beside world g shows s)
@@ -353,7 +353,7 @@ module _ (site id r : ℕ) (g : Guests) (beside : Beside) (w : WorldState) (worl
         ap (λ k. by_answer k (has_ended (thread_at id world.threads))) (answers ∙ sym is ∙ none)
         ∙ ap (λ (b : Bool). if b then joined site id r world else Ends («end».Trap trap.Deadlock site) world) (ap (λ ts. has_ended (thread_at id ts)) (threads_in w beside world g shows s) ∙ has id g n is none free)
 
-    pub join_bad : (w' : WorldState) (h : Guests) → eqb r 0 ≡ false → is_good world r 8 ≡ false → Shows w' beside world → Did (join site id r world) (answer.Ended («end».Trap trap.BadAddress site)) beside h w'
+    pub join_bad : (w' : WorldState) (h : ThreadTable) → eqb r 0 ≡ false → is_good world r 8 ≡ false → Shows w' beside world → Did (join site id r world) (answer.Ended («end».Trap trap.BadAddress site)) beside h w'
     join_bad w' h far bad after =
         did_as (join site id r world) (Ends («end».Trap trap.BadAddress site) world) (answer.Ended («end».Trap trap.BadAddress site)) beside h w'
         (goes
@@ -365,7 +365,7 @@ module _ (site id r : ℕ) (g : Guests) (beside : Beside) (w : WorldState) (worl
     word_is : (v k : ℕ) → id ≡ suc k → v ≡ part_at (λ t. t.answer) g.threads.items k → v ≡ world.answers id
     word_is v k e is = is ∙ sym (s.answers k) ∙ ap (λ n. beside.fibers.answers n) (sym e) ∙ ap (λ f. f.answers id) (sym shows.fibers)
 
-    pub join_done : (w' : WorldState) (h : Guests) (v : ℕ) → v ≡ part_at (λ t. t.answer) g.threads.items (id - 1) → (eqb r 0 || is_good world r 8) ≡ true → Shows w' beside (if eqb r 0 then world else store_number r 8 v world) → Changed id joined_guest g h
+    pub join_done : (w' : WorldState) (h : ThreadTable) (v : ℕ) → v ≡ part_at (λ t. t.answer) g.threads.items (id - 1) → (eqb r 0 || is_good world r 8) ≡ true → Shows w' beside (if eqb r 0 then world else store_number r 8 v world) → Changed id joined_guest g h
         → Did (join site id r world) (answer.Resumed (Some 0)) beside h w'
     join_done w' h v word good after changed = by_null (eqb r 0) refl
       where
@@ -409,21 +409,21 @@ module _ (site id r : ℕ) (g : Guests) (beside : Beside) (w : WorldState) (worl
 
 -- ---- where they stand
 
-pub keeps_made : (func argument : ℕ) (g h : Guests) → leb fiber_limit (length g.threads.items + 1) ≡ false → Added func argument g h → KeepsStands (func ∷ []) g h
+pub keeps_made : (func argument : ℕ) (g h : ThreadTable) → leb fiber_limit (length g.threads.items + 1) ≡ false → Added func argument g h → KeepsStands (func ∷ []) g h
 keeps_made func argument g h room a = record {
-  stands = λ k. ap (λ ps. stand_at ps k) a.stands.1.1 ∙ none_more g.stands.items a.stands.0 (no_call a.stands.0 a.stands.1.0) k;
+  stands = λ k. ap (λ ps. stand_at ps k) a.stands.1.1 ∙ none_more g.parked.items a.stands.0 (no_call a.stands.0 a.stands.1.0) k;
   counted = λ counted.
-      let s : length h.stands.items ≡ length g.stands.items + 1 = ap length a.stands.1.1 ∙ length-append g.stands.items (a.stands.0 ∷ []) in
+      let s : length h.parked.items ≡ length g.parked.items + 1 = ap length a.stands.1.1 ∙ length-append g.parked.items (a.stands.0 ∷ []) in
       let t : length h.threads.items ≡ length g.threads.items + 1 = ap length a.threads ∙ length-append g.threads.items (fresh func argument ∷ []) in
       omega (arith, s, t, counted);
   few = λ counted le.
-      let s : length h.stands.items ≡ length g.stands.items + 1 = ap length a.stands.1.1 ∙ length-append g.stands.items (a.stands.0 ∷ []) in
+      let s : length h.parked.items ≡ length g.parked.items + 1 = ap length a.stands.1.1 ∙ length-append g.parked.items (a.stands.0 ∷ []) in
       omega (arith, s, counted, leb-false fiber_limit (length g.threads.items + 1) room);
   funcs = inr (ap (map (λ (t : Guest). t.func)) a.threads ∙ map_more (λ (t : Guest). t.func) g.threads.items (fresh func argument));
   same = a.same;
 }
 
-pub keeps_changed : (n : ℕ) (change : Guest → Guest) → ((t : Guest) → (change t).func ≡ t.func) → (starts : List ℕ) (g h : Guests) → Changed n change g h → KeepsStands starts g h
+pub keeps_changed : (n : ℕ) (change : Guest → Guest) → ((t : Guest) → (change t).func ≡ t.func) → (starts : List ℕ) (g h : ThreadTable) → Changed n change g h → KeepsStands starts g h
 keeps_changed n change same starts g h c = record {
   stands = λ k. ap (λ v. stand_at v.items k) c.stands;
   counted = λ counted. ap (λ v. length v.items) c.stands ∙ counted ∙ ap (λ k. k + 1) (sym (ap length c.threads ∙ len n));
@@ -440,7 +440,7 @@ keeps_changed n change same starts g h c = record {
     funcs zero = refl
     funcs (suc k) = map_changed change (λ t. t.func) same k g.threads.items
 
-pub keeps_all : (starts : List ℕ) (g : Guests) → KeepsStands starts g g
+pub keeps_all : (starts : List ℕ) (g : ThreadTable) → KeepsStands starts g g
 keeps_all starts g = record { stands = λ k. refl; counted = λ c. c; few = λ c le. le; funcs = inl refl; same = record { turn = refl; place = refl } }
 
 -- ---- what is asked for
@@ -464,6 +464,6 @@ module _ (setting : Setting) (site : ℕ) (types : List Ty) (args : List ℕ) (w
   effect_yields (asked.Runtime f) is none e = absurd is
 
 -- where words are those of a call
-pub did_words : {E : Type 0} (e : ℕ → ℕ → ℕ → Effect) {a a' b b' c c' : ℕ} (r : Result Answer E) (beside : Beside) (g : Guests) (w : WorldState) → a ≡ a' → b ≡ b' → c ≡ c' → IfOk r (λ x. Did (e a b c) x beside g w) → IfOk r (λ x. Did (e a' b' c') x beside g w)
+pub did_words : {E : Type 0} (e : ℕ → ℕ → ℕ → Effect) {a a' b b' c c' : ℕ} (r : Result Answer E) (beside : Beside) (g : ThreadTable) (w : WorldState) → a ≡ a' → b ≡ b' → c ≡ c' → IfOk r (λ x. Did (e a b c) x beside g w) → IfOk r (λ x. Did (e a' b' c') x beside g w)
 did_words e {a = a} {a' = a'} {b = b} {b' = b'} {c = c} {c' = c'} r beside g w p q s h =
     subst (λ n. IfOk r (λ x. Did (e n b' c') x beside g w)) p (subst (λ n. IfOk r (λ x. Did (e a n c') x beside g w)) q (subst (λ n. IfOk r (λ x. Did (e a b n) x beside g w)) s h))

@@ -13,9 +13,9 @@ use Rattle.ms_runs.specs.World.{World, result}
 use Rattle.ms_runs.specs.Control.{given_back}
 use Rattle.ms_runs.specs.Poisoned.{Poisoned}
 use Rattle.ms_runs.specs.Threads.{Fibers, fibers_of, with_answer, result_mask, result_origin}
-use Rattle.ms_good_laws.specs.GoodWorlds.{GoodWorld, FitsCell}
-use Rattle.ms_good_laws.proofs.WorldChanges.{given_back_good}
-use Rattle.ms_threads_runs.specs.PlainFibers.{Shared, plain_threads}
+use Rattle.ms_runs_good_laws.specs.GoodWorlds.{GoodWorld, FitsCell}
+use Rattle.ms_runs_good_laws.proofs.WorldChanges.{given_back_good}
+use Rattle.ms_runs_threads.specs.PlainFibers.{Shared, plain_threads}
 use Rattle.ms_host.specs.State.{Beside}
 use Rattle.ms_host.specs.Shows.{Shows}
 use Rattle.ms_host.specs.SlotBytes.{ShowsSlots}
@@ -27,18 +27,18 @@ use Rattle.ms_machine_frames.specs.declared.fibers.Fiber.{Fiber}
 use Rattle.ms_machine_steps.specs.Advances.{Counts, IsSpent, HasEnded as HasStopped, HasAsked, HasFinished}
 use Rattle.ms_machine.specs.Running.{IsRunning}
 use Rattle.ms_runtime.specs.Served.{IsBeside}
-use Rattle.ms_runtime.specs.Going.{ahead, Answers, LeftBehind}
-use Rattle.ms_runtime.proofs.Goings.{answers_so, fewer, not_further, slack_is, behind}
-use Rattle.ms_threads.specs.declared.runs.Threads.{Threads}
-use Rattle.ms_threads.specs.Guests.{Shares, Changed, KeepsStands, ended_guest}
+use Rattle.ms_runtime.specs.Going.{ahead, Answers, LeftAfter}
+use Rattle.ms_runtime.proofs.Goings.{answers_so, fewer, not_further, slack_is, after}
+use Rattle.ms_threads.specs.declared.runs.ThreadedRun.{ThreadedRun}
+use Rattle.ms_threads.specs.ThreadTables.{Shares, Changed, KeepsStands, ended_guest}
 use Rattle.ms_threads.specs.Going.{Standings, ends_after, last_of, most_ahead, far_of, Going, Asking, Picking, HasEnded}
 use Rattle.ms_threads.proofs.Threading.{shows_fibers, ended_fiber, shares_ended, keeps_changed}
 use Rattle.ms_threads.proofs.Kept.{standings_kept}
-use Rattle.ms_threads.proofs.FiberSteps.{same_step, step_ends, step_returns, run_spent, run_due, answered_word, behind_return}
+use Rattle.ms_threads.proofs.FiberSteps.{same_step, step_ends, step_returns, run_spent, run_due, answered_word, after_return}
 
 -- ---- numbers
 
--- behind a step that was counted it is nearer to the end, wherever the next thread stands
+-- after a step that was counted it is nearer to the end, wherever the next thread stands
 counted_far : (left left' at all : ℕ) → left' < left → suc (left' * (all + 1) + all) ≤ left * (all + 1) + (all - at)
 counted_far left left' at all lt =
     let d : ℕ = left - left' - 1 in
@@ -71,11 +71,11 @@ ended_good mask value origin w g = record {
 
 module _ (m : Module) (u : Setup) (schedule : List ℕ) where
   -- a run that ends so answers what the whole run does
-  pub ends_so : (e : End) (last : World) (beside : Beside) (t : Threads) → (e, last) ≡ last_of m u schedule → Shows t.running.world beside last → IsBeside t.running.depot t.running.told beside → t.running.told.blind ≤ 2 ^ 62
+  pub ends_so : (e : End) (last : World) (beside : Beside) (t : ThreadedRun) → (e, last) ≡ last_of m u schedule → Shows t.running.world beside last → IsBeside t.running.depot t.running.told beside → t.running.told.blind ≤ 2 ^ 62
       → Answers (plain_threads m u schedule) e t.running
   ends_so e last beside t is shows told few = answers_so (plain_threads m u schedule) e last beside t.running (ap (λ (at : End × World). result at.0 at.1) (sym is)) shows told few
 
-  module _ (t : Threads) (g : Going m u schedule t) (t' : Threads) (depot : t'.running.depot ≡ t.running.depot) (told : t'.running.told ≡ t.running.told) (printf : t'.running.printf ≡ t.running.printf) where
+  module _ (t : ThreadedRun) (g : Going m u schedule t) (t' : ThreadedRun) (depot : t'.running.depot ≡ t.running.depot) (told : t'.running.told ≡ t.running.told) (printf : t'.running.printf ≡ t.running.printf) where
     still_beside : IsBeside t'.running.depot t'.running.told g.beside
     still_beside = subst (λ d. IsBeside d t'.running.told g.beside) (sym depot) (subst (λ r. IsBeside t.running.depot r g.beside) (sym told) g.told)
 
@@ -107,7 +107,7 @@ module _ (m : Module) (u : Setup) (schedule : List ℕ) where
 
     -- ---- a call is asked for
 
-    module _ (guests : t'.guests ≡ t.guests) (call : HostCall) (h : HasAsked (IsRunning m u g.beside) m u g.state t.running.budget.left t.running.fiber.frame.at call t'.running.fiber t'.running.world t'.running.budget.left)
+    module _ (guests : t'.table ≡ t.table) (call : HostCall) (h : HasAsked (IsRunning m u g.beside) m u g.state t.running.budget.left t.running.fiber.frame.at call t'.running.fiber t'.running.world t'.running.budget.left)
         (made : t'.running.world.made + 2 ^ 26 * t'.running.budget.left ≤ t.running.world.made + 2 ^ 26 * t.running.budget.left) where
       fewer_left : t'.running.budget.left ≤ t.running.budget.left
       fewer_left = fewer m u g.beside g.state t.running t'.running g.keeping.room call h made
@@ -125,7 +125,7 @@ module _ (m : Module) (u : Setup) (schedule : List ℕ) where
 
       pub turn_asks : Asking m u schedule call t'
       turn_asks =
-          let b : (rest : ℕ) × (LeftBehind call.asked rest t'.running.budget.left × (rest + h.done + 1 ≡ t.running.budget.left)) = behind m u g.beside g.state t.running t'.running g.keeping.room call h made in
+          let b : (rest : ℕ) × (LeftAfter call.asked rest t'.running.budget.left × (rest + h.done + 1 ≡ t.running.budget.left)) = after m u g.beside g.state t.running t'.running g.keeping.room call h made in
           record {
             beside = g.beside;
             within = h.within;
@@ -153,9 +153,9 @@ module _ (m : Module) (u : Setup) (schedule : List ℕ) where
 
     -- ---- the thread has ended
 
-    module _ (guests : t'.guests ≡ t.guests) (value : ℕ) (h : HasFinished m u g.beside g.state t.running.budget.left value t'.running.world t'.running.budget.left)
+    module _ (guests : t'.table ≡ t.table) (value : ℕ) (h : HasFinished m u g.beside g.state t.running.budget.left value t'.running.world t'.running.budget.left)
         (made : t'.running.world.made + 2 ^ 26 * t'.running.budget.left ≤ t.running.world.made + 2 ^ 26 * t.running.budget.left)
-        (t'' : Threads) (fiber : Fiber) (running : t''.running ≡ record t'.running { fiber = fiber }) (has : HasEnded value t' t'') where
+        (t'' : ThreadedRun) (fiber : Fiber) (running : t''.running ≡ record t'.running { fiber = fiber }) (has : HasEnded value t' t'') where
       abbrev word : Poisoned
       word = answered_word m u schedule g.beside h.within value t'.running.world h.finishes
 
@@ -166,21 +166,21 @@ module _ (m : Module) (u : Setup) (schedule : List ℕ) where
       beside' = record g.beside { fibers = ended_fiber word g.beside.fibers }
 
       abbrev shared' : Shared
-      shared' = behind_return m u schedule g.beside h.within value t'.running.world h.finishes
+      shared' = after_return m u schedule g.beside h.within value t'.running.world h.finishes
 
-      changed : Changed t'.guests.turn (ended_guest value (result_mask h.within.slots) (result_origin h.within.slots)) t'.guests t''.guests
+      changed : Changed t'.table.turn (ended_guest value (result_mask h.within.slots) (result_origin h.within.slots)) t'.table t''.table
       changed = has h.within.slots h.finishes.slots
 
-      shares : Shares t'.guests g.beside.fibers
+      shares : Shares t'.table g.beside.fibers
       shares = subst (λ x. Shares x g.beside.fibers) (sym guests) g.shares
 
-      standings : Standings m u schedule t'.guests g.others
+      standings : Standings m u schedule t'.table g.others
       standings = subst (λ x. Standings m u schedule x g.others) (sym guests) g.standings
 
-      kept : KeepsStands [] t'.guests t''.guests
-      kept = keeps_changed t'.guests.turn (ended_guest value (result_mask h.within.slots) (result_origin h.within.slots)) (λ t. refl) [] t'.guests t''.guests changed
+      kept : KeepsStands [] t'.table t''.table
+      kept = keeps_changed t'.table.turn (ended_guest value (result_mask h.within.slots) (result_origin h.within.slots)) (λ t. refl) [] t'.table t''.table changed
 
-      turn_few : t'.guests.turn ≤ length t'.guests.threads.items
+      turn_few : t'.table.turn ≤ length t'.table.threads.items
       turn_few = omega (arith, standings.turn, standings.counted)
 
       shown : Shows t'.running.world beside' shared'.world
@@ -215,8 +215,8 @@ module _ (m : Module) (u : Setup) (schedule : List ℕ) where
           held = h.finishes.sound.slots;
           good = good_world;
           told = subst (λ r. IsBeside r.depot r.told beside') (sym running) (record { pairs = still_beside.pairs; reports = still_beside.reports; blind = still_beside.blind });
-          shares = shares_ended value (result_mask h.within.slots) (result_origin h.within.slots) t'.guests t''.guests g.beside.fibers shares turn_few changed;
-          stands = standings_kept m u schedule [] t'.guests t''.guests g.others standings kept (λ k f e. absurd (none_there k f e));
+          shares = shares_ended value (result_mask h.within.slots) (result_origin h.within.slots) t'.table t''.table g.beside.fibers shares turn_few changed;
+          stands = standings_kept m u schedule [] t'.table t''.table g.others standings kept (λ k f e. absurd (none_there k f e));
           roots = ap (λ r. r.depot.roots) running ∙ ap (λ d. d.roots) depot ∙ g.keeping.roots;
           few = subst (λ r. length r.told.reports < u.reports) (sym running) few_reports;
           room = subst (λ r. r.world.made + 2 ^ 27 * r.budget.left ≤ 2 ^ 58) (sym running) (let e = left_is in omega (arith, e, made, g.keeping.room));

@@ -4,9 +4,9 @@ use Rattle.ms_ir.specs.declared.syntax.Module.{Module}
 use Rattle.ms_ir.specs.ThreadCalls.{is_threaded}
 use Rattle.ms_runs.specs.declared.runs.Setup.{Setup}
 use Rattle.ms_runs.specs.Faithful.{Fair, Undisturbed}
-use Rattle.ms_threads_runs.specs.PlainFibers.{plain_threads}
-use Rattle.ms_threads_runs.specs.ShadowFibers.{shadow_threads}
-use Rattle.ms_good_laws.specs.Fills.{IsFill, refilled, to_first_report, SameShown}
+use Rattle.ms_runs_threads.specs.PlainFibers.{plain_threads}
+use Rattle.ms_runs_threads.specs.ShadowFibers.{shadow_threads}
+use Rattle.ms_runs_good_laws.specs.Fills.{IsFill, refilled, to_first_report, SameShown}
 
 -- a schedule isn't empty
 abbrev pub IsSchedule : List ℕ → Type 0

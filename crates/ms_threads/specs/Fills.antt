@@ -5,9 +5,9 @@ use Rattle.ms_runs.specs.declared.runs.Setup.{Setup}
 use Rattle.ms_runs.specs.declared.runs.Report.{Report}
 use Rattle.ms_runs.specs.declared.runs.RunResult.{RunResult}
 use Rattle.ms_runs.specs.Verdict.{Clean, verdict_of}
-use Rattle.ms_good_laws.specs.Fills.{IsFill, refilled, to_first_report, SameShown}
-use Rattle.ms_threads_runs.specs.PlainFibers.{plain_threads}
-use Rattle.ms_threads_runs.specs.ShadowFibers.{shadow_threads}
+use Rattle.ms_runs_good_laws.specs.Fills.{IsFill, refilled, to_first_report, SameShown}
+use Rattle.ms_runs_threads.specs.PlainFibers.{plain_threads}
+use Rattle.ms_runs_threads.specs.ShadowFibers.{shadow_threads}
 
 -- where the verdict is clean, the program itself prints the same and ends in the same way under every fill; where no blind use was
 -- counted, the run up to the first report is the same under every fill: its output, its end and that report. All runs have one

@@ -8,10 +8,10 @@ use Rattle.ms_runs.specs.World.{World}
 use Rattle.ms_runs.specs.Control.{Frame}
 use Rattle.ms_runs.specs.Threads.{fiber_limit, result_mask, result_origin}
 use Rattle.ms_runs.specs.Plain.{PlainState, Stepped, setting_of}
-use Rattle.ms_good_laws.specs.GoodStates.{GoodFrames, IsBelow, IsStart}
-use Rattle.ms_good_laws.specs.GoodWorlds.{GoodWorld, GivesBytes, FitsCell}
-use Rattle.ms_threads_runs.specs.Fibers.{Meaning, Others, Fibers, Goes, Waits, waits as must_wait, goes_on, moves, finish, fibers_step, ends_in}
-use Rattle.ms_threads_runs.specs.PlainFibers.{Shared, plain_fiber, plain_threads, plain_threads_start}
+use Rattle.ms_runs_good_laws.specs.GoodStates.{GoodFrames, IsBelow, IsStart}
+use Rattle.ms_runs_good_laws.specs.GoodWorlds.{GoodWorld, GivesBytes, FitsCell}
+use Rattle.ms_runs_threads.specs.Fibers.{Meaning, Others, Fibers, Goes, Waits, waits as must_wait, goes_on, moves, finish, fibers_step, ends_in}
+use Rattle.ms_runs_threads.specs.PlainFibers.{Shared, plain_fiber, plain_threads, plain_threads_start}
 use Rattle.ms_host.specs.State.{WorldState, Beside}
 use Rattle.ms_host.specs.Shows.{Shows}
 use Rattle.ms_host.specs.SlotBytes.{ShowsSlots}
@@ -29,11 +29,11 @@ use Rattle.ms_machine.specs.Running.{AllStandFor, IsRunning}
 use Rattle.ms_runtime.specs.declared.runs.Running.{Running}
 use Rattle.ms_runtime.specs.Served.{IsBeside}
 use Rattle.ms_runtime.specs.Answering.{HasRoom}
-use Rattle.ms_runtime.specs.Going.{ahead, Keeping, Answers, LeftBehind, HasSlack}
-use Rattle.ms_threads.specs.declared.guests.Thread.{Thread as Guest}
-use Rattle.ms_threads.specs.declared.guests.Guests.{Guests}
-use Rattle.ms_threads.specs.declared.runs.Threads.{Threads}
-use Rattle.ms_threads.specs.Guests.{Standing, standing_of, threads_of, funcs_of, stands_of, guest_at, call_joins, IsThreadCall, Counted, Shares, Changed, ended_guest}
+use Rattle.ms_runtime.specs.Going.{ahead, Keeping, Answers, LeftAfter, HasSlack}
+use Rattle.ms_threads.specs.declared.thread_table.Thread.{Thread as Guest}
+use Rattle.ms_threads.specs.declared.thread_table.ThreadTable.{ThreadTable}
+use Rattle.ms_threads.specs.declared.runs.ThreadedRun.{ThreadedRun}
+use Rattle.ms_threads.specs.ThreadTables.{Standing, standing_of, threads_of, funcs_of, stands_of, guest_at, call_joins, IsThreadCall, Counted, Shares, Changed, ended_guest}
 
 -- ---- where fibers stand
 
@@ -53,12 +53,12 @@ StandsAt m u number (Some s) (Some frames) = StandsFor m u number s frames
 StandsAt m u number s frames = ⊥
 
 -- the threads that don't go on stand where fibers stand, and as many picks were made; each can begin with its function
-pub record Standings (m : Module) (u : Setup) (schedule : List ℕ) (g : Guests) (others : Others (List (Frame ℕ))) : Type 0 where
+pub record Standings (m : Module) (u : Setup) (schedule : List ℕ) (g : ThreadTable) (others : Others (List (Frame ℕ))) : Type 0 where
   pub counted : Counted g
-  pub few : length g.stands.items ≤ fiber_limit
-  pub turn : g.turn < length g.stands.items
+  pub few : length g.parked.items ≤ fiber_limit
+  pub turn : g.turn < length g.parked.items
   pub stands : (k : ℕ) → StandsAt m u k (stands_of g k) (others.stands k)
-  pub place : g.place ≡ others.picks % length schedule
+  pub place : g.next_pick ≡ others.picks % length schedule
   pub starts : (k f : ℕ) → slice_get (funcs_of g) k ≡ Some f → IsStart m f
 
 -- ---- how a run ends
@@ -87,7 +87,7 @@ last_of m u schedule = ends_from m u schedule u.steps (plain_threads_start m u)
 -- ---- a run
 
 -- what a run has where no thread goes on
-pub record Between (m : Module) (u : Setup) (schedule : List ℕ) (t : Threads) (beside : Beside) (shared : Shared) (others : Others (List (Frame ℕ))) : Type 0 where
+pub record Between (m : Module) (u : Setup) (schedule : List ℕ) (t : ThreadedRun) (beside : Beside) (shared : Shared) (others : Others (List (Frame ℕ))) : Type 0 where
   pub bytes : GivesBytes u
   pub shows : Shows t.running.world beside shared.world
   pub slots : ShowsSlots t.running.world.slots shared.slots
@@ -95,8 +95,8 @@ pub record Between (m : Module) (u : Setup) (schedule : List ℕ) (t : Threads) 
   pub held : (a : ℕ) → shared.slots a < 256
   pub good : GoodWorld FitsCell shared.world
   pub told : IsBeside t.running.depot t.running.told beside
-  pub shares : Shares t.guests beside.fibers
-  pub stands : Standings m u schedule t.guests others
+  pub shares : Shares t.table beside.fibers
+  pub stands : Standings m u schedule t.table others
   pub roots : t.running.depot.roots ≡ count_roots m
   pub few : length t.running.told.reports < u.reports
   pub room : t.running.world.made + 2 ^ 27 * t.running.budget.left ≤ 2 ^ 58
@@ -107,15 +107,15 @@ abbrev pub most_ahead : Module → Running → ℕ
 most_ahead m r = let all = over_funcs (λ inst. 1) m.funcs in r.budget.left * (all + 1) + all
 
 -- a thread goes on
-pub record Going (m : Module) (u : Setup) (schedule : List ℕ) (t : Threads) : Type 0 where
+pub record Going (m : Module) (u : Setup) (schedule : List ℕ) (t : ThreadedRun) : Type 0 where
   pub beside : Beside
   pub state : PlainState
   pub others : Others (List (Frame ℕ))
   pub stands : IsRunning m u beside t.running.fiber t.running.world state
   pub told : IsBeside t.running.depot t.running.told beside
   pub keeping : Keeping m u t.running
-  pub shares : Shares t.guests beside.fibers
-  pub standings : Standings m u schedule t.guests others
+  pub shares : Shares t.table beside.fibers
+  pub standings : Standings m u schedule t.table others
   pub same : ends_from m u schedule t.running.budget.left (goes_at state others) ≡ last_of m u schedule
 
 -- the same of a thread that waits for the answer of a call: after an external another one may go on
@@ -124,7 +124,7 @@ far_of m (asked.External e) r = suc (most_ahead m r)
 far_of m (asked.Runtime f) r = ahead m r
 
 -- a thread waits for the answer of a call: what it comes to then depends on the step, within which it stands
-pub record Asking (m : Module) (u : Setup) (schedule : List ℕ) (call : HostCall) (t : Threads) : Type 0 where
+pub record Asking (m : Module) (u : Setup) (schedule : List ℕ) (call : HostCall) (t : ThreadedRun) : Type 0 where
   pub beside : Beside
   pub within : PlainState
   pub others : Others (List (Frame ℕ))
@@ -134,14 +134,14 @@ pub record Asking (m : Module) (u : Setup) (schedule : List ℕ) (call : HostCal
   pub keeping : Keeping m u t.running
   pub slack : HasSlack call.asked t.running.world.made t.running.budget.left
   pub blind : t.running.told.blind + far_of m call.asked t.running ≤ 2 ^ 62 + 1
-  pub shares : Shares t.guests beside.fibers
-  pub standings : Standings m u schedule t.guests others
+  pub shares : Shares t.table beside.fibers
+  pub standings : Standings m u schedule t.table others
   pub rest : ℕ
-  pub counted : LeftBehind call.asked rest t.running.budget.left
+  pub counted : LeftAfter call.asked rest t.running.budget.left
   pub same : ends_after m u schedule rest (fibers_step (fiber_of m u) schedule (goes_at within others)) ≡ last_of m u schedule
 
 -- a call at which a thread stands was answered: what is left is to go on after it
-pub record Behind (m : Module) (u : Setup) (schedule : List ℕ) (call : HostCall) (a : Answer) (t : Threads) : Type 0 where
+pub record After (m : Module) (u : Setup) (schedule : List ℕ) (call : HostCall) (a : Answer) (t : ThreadedRun) : Type 0 where
   pub before : WorldState
   pub old : Beside
   pub within : PlainState
@@ -158,13 +158,13 @@ pub record Behind (m : Module) (u : Setup) (schedule : List ℕ) (call : HostCal
   pub roots : t.running.depot.roots ≡ count_roots m
   pub room : t.running.world.made + 2 ^ 27 * t.running.budget.left ≤ 2 ^ 58
   pub printf : AreCallSites m t.running.printf.calls
-  pub shares : (v : Option ℕ) → a ≡ answer.Resumed v → Shares t.guests beside.fibers
-  pub standings : Standings m u schedule t.guests others
+  pub shares : (v : Option ℕ) → a ≡ answer.Resumed v → Shares t.table beside.fibers
+  pub standings : Standings m u schedule t.table others
   pub goes : (next : PlainState) → Resumes m u call.asked within next → ends_from m u schedule t.running.budget.left (goes_at next others) ≡ last_of m u schedule
   pub stops : (e : End) (last : World) → Stops m u call.asked within e last → (e, last) ≡ last_of m u schedule
 
 -- a pick is due
-pub record Picking (m : Module) (u : Setup) (schedule : List ℕ) (t : Threads) : Type 0 where
+pub record Picking (m : Module) (u : Setup) (schedule : List ℕ) (t : ThreadedRun) : Type 0 where
   pub beside : Beside
   pub shared : Shared
   pub others : Others (List (Frame ℕ))
@@ -173,57 +173,57 @@ pub record Picking (m : Module) (u : Setup) (schedule : List ℕ) (t : Threads) 
   pub same : ends_from m u schedule t.running.budget.left (Waits shared others) ≡ last_of m u schedule
 
 -- a thread was picked that does the call at which it stood, and needn't wait
-pub record Performing (m : Module) (u : Setup) (schedule : List ℕ) (s : Standing) (t : Threads) : Type 0 where
+pub record Performing (m : Module) (u : Setup) (schedule : List ℕ) (s : Standing) (t : ThreadedRun) : Type 0 where
   pub beside : Beside
   pub shared : Shared
   pub others : Others (List (Frame ℕ))
   pub frames : List (Frame ℕ)
   pub between : Between m u schedule t beside shared others
   pub blind : t.running.told.blind + most_ahead m t.running ≤ 2 ^ 62
-  pub stood : StandsFor m u t.guests.turn s frames
-  pub free : must_wait t.guests.turn (threads_of t.guests) (call_joins s.call) ≡ false
+  pub stood : StandsFor m u t.table.turn s frames
+  pub free : must_wait t.table.turn (threads_of t.table) (call_joins s.call) ≡ false
   pub left : ℕ
   pub some : t.running.budget.left ≡ suc left
   pub same : ends_after m u schedule left (goes_on ((fiber_of m u).perform frames shared) (moves (fiber_of m u) others)) ≡ last_of m u schedule
 
 -- a thread was picked that begins
-pub record Beginning (m : Module) (u : Setup) (schedule : List ℕ) (t : Threads) : Type 0 where
+pub record Beginning (m : Module) (u : Setup) (schedule : List ℕ) (t : ThreadedRun) : Type 0 where
   pub beside : Beside
   pub shared : Shared
   pub others : Others (List (Frame ℕ))
   pub between : Between m u schedule t beside shared others
   pub blind : t.running.told.blind + most_ahead m t.running ≤ 2 ^ 62
   pub guest : Guest
-  pub there : guest_at t.guests.turn t.guests.threads.items ≡ Some guest
+  pub there : guest_at t.table.turn t.table.threads.items ≡ Some guest
   pub left : ℕ
   pub some : t.running.budget.left ≡ suc left
   pub same : ends_after m u schedule left (moves (fiber_of m u) others ((fiber_of m u).begun guest.func guest.argument shared)) ≡ last_of m u schedule
 
 -- the thread that has the turn has ended with a word, whose mask and origin the slots hold
-abbrev pub HasEnded : (value : ℕ) → Threads → Threads → Type 0
-HasEnded value old new = (cells : ℕ → ℕ) → ShowsSlots old.running.world.slots cells → Changed old.guests.turn (ended_guest value (result_mask cells) (result_origin cells)) old.guests new.guests
+abbrev pub HasEnded : (value : ℕ) → ThreadedRun → ThreadedRun → Type 0
+HasEnded value old new = (cells : ℕ → ℕ) → ShowsSlots old.running.world.slots cells → Changed old.table.turn (ended_guest value (result_mask cells) (result_origin cells)) old.table new.table
 
 -- a run goes on, and is nearer to its end, or it has ended
-abbrev pub Turned : Module → Setup → List ℕ → ℕ → Option End → Threads → Type 0
+abbrev pub Turned : Module → Setup → List ℕ → ℕ → Option End → ThreadedRun → Type 0
 Turned m u schedule far None t = Going m u schedule t × (ahead m t.running < far)
 Turned m u schedule far (Some e) t = Answers (plain_threads m u schedule) e t.running
 
 -- ---- with some setup and schedule
 
-abbrev pub IsGoing : Module → ℕ → List ℕ → Threads → Type 0
+abbrev pub IsGoing : Module → ℕ → List ℕ → ThreadedRun → Type 0
 IsGoing m limit schedule t = (u : Setup) × ((u.reports ≡ limit) × Going m u schedule t)
 
-abbrev pub IsAsking : Module → ℕ → HostCall → Threads → Type 0
+abbrev pub IsAsking : Module → ℕ → HostCall → ThreadedRun → Type 0
 IsAsking m limit call t = (u : Setup) × (schedule : List ℕ) × ((u.reports ≡ limit) × Asking m u schedule call t)
 
-abbrev pub IsBehind : Module → HostCall → Answer → Threads → Type 0
-IsBehind m call a t = (u : Setup) × (schedule : List ℕ) × Behind m u schedule call a t
+abbrev pub IsAfter : Module → HostCall → Answer → ThreadedRun → Type 0
+IsAfter m call a t = (u : Setup) × (schedule : List ℕ) × After m u schedule call a t
 
-abbrev pub IsPicking : Module → List ℕ → Threads → Type 0
+abbrev pub IsPicking : Module → List ℕ → ThreadedRun → Type 0
 IsPicking m schedule t = (u : Setup) × Picking m u schedule t
 
-abbrev pub IsPerforming : Module → HostCall → Threads → Type 0
+abbrev pub IsPerforming : Module → HostCall → ThreadedRun → Type 0
 IsPerforming m call t = (u : Setup) × (schedule : List ℕ) × Performing m u schedule (standing_of t.running.fiber call) t
 
-abbrev pub IsBeginning : Module → Threads → Type 0
+abbrev pub IsBeginning : Module → ThreadedRun → Type 0
 IsBeginning m t = (u : Setup) × (schedule : List ℕ) × Beginning m u schedule t

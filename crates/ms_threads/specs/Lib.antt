@@ -1,4 +1,4 @@
 pub mod Faithful
 pub mod Fills
-pub mod Guests
+pub mod ThreadTables
 pub mod Going

@@ -3,11 +3,11 @@ ghost use Rattle.std.specs.Prelude.{◌≡◌, ◌<◌, ◌+◌, ◌∷◌, ◌|
 ghost use Rattle.ms_ir.specs.declared.syntax.Ty.{Ty};
 ghost use Rattle.ms_runs.specs.{World.{World as Meant, Setting}, Memory.{is_good, store_number}};
 ghost use Rattle.ms_runs.specs.Externals.{create as create_of, join as join_of};
-ghost use Rattle.ms_threads_runs.specs.Fibers.{waits as waits_of};
+ghost use Rattle.ms_runs_threads.specs.Fibers.{waits as waits_of};
 ghost use Rattle.ms_host.specs.{State.{Beside, Keeps}, Shows.{Shows}, Answers.{asked_effect}};
-ghost use Rattle.ms_threads.specs.Guests.{IsThreadCall, asked_starts, call_joins, threads_of, Shares, KeepsStands, Did};
+ghost use Rattle.ms_threads.specs.ThreadTables.{IsThreadCall, asked_starts, call_joins, threads_of, Shares, KeepsStands, Did};
 
-use crate::guests::{Guests, creates, joins, word};
+use crate::thread_table::{ThreadTable, creates, joins, word};
 use ms_bits::{NoMemory, Trap};
 use ms_host::{Answer, HostCall, World};
 use ms_runs::End;
@@ -42,7 +42,7 @@ fn store_word(r: u64, word: u64, world: &mut World) -> bool
     world.store(r, 8, word)
 }
 
-impl Guests {
+impl ThreadTable {
     /// `pthread_create`: one thread more, and its number at an address; 11 where as many were made as may be.
     fn create(
         &mut self,
@@ -88,7 +88,7 @@ impl Guests {
         gives(0)
     }
 
-    /// What the thread call comes to at which the thread stands that goes on. The one error is running out of memory.
+    /// The effect of the thread call at which the current thread stands.
     #[inline(always)]
     pub fn answer(
         &mut self,

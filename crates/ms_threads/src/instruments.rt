@@ -3,10 +3,10 @@ ghost use Rattle.std.specs.Prelude.{◌≡◌, ℕ, List, IfOk};
 ghost use Rattle.ms_ir.specs.Instructions.{strip};
 ghost use Rattle.ms_runs.specs.{declared.runs.Setup.{Setup as SetupOf}, Faithful.{Fair, Faithful, Undisturbed}};
 ghost use Rattle.ms_runs.specs.Plain.{plain};
-ghost use Rattle.ms_valid.specs.{Formed.{Formed}, Uninstrumented.{CanInstrument}, Valid.{Valid}};
-ghost use Rattle.ms_elide_laws.specs.Elided.{IsElided, ChecksUnclean};
+ghost use Rattle.ms_check_valid.specs.{Formed.{Formed}, Uninstrumented.{CanInstrument}, Valid.{Valid}};
+ghost use Rattle.ms_pass_form_laws.specs.Elided.{IsElided, ChecksUnclean};
 ghost use Rattle.ms_pass.specs.Passed.{IsMadeOf};
-ghost use Rattle.ms_threads_runs.specs.PlainFibers.{plain_threads};
+ghost use Rattle.ms_runs_threads.specs.PlainFibers.{plain_threads};
 ghost use Rattle.ms_threads.specs.{Faithful.{FaithfulThreads, IsSchedule}, Fills.{ThreadsHoldUnderFills}};
 
 use ms_bits::NoMemory;
@@ -20,7 +20,7 @@ use std::thread::Threads;
 /// Inserts shadow code into a module that can be instrumented, as `instrument` does: under each schedule the plain run of the
 /// answer is the shadow run of the module, and without what is inserted it is the module itself. The output of a run is a
 /// beginning of the module's own. Where the run up to the first report counts no blind use, it is the same under every fill.
-/// The one error is running out of memory, in any piece. Linear in the module.
+/// Linear in the module.
 pub fn instrument_threads<R: Threads + Sync, G: Gate + Sync>(
     rt: &R,
     alloc: Global,
@@ -37,12 +37,11 @@ pub fn instrument_threads<R: Threads + Sync, G: Gate + Sync>(
     ensures pieces { IfOk result (λ j. IsMadeOf m.now j) }
     ensures holds { IfOk result (λ j. (setup : SetupOf) → Fair setup → (schedule : List ℕ) → IsSchedule schedule → ThreadsHoldUnderFills m.now setup schedule (plain_threads j setup schedule)) }
 {
-    m.is_valid();
+    m.law_valid();
     instrument(rt, alloc, m, gate)
 }
 
-/// The same as a module that is to be written and not run, so that no code of it is made. It is formed and valid. The one error is
-/// running out of memory.
+/// The module of `instrument_threads`, to be written and not run, so that no code of it is made. It is formed and valid.
 pub fn instrumented_threads<R: Threads + Sync, G: Gate + Sync>(
     rt: &R,
     alloc: Global,
@@ -58,6 +57,6 @@ pub fn instrumented_threads<R: Threads + Sync, G: Gate + Sync>(
     ensures pieces { IfOk result (λ j. IsMadeOf m.now j) }
     ensures holds { IfOk result (λ j. (setup : SetupOf) → Fair setup → (schedule : List ℕ) → IsSchedule schedule → ThreadsHoldUnderFills m.now setup schedule (plain_threads j setup schedule)) }
 {
-    m.is_valid();
+    m.law_valid();
     instrumented(rt, alloc, m, gate)
 }

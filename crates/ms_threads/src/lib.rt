@@ -3,10 +3,10 @@
 #![tactic(auto)]
 
 mod calls;
-mod guests;
 mod instruments;
 mod runs;
 mod searching;
+mod thread_table;
 
 pub use instruments::{instrument_threads, instrumented_threads};
 pub use runs::run_threads;

@@ -3,13 +3,13 @@ ghost use Rattle.std.specs.Prelude.{◌≡◌, ◌<◌, ◌≤◌, ◌^◌, ℕ,
 ghost use Rattle.ms_ir.specs.declared.syntax.Module.{Module as ModuleOf};
 ghost use Rattle.ms_ir.specs.declared.calls.RuntimeFn.TheVariants.{ThreadResult as ResultOf};
 ghost use Rattle.ms_runs.specs.{declared.runs.Setup.{Setup as SetupOf}, Limits.{WithinLimits}};
-ghost use Rattle.ms_threads_runs.specs.PlainFibers.{plain_threads};
+ghost use Rattle.ms_runs_threads.specs.PlainFibers.{plain_threads};
 ghost use Rattle.ms_host.specs.declared.calls.Answer.TheVariants.{Resumed as ResumedOf};
 ghost use Rattle.ms_runtime.specs.{Answering.{AnsweredFor}, Going.{ahead}, Served.{Fits}};
-ghost use Rattle.ms_threads.specs.{Faithful.{IsSchedule}, Guests.{IsThreadCall, IsResult, standing_of}};
-ghost use Rattle.ms_threads.specs.Going.{Asking, Behind, Picking, Performing, Beginning, Going, HasEnded, Turned, IsGoing, IsAsking, IsBehind, IsPicking, IsPerforming, IsBeginning, most_ahead, far_of};
+ghost use Rattle.ms_threads.specs.{Faithful.{IsSchedule}, ThreadTables.{IsThreadCall, IsResult, standing_of}};
+ghost use Rattle.ms_threads.specs.Going.{Asking, After, Picking, Performing, Beginning, Going, HasEnded, Turned, IsGoing, IsAsking, IsAfter, IsPicking, IsPerforming, IsBeginning, most_ahead, far_of};
 
-use crate::guests::{Guests, exchange, word};
+use crate::thread_table::{ThreadTable, exchange, word};
 use ms_bits::{NoMemory, Trap};
 use ms_check::CheckedModule;
 use ms_host::{Answer, Asked, HostCall};
@@ -17,15 +17,15 @@ use ms_ir::RuntimeFn;
 use ms_machine::{advance, resume, spawn};
 use ms_machine_frames::{Pause, no_fiber};
 use ms_runs::{End, RunResult, Setup};
-use ms_runtime::{Running, begun, thread_result};
+use ms_runtime::{Running, start_run, thread_result};
 use std::alloc::Global;
 
 /// A run of threads between two pauses.
 #[derive(Drop)]
-pub struct Threads {
-    /// The thread that goes on, with what all share.
+pub struct ThreadedRun {
+    /// The thread that runs, with what all share.
     pub running: Running,
-    pub guests: Guests,
+    pub table: ThreadTable,
 }
 
 /// Whether a call is a thread call.
@@ -48,7 +48,7 @@ fn asks_result(call: &HostCall) -> bool
     }
 }
 
-/// A word of 64 bits.
+/// The word itself: its contract says that a word has 64 bits.
 fn whole(word: u64) -> u64
     ensures same { result ≡ word }
     ensures few { result < 2 ^ 64 }
@@ -56,14 +56,14 @@ fn whole(word: u64) -> u64
     word
 }
 
-impl Threads {
+impl ThreadedRun {
     /// `__msan_thread_result`: where a join answered 0 and stored a word, that has the mask and the origin with which its
     /// thread returned.
     fn put_result(&mut self, call: &HostCall) -> Result<(), NoMemory>
         requires asked { IsResult call.now.asked }
         requires fits { Fits ResultOf call.now.args }
         ensures answered { (m : ModuleOf) (u : SetupOf) (schedule : List ℕ) → (q : Asking m u schedule call.now self.old) → OnOk result (AnsweredFor m u call.now q.within (ResumedOf None) self.old.running self.new.running) }
-        ensures guests { self.new.guests ≡ self.old.guests }
+        ensures table { self.new.table ≡ self.old.table }
     {
         let args = call.args.as_slice();
         let addr = word(args, 0);
@@ -76,7 +76,7 @@ impl Threads {
         if addr == 0 {
             return Ok(());
         }
-        let Some(thread) = self.guests.thread(id) else {
+        let Some(thread) = self.table.thread(id) else {
             return Ok(());
         };
         let ended = thread.ended;
@@ -88,7 +88,7 @@ impl Threads {
         thread_result(addr, thread.mask, thread.origin, site, world, depot)
     }
 
-    /// What a call comes to at which no other thread goes on.
+    /// The effect of a call that is no thread call.
     fn answer_of(
         &mut self,
         alloc: Global,
@@ -99,9 +99,9 @@ impl Threads {
         requires asking { IsAsking m.now reports call.now self.old }
         requires other { ¬ IsThreadCall call.now.asked }
         ensures answered { (u : SetupOf) (schedule : List ℕ) → u.reports ≡ reports → (q : Asking m.now u schedule call.now self.old) → IfOk result (λ a. AnsweredFor m.now u call.now q.within a self.old.running self.new.running) }
-        ensures guests { self.new.guests ≡ self.old.guests }
+        ensures table { self.new.table ≡ self.old.table }
     {
-        m.is_valid();
+        m.law_valid();
         if asks_result(call) {
             self.put_result(call)?;
             return Ok(Answer::Resumed(None));
@@ -111,11 +111,11 @@ impl Threads {
 
     /// Goes on after an answered call. Says how the run ends, if it does.
     #[inline(always)]
-    fn go_behind(&mut self, m: &CheckedModule, call: HostCall, answer: Answer) -> Option<End>
-        requires behind { IsBehind m.now call answer self.old }
-        ensures turned { (u : SetupOf) (schedule : List ℕ) → Behind m.now u schedule call answer self.old → Turned m.now u schedule (ahead m.now self.old.running) result self.new }
+    fn after_answer(&mut self, m: &CheckedModule, call: HostCall, answer: Answer) -> Option<End>
+        requires after { IsAfter m.now call answer self.old }
+        ensures turned { (u : SetupOf) (schedule : List ℕ) → After m.now u schedule call answer self.old → Turned m.now u schedule (ahead m.now self.old.running) result self.new }
     {
-        m.is_valid();
+        m.law_valid();
         let _code = m.program();
         match answer {
             Answer::Ended(end) => Some(end),
@@ -127,30 +127,30 @@ impl Threads {
         }
     }
 
-    /// The thread that goes on stands at a call.
-    fn stand(&mut self, call: HostCall)
-        requires turn { self.old.guests.turn < length self.old.guests.stands.items }
+    /// Suspends the thread that runs at a call.
+    fn park(&mut self, call: HostCall)
+        requires turn { self.old.table.turn < length self.old.table.parked.items }
         ensures picking { (m : ModuleOf) (u : SetupOf) (schedule : List ℕ) → IsThreadCall call.asked → Asking m u schedule call self.old → Picking m u schedule self.new }
         ensures budget { self.new.running.budget ≡ self.old.running.budget }
     {
-        self.guests.stand(&mut self.running.fiber, call);
+        self.table.park(&mut self.running.fiber, call);
     }
 
     /// The thread that goes on has ended with a word, whose mask and origin the slots hold. The memory of its frame is given
     /// back.
     fn end(&mut self, alloc: Global, answer: u64)
-        requires turn { self.old.guests.turn ≤ length self.old.guests.threads.items }
+        requires turn { self.old.table.turn ≤ length self.old.table.threads.items }
         ensures ended { HasEnded answer self.old self.new }
         ensures running { self.new.running ≡ (record self.old.running { fiber = self.new.running.fiber }) }
     {
         let mask = self.running.world.result_mask();
         let origin = self.running.world.result_origin();
-        self.guests.end(answer, mask, origin);
+        self.table.end(answer, mask, origin);
         let mut ended = no_fiber(alloc);
         exchange(&mut self.running.fiber, &mut ended);
     }
 
-    /// The thread that has the turn does the call at which it stands. Says how the run ends, if it does.
+    /// The picked thread makes the call at which it was suspended. Returns how the run ends, if it does.
     #[inline(always)]
     fn perform(
         &mut self,
@@ -161,18 +161,18 @@ impl Threads {
         requires performing { IsPerforming m.now call self.old }
         ensures turned { (u : SetupOf) (schedule : List ℕ) → Performing m.now u schedule (standing_of self.old.running.fiber call) self.old → IfOk result (λ end. Turned m.now u schedule (suc (most_ahead m.now self.old.running)) end self.new) }
     {
-        m.is_valid();
-        let answer = self.guests.answer(alloc, &call, &mut self.running.world)?;
-        Ok(self.go_behind(m, call, answer))
+        m.law_valid();
+        let answer = self.table.answer(alloc, &call, &mut self.running.world)?;
+        Ok(self.after_answer(m, call, answer))
     }
 
-    /// The thread that has the turn begins.
+    /// The picked thread begins.
     fn begin(&mut self, alloc: Global, m: &CheckedModule) -> Result<(), NoMemory>
         requires beginning { IsBeginning m.now self.old }
         ensures turned { (u : SetupOf) (schedule : List ℕ) → Beginning m.now u schedule self.old → OnOk result (Turned m.now u schedule (suc (most_ahead m.now self.old.running)) None self.new) }
     {
-        m.is_valid();
-        let Some(thread) = self.guests.thread(self.guests.turn as u64) else {
+        m.law_valid();
+        let Some(thread) = self.table.thread(self.table.turn as u64) else {
             return Ok(());
         };
         let func = thread.func as u32;
@@ -183,7 +183,7 @@ impl Threads {
         Ok(())
     }
 
-    /// A pick, and then the thread goes on that has the turn. Says how the run ends, if it does.
+    /// Picks a thread, which then goes on. Returns how the run ends, if it does.
     #[inline(always)]
     fn pick(
         &mut self,
@@ -198,13 +198,13 @@ impl Threads {
         if self.running.budget.left == 0 {
             return Ok(Some(End::Spent));
         }
-        if !self.guests.pick(schedule) {
+        if !self.table.pick(schedule) {
             return Ok(Some(End::Trap {
                 kind: Trap::Deadlock,
-                site: self.guests.main_site(),
+                site: self.table.main_site(),
             }));
         }
-        match self.guests.take_standing(&mut self.running.fiber) {
+        match self.table.unpark(&mut self.running.fiber) {
             Some(call) => self.perform(alloc, m, call),
             None => {
                 self.begin(alloc, m)?;
@@ -227,15 +227,15 @@ impl Threads {
         ensures turned { (u : SetupOf) → u.reports ≡ reports → Asking m.now u schedule.now call self.old → IfOk result (λ end. Turned m.now u schedule.now (far_of m.now call.asked self.old.running) end self.new) }
     {
         if is_thread_call(&call) {
-            self.stand(call);
+            self.park(call);
             return self.pick(alloc, m, schedule);
         }
         let answer = self.answer_of(alloc, m, &call, reports)?;
-        Ok(self.go_behind(m, call, answer))
+        Ok(self.after_answer(m, call, answer))
     }
 
-    /// Goes on to the next pause, and after it. Says how the run ends, if it does.
-    fn turn(
+    /// Runs to the next pause, and does what is asked there. Returns how the run ends, if it does.
+    fn run_to_pause(
         &mut self,
         alloc: Global,
         m: &CheckedModule,
@@ -246,7 +246,7 @@ impl Threads {
         requires going { IsGoing m.now reports schedule.now self.old }
         ensures turned { (u : SetupOf) → u.reports ≡ reports → Going m.now u schedule.now self.old → IfOk result (λ end. Turned m.now u schedule.now (ahead m.now self.old.running) end self.new) }
     {
-        m.is_valid();
+        m.law_valid();
         let running = &mut self.running;
         match advance(
             alloc,
@@ -266,9 +266,9 @@ impl Threads {
     }
 }
 
-/// Runs a checked module with threads, under a schedule that isn't empty: the k-th pick of the run, counted from 0, takes of r
-/// threads that may go on, in order of number, the one at the place `schedule[k mod length] mod r`. Ok is what its plain run
-/// answers; the one error is running out of memory.
+/// Runs a checked module with threads, under a schedule that isn't empty: the k-th pick of the run, counted from 0, takes of
+/// r threads that may go on, in order of number, the one at the place `schedule[k mod length] mod r`. Ok is what its plain
+/// run answers.
 ///
 /// A switch of threads takes time linear in the number of threads, of which 64 may be made.
 pub fn run_threads(
@@ -281,11 +281,11 @@ pub fn run_threads(
     requires scheduled { IsSchedule schedule.now }
     ensures { IfOk result (λ r. r ≡ plain_threads m.now setup.now schedule.now) }
 {
-    let running = begun(alloc, m, setup)?;
-    let guests = Guests::new(alloc)?;
-    let mut threads = Threads { running, guests };
+    let running = start_run(alloc, m, setup)?;
+    let table = ThreadTable::new(alloc)?;
+    let mut threads = ThreadedRun { running, table };
     loop {
-        if let Some(end) = threads.turn(alloc, m, setup.reports, schedule)? {
+        if let Some(end) = threads.run_to_pause(alloc, m, setup.reports, schedule)? {
             return Ok(threads.running.into_result(end));
         }
     }

@@ -1,4 +1,4 @@
--- In the instrumented form the same is due as in the module: behind inserted code stands the module's next instruction.
+-- In the instrumented form the same is due as in the module: after inserted code stands the module's next instruction.
 use Rattle.std.proofs.Common.{◌≡◌, false, Option, Some, ℕ, List, [], ◌∷◌, ◌++◌, length, refl, sym, ap, ◌∙◌, arith}
 use Rattle.std.specs.Prelude.{if◌then◌else◌, eqb}
 use Rattle.ms_ir.specs.declared.syntax.Inst.{Inst}
@@ -12,20 +12,20 @@ use Rattle.ms_runs.specs.Control.{Frame, here, rest_of}
 use Rattle.ms_runs.specs.Plain.{act_marked, slots_after}
 use Rattle.ms_runs.specs.Poisoned.{Poisoned}
 use Rattle.ms_runs.specs.Threads.{Fibers, fibers_of}
-use Rattle.ms_good_laws.proofs.FibersKept.{Kept, marked_keeps}
-use Rattle.ms_tasks.specs.Environments.{Env, Given}
-use Rattle.ms_tasks.specs.Meaning.{AllMarked, Values, Reach, Went, Over, run_marked, marked_next, words_of}
-use Rattle.ms_tasks.specs.Emit.{before_tasks, start}
-use Rattle.ms_tasks.specs.PassLists.{emit_op, pass_insts, next_here}
-use Rattle.ms_tasks.specs.InstructionLaw.{given_of}
+use Rattle.ms_runs_good_laws.proofs.FibersKept.{Kept, marked_keeps}
+use Rattle.ms_pass_tasks.specs.Environments.{Env, Given}
+use Rattle.ms_pass_tasks.specs.Meaning.{AllMarked, Values, Reach, Went, Over, run_marked, marked_next, words_of}
+use Rattle.ms_pass_tasks.specs.Emit.{before_tasks, start}
+use Rattle.ms_pass_tasks.specs.PassLists.{emit_op, pass_insts, next_here}
+use Rattle.ms_pass_tasks.specs.InstructionLaw.{given_of}
 use Rattle.ms_pass_laws.specs.Pass.{Numbering, pass}
 use Rattle.ms_pass_laws.specs.Law.{TopFollows, FollowsBy}
 use Rattle.ms_pass_laws.specs.Known.{KnownModule}
 use Rattle.ms_pass_laws.proofs.Marked.{inserted_marked, tasks_inserted}
 use Rattle.ms_pass_laws.proofs.Step.{same_length, unmarked_of}
-use Rattle.ms_threads_runs.specs.PlainFibers.{due_inst, due_at, frames_due}
+use Rattle.ms_runs_threads.specs.PlainFibers.{due_inst, due_at, frames_due}
 
--- ---- behind marked instructions
+-- ---- after marked instructions
 
 pub due_head : (i : Inst) (is : List Inst) → i.marked ≡ false → due_inst (i ∷ is) ≡ Some i
 due_head i is e = ap (λ b. if b then due_inst is else Some i) e

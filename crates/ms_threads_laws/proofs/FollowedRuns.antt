@@ -15,11 +15,11 @@ use Rattle.ms_runs.specs.Shadow.{shadow_moved, shadow_reading}
 use Rattle.ms_runs_laws.proofs.SameRuns.{same_after, same_step}
 use Rattle.ms_runs_laws.proofs.ExactRules.{formulas_exact}
 use Rattle.ms_runs_laws.proofs.Stripped.{setting_same, start_same, frame_same}
-use Rattle.ms_threads_runs.specs.Fibers.{Meaning, Fibers, Goes, ends_in}
-use Rattle.ms_threads_runs.specs.Alike.{Relation, Laws, LateLaws, Counts}
-use Rattle.ms_threads_runs.specs.PlainFibers.{Shared, plain_fiber, plain_threads}
-use Rattle.ms_threads_runs.specs.ShadowFibers.{shadow_state, shadow_going, shadow_fiber, perform_first, shadow_perform, shadow_threads_by}
-use Rattle.ms_threads_runs.proofs.Follow.{runs_alike}
+use Rattle.ms_runs_threads.specs.Fibers.{Meaning, Fibers, Goes, ends_in}
+use Rattle.ms_runs_threads.specs.Alike.{Relation, Laws, LateLaws, Counts}
+use Rattle.ms_runs_threads.specs.PlainFibers.{Shared, plain_fiber, plain_threads}
+use Rattle.ms_runs_threads.specs.ShadowFibers.{shadow_state, shadow_going, shadow_fiber, perform_first, shadow_perform, shadow_threads_by}
+use Rattle.ms_runs_threads.proofs.Follow.{runs_alike}
 
 -- ---- rules that give the same masks
 

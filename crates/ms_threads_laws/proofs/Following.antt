@@ -23,14 +23,14 @@ use Rattle.ms_runs.specs.Plain.{PlainState, Stepped, More, Stop, plain_step, set
 use Rattle.ms_runs.specs.Poisoned.{Poisoned, clean}
 use Rattle.ms_runs.specs.Masks.{by_formulas}
 use Rattle.ms_runs.specs.Uses.{Word, uses, check_uses}
-use Rattle.ms_runs.specs.Threads.{thread_at, changed_thread, set_at, with_answer}
+use Rattle.ms_runs.specs.Threads.{thread_at, changed_thread, set_at, with_answer, first_clean}
 use Rattle.ms_runs.specs.Shadow.{ShadowState, read_poisoned, shadow_reading, shadow_moved, shadow_act, poisoned_result, shadow_step}
 use Rattle.ms_runs.proofs.HeapBlocks.{gives_same}
 use Rattle.ms_runs.specs.declared.runs.Setup.{Setup}
-use Rattle.ms_tasks.specs.Known.{ArgsFit, AllApart}
-use Rattle.ms_tasks.specs.Match.{RangedWorld}
-use Rattle.ms_tasks.specs.InstructionLaw.{words_at, checked_at, counted_at, acted_at}
-use Rattle.ms_tasks.proofs.OriginRanges.{words_ranged}
+use Rattle.ms_pass_tasks.specs.Known.{ArgsFit, AllApart}
+use Rattle.ms_pass_tasks.specs.Match.{RangedWorld}
+use Rattle.ms_pass_tasks.specs.InstructionLaw.{words_at, checked_at, counted_at, acted_at}
+use Rattle.ms_pass_tasks.proofs.OriginRanges.{words_ranged}
 use Rattle.ms_pass_laws.specs.Pass.{Numbering, pass}
 use Rattle.ms_pass_laws.specs.Law.{FollowsBy, Steps, CleanFrames, RangedFrames, Ranged}
 use Rattle.ms_pass_laws.specs.Known.{KnownModule, ApartFrames}
@@ -38,16 +38,15 @@ use Rattle.ms_pass_laws.proofs.Marked.{read_words}
 use Rattle.ms_pass_laws.proofs.Step.{step_law, unmarked_of}
 use Rattle.ms_pass_laws.proofs.RangedKept.{checks_ranged, ranged_kept, undefs_fit, performed_ranged, given_back_ranged}
 use Rattle.ms_pass_laws.proofs.Whole.{starts}
-use Rattle.ms_due_laws.specs.Due.{DueBoth, Reaching, Reported, Tried, Both, argument_word}
-use Rattle.ms_due_laws.proofs.Reaching.{top_due}
-use Rattle.ms_due_laws.proofs.Returning.{returns_both, kept_same}
-use Rattle.ms_due_laws.proofs.Beginning.{begins_both}
-use Rattle.ms_due_laws.proofs.Performing.{performs_both}
-use Rattle.ms_threads_runs.specs.Fibers.{Own, Asks, Returns, Going, Meaning, turned, ended}
-use Rattle.ms_threads_runs.specs.Alike.{SteppedAlike, count_of, Relation, GoBoth, AtBoth, EndBoth, EarlyGoing, Laws, LateLaws, Counts, of_going}
-use Rattle.ms_threads_runs.specs.PlainFibers.{Shared, state_of, plain_going, plain_fiber, plain_answer, through_marked, due_inst, due_at, frames_due, frames_left, inst_joins, words_due, plain_threads}
-use Rattle.ms_runs.specs.Threads.{first_clean}
-use Rattle.ms_threads_runs.specs.ShadowFibers.{shadow_state, shadow_going, shadow_fiber, checked, reach_first, perform_first, shadow_perform, shadow_answer, shadow_threads_by}
+use Rattle.ms_threads_laws.specs.Due.{DueBoth, Reaching, Reported, Tried, Both, argument_word}
+use Rattle.ms_threads_laws.proofs.Reaching.{top_due}
+use Rattle.ms_threads_laws.proofs.Returning.{returns_both, kept_same}
+use Rattle.ms_threads_laws.proofs.Beginning.{begins_both}
+use Rattle.ms_threads_laws.proofs.Performing.{performs_both}
+use Rattle.ms_runs_threads.specs.Fibers.{Own, Asks, Returns, Going, Meaning, turned, ended}
+use Rattle.ms_runs_threads.specs.Alike.{SteppedAlike, count_of, Relation, GoBoth, AtBoth, EndBoth, EarlyGoing, Laws, LateLaws, Counts, of_going}
+use Rattle.ms_runs_threads.specs.PlainFibers.{Shared, state_of, plain_going, plain_fiber, plain_answer, through_marked, due_inst, due_at, frames_due, frames_left, inst_joins, words_due, plain_threads}
+use Rattle.ms_runs_threads.specs.ShadowFibers.{shadow_state, shadow_going, shadow_fiber, checked, reach_first, perform_first, shadow_perform, shadow_answer, shadow_threads_by}
 use Rattle.ms_threads_laws.proofs.ThreadCalls.{ThreadCall, ReturnsAlone, asks_call, returns_alone, call_outside, counts_none, hands_none, saves_none, never_goes_on, no_phi, call_clean}
 use Rattle.ms_threads_laws.proofs.DueSame.{due_head, due_first, due_same, turn_same}
 use Rattle.ms_threads_laws.proofs.FollowedRuns.{followed_runs}

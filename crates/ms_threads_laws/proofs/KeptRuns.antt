@@ -37,30 +37,30 @@ use Rattle.ms_runs.specs.Masks.{by_formulas, word_at}
 use Rattle.ms_runs.specs.Uses.{uses}
 use Rattle.ms_runs.specs.Shadow.{ShadowState, read_poisoned, shadow_reading, callee_planes, planes, poisoned_result, shadow_moved, shadow_act, shadow_step}
 use Rattle.ms_runs.specs.Faithful.{Fair}
-use Rattle.ms_valid.specs.CleanValues.{IsClean}
-use Rattle.ms_valid.specs.Paths.{insts_of}
-use Rattle.ms_valid.specs.Formed.{Formed}
-use Rattle.ms_valid.specs.Valid.{Valid}
-use Rattle.ms_good_laws.specs.GoodStates.{PoisonedBelow, GoodFrames, IsStart}
-use Rattle.ms_good_laws.specs.GoodEffects.{GoodMoved}
-use Rattle.ms_good_laws.specs.GoodWorlds.{GoodWorld, GoodAfter, GivesBytes, AnyOrigin}
-use Rattle.ms_good_laws.specs.GoodRuns.{SoundShadow, LeadsTo}
-use Rattle.ms_good_laws.specs.Straight.{HaveTypes}
-use Rattle.ms_good_laws.proofs.Frames.{top_good, kept_good, kept_frames, read_all_have, due_first, MovedTo, moves_to}
-use Rattle.ms_good_laws.proofs.InstructionEffects.{act_fits}
-use Rattle.ms_good_laws.proofs.MaskRanges.{formulas_keep}
-use Rattle.ms_good_laws.proofs.Moves.{moves_good}
-use Rattle.ms_good_laws.proofs.Readings.{shadow_unset, shadow_read}
-use Rattle.ms_good_laws.proofs.ShadowSteps.{numbers_have, result_fits}
-use Rattle.ms_good_laws.proofs.Sound.{shadow_sound, shadow_keeps}
-use Rattle.ms_good_laws.proofs.Starting.{shadow_setting}
-use Rattle.ms_good_laws.proofs.WorldChanges.{with_reports, given_back_good, unpoison_good, thread_result_good}
-use Rattle.ms_clean_laws.specs.CleanStates.{HasCleanValues, AllCleanValues}
-use Rattle.ms_clean_laws.proofs.CleanRules.{formulas_clean}
-use Rattle.ms_clean_laws.proofs.CleanRuns.{start_clean}
-use Rattle.ms_clean_laws.proofs.CleanSteps.{each_clean, clean_each, steps_clean}
-use Rattle.ms_tasks.specs.Known.{ArgsFit}
-use Rattle.ms_tasks.specs.InstructionLaw.{GoesOn, words_at, checked_at}
+use Rattle.ms_check_valid.specs.CleanValues.{IsClean}
+use Rattle.ms_check_valid.specs.Paths.{insts_of}
+use Rattle.ms_check_valid.specs.Formed.{Formed}
+use Rattle.ms_check_valid.specs.Valid.{Valid}
+use Rattle.ms_runs_good_laws.specs.GoodStates.{PoisonedBelow, GoodFrames, IsStart}
+use Rattle.ms_runs_good_laws.specs.GoodEffects.{GoodMoved}
+use Rattle.ms_runs_good_laws.specs.GoodWorlds.{GoodWorld, GoodAfter, GivesBytes, AnyOrigin}
+use Rattle.ms_runs_good_laws.specs.GoodRuns.{SoundShadow, LeadsTo}
+use Rattle.ms_runs_good_laws.specs.Straight.{HaveTypes}
+use Rattle.ms_runs_good_laws.proofs.Frames.{top_good, kept_good, kept_frames, read_all_have, due_first, MovedTo, moves_to}
+use Rattle.ms_runs_good_laws.proofs.InstructionEffects.{act_fits}
+use Rattle.ms_runs_good_laws.proofs.MaskRanges.{formulas_keep}
+use Rattle.ms_runs_good_laws.proofs.Moves.{moves_good}
+use Rattle.ms_runs_good_laws.proofs.Readings.{shadow_unset, shadow_read}
+use Rattle.ms_runs_good_laws.proofs.ShadowSteps.{numbers_have, result_fits}
+use Rattle.ms_runs_good_laws.proofs.Sound.{shadow_sound, shadow_keeps}
+use Rattle.ms_runs_good_laws.proofs.Starting.{shadow_setting}
+use Rattle.ms_runs_good_laws.proofs.WorldChanges.{with_reports, given_back_good, unpoison_good, thread_result_good}
+use Rattle.ms_runs_clean_laws.specs.CleanStates.{HasCleanValues, AllCleanValues}
+use Rattle.ms_runs_clean_laws.proofs.CleanRules.{formulas_clean}
+use Rattle.ms_runs_clean_laws.proofs.CleanRuns.{start_clean}
+use Rattle.ms_runs_clean_laws.proofs.CleanSteps.{each_clean, clean_each, steps_clean}
+use Rattle.ms_pass_tasks.specs.Known.{ArgsFit}
+use Rattle.ms_pass_tasks.specs.InstructionLaw.{GoesOn, words_at, checked_at}
 use Rattle.ms_pass_laws.specs.Pass.{Numbering, pass}
 use Rattle.ms_pass_laws.specs.Law.{CleanFrames}
 use Rattle.ms_pass_laws.specs.Known.{KnownModule}
@@ -68,10 +68,10 @@ use Rattle.ms_pass_laws.proofs.Apart.{good_apart}
 use Rattle.ms_pass_laws.proofs.KnownFunctions.{main_params}
 use Rattle.ms_pass_laws.proofs.Placed.{start_placed}
 use Rattle.ms_pass_laws.proofs.Step.{unmarked_of}
-use Rattle.ms_due_laws.specs.Due.{argument_word}
-use Rattle.ms_threads_runs.specs.Fibers.{Own, turned}
-use Rattle.ms_threads_runs.specs.PlainFibers.{frames_due, frames_left, plain_threads}
-use Rattle.ms_threads_runs.specs.ShadowFibers.{shadow_state, shadow_answer, shadow_threads, shadow_threads_by}
+use Rattle.ms_threads_laws.specs.Due.{argument_word}
+use Rattle.ms_runs_threads.specs.Fibers.{Own, turned}
+use Rattle.ms_runs_threads.specs.PlainFibers.{frames_due, frames_left, plain_threads}
+use Rattle.ms_runs_threads.specs.ShadowFibers.{shadow_state, shadow_answer, shadow_threads, shadow_threads_by}
 use Rattle.ms_threads_laws.proofs.ThreadCalls.{ThreadCall, call_clean, never_goes_on}
 use Rattle.ms_threads_laws.proofs.FollowedRuns.{computed_threads}
 use Rattle.ms_threads_laws.proofs.Following.{Kept, threads_follow}

@@ -1,3 +1,7 @@
+pub mod Reaching
+pub mod Returning
+pub mod Beginning
+pub mod Performing
 pub mod SameShown
 pub mod FollowedRuns
 pub mod ThreadCalls
@@ -6,3 +10,8 @@ pub mod Following
 pub mod OwnSteps
 pub mod StartedFibers
 pub mod KeptRuns
+pub mod LowCalls
+pub mod LowFibers
+pub mod FirstFibers
+pub mod ToldFibers
+pub mod UnderFills

@@ -28,13 +28,13 @@ use Rattle.ms_runs.specs.Poisoned.{Poisoned}
 use Rattle.ms_runs.specs.Masks.{Rules, union, word_at}
 use Rattle.ms_runs.specs.Uses.{CheckedUse, Word, Bytes, Line, Asked, type_at, uses, check_use, check_uses, blinded}
 use Rattle.ms_runs.specs.Shadow.{ShadowState, read_poisoned, shadow_reading, external_planes, callee_planes, planes, poisoned_result, shadow_moved, shadow_act, after_checks, shadow_first, shadow_frames, shadow_step}
-use Rattle.ms_good_laws.specs.GoodWorlds.{GoodAfter}
-use Rattle.ms_good_laws.proofs.Frames.{MovedTo, moves_to}
-use Rattle.ms_good_laws.proofs.FibersKept.{world_of, Kept, external_keeps, runtime_keeps, marked_keeps, by_if}
-use Rattle.ms_good_laws.proofs.ThreadsApart.{NoThread, CallsNoThread, asked_alone}
-use Rattle.ms_threads_runs.specs.Fibers.{Own, Asks}
-use Rattle.ms_threads_runs.specs.PlainFibers.{due_inst, due_of, due_at, frames_due}
-use Rattle.ms_threads_runs.specs.ShadowFibers.{shadow_state}
+use Rattle.ms_runs_good_laws.specs.GoodWorlds.{GoodAfter}
+use Rattle.ms_runs_good_laws.proofs.Frames.{MovedTo, moves_to}
+use Rattle.ms_runs_good_laws.proofs.FibersKept.{world_of, Kept, external_keeps, runtime_keeps, marked_keeps, by_if}
+use Rattle.ms_runs_good_laws.proofs.ThreadsApart.{NoThread, CallsNoThread, asked_alone}
+use Rattle.ms_runs_threads.specs.Fibers.{Own, Asks}
+use Rattle.ms_runs_threads.specs.PlainFibers.{due_inst, due_of, due_at, frames_due}
+use Rattle.ms_runs_threads.specs.ShadowFibers.{shadow_state}
 use Rattle.ms_threads_laws.proofs.DueSame.{due_head}
 
 -- ---- states

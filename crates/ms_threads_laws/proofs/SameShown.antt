@@ -18,15 +18,16 @@ use Rattle.ms_runs.specs.Shadow.{ShadowState, read_poisoned, shadow_reading, sha
 use Rattle.ms_runs.specs.Threads.{changed_thread, set_at}
 use Rattle.ms_runs.specs.Faithful.{Prefix, Undisturbed}
 use Rattle.ms_runs_laws.proofs.PlainPart.{bare}
-use Rattle.ms_runs_laws.proofs.ShownSteps.{bare_frame, words_shown, frames_length, bind_shown, first_shown, given_bare}
+use Rattle.ms_runs_laws.proofs.ShownSteps.{words_shown, frames_length, bind_shown, first_shown, given_bare}
+use Rattle.ms_runs_laws.specs.Follows.{bare_frame}
 use Rattle.ms_runs_laws.proofs.PlanesApart.{Passes, uses_pass, here as the_same}
 use Rattle.ms_runs_laws.proofs.OutputGrows.{nothing_more, whole, joined, step_world, step_adds, given_output}
 use Rattle.ms_runs_laws.proofs.SameOutput.{Steps, checked_steps, step_mirrors}
-use Rattle.ms_threads_runs.specs.Fibers.{Going, Meaning, Fibers, Goes, turned, ended, ends_in}
-use Rattle.ms_threads_runs.specs.Alike.{SteppedAlike, count_of, Relation, GoBoth, AtBoth, EndBoth, EarlyGoing, Later, Laws, LateLaws, Counts, of_going}
-use Rattle.ms_threads_runs.specs.PlainFibers.{Shared, state_of, plain_going, plain_fiber, plain_threads, plain_answer, through_marked, due_inst, due_at, frames_due, frames_joins, frames_site, frames_left, inst_joins, words_due}
-use Rattle.ms_threads_runs.specs.ShadowFibers.{shadow_state, shadow_going, shadow_fiber, shadow_threads_by, checked, reach_first, perform_first, shadow_answer}
-use Rattle.ms_threads_runs.proofs.Follow.{runs_alike}
+use Rattle.ms_runs_threads.specs.Fibers.{Going, Meaning, Fibers, Goes, turned, ended, ends_in}
+use Rattle.ms_runs_threads.specs.Alike.{SteppedAlike, count_of, Relation, GoBoth, AtBoth, EndBoth, EarlyGoing, Later, Laws, LateLaws, Counts, of_going}
+use Rattle.ms_runs_threads.specs.PlainFibers.{Shared, state_of, plain_going, plain_fiber, plain_threads, plain_answer, through_marked, due_inst, due_at, frames_due, frames_joins, frames_site, frames_left, inst_joins, words_due}
+use Rattle.ms_runs_threads.specs.ShadowFibers.{shadow_state, shadow_going, shadow_fiber, shadow_threads_by, checked, reach_first, perform_first, shadow_answer}
+use Rattle.ms_runs_threads.proofs.Follow.{runs_alike}
 
 -- ---- the relation
 

@@ -29,22 +29,22 @@ use Rattle.ms_runs.specs.Globals.{address_from, address_of, own_address}
 use Rattle.ms_runs.specs.Control.{Frame, Reading, rest_of, bind, entered, params_at, func_name}
 use Rattle.ms_runs.specs.Poisoned.{Poisoned, clean}
 use Rattle.ms_runs.specs.Shadow.{shadow_reading}
-use Rattle.ms_valid.specs.TypesAgree.{operand_fits, op_fault, call_fault, argument_fault, printf_fault, fault_unless, returns_fit, is_printf, is_create, is_start, fits_call}
-use Rattle.ms_valid.specs.Paths.{insts_of}
-use Rattle.ms_valid.specs.Formed.{Formed, count_written}
-use Rattle.ms_valid.specs.Valid.{Valid}
-use Rattle.ms_valid.proofs.NameTests.{name_same}
-use Rattle.ms_valid.proofs.AtInstructions.{fits_at}
-use Rattle.ms_valid.proofs.ByParts.{fits_outside}
-use Rattle.ms_valid.proofs.SmallNumbers.{few_funcs}
-use Rattle.ms_good_laws.specs.GoodStates.{PoisonedBelow, GoodFrame, GoodFrames, IsMain, IsStart}
-use Rattle.ms_good_laws.proofs.Moves.{entered_good}
-use Rattle.ms_good_laws.proofs.Readings.{shadow_unset}
-use Rattle.ms_good_laws.proofs.Frames.{same_insts, due_first}
-use Rattle.ms_good_laws.proofs.CallTypes.{both_none, holds_unless, func_found, external_named_so, external_declared, no_fault_at, undefined}
-use Rattle.ms_clean_laws.specs.CleanStates.{HasCleanValues}
-use Rattle.ms_tasks.specs.Known.{ArgsFit}
-use Rattle.ms_due_laws.specs.Due.{argument_word}
+use Rattle.ms_check_valid.specs.TypesAgree.{operand_fits, op_fault, call_fault, argument_fault, printf_fault, fault_unless, returns_fit, is_printf, is_create, is_start, fits_call}
+use Rattle.ms_check_valid.specs.Paths.{insts_of}
+use Rattle.ms_check_valid.specs.Formed.{Formed, count_written}
+use Rattle.ms_check_valid.specs.Valid.{Valid}
+use Rattle.ms_check_valid.proofs.NameTests.{name_same}
+use Rattle.ms_check_valid.proofs.AtInstructions.{fits_at}
+use Rattle.ms_check_valid.proofs.ByParts.{fits_outside}
+use Rattle.ms_check_valid.proofs.SmallNumbers.{few_funcs}
+use Rattle.ms_runs_good_laws.specs.GoodStates.{PoisonedBelow, GoodFrame, GoodFrames, IsMain, IsStart}
+use Rattle.ms_runs_good_laws.proofs.Moves.{entered_good}
+use Rattle.ms_runs_good_laws.proofs.Readings.{shadow_unset}
+use Rattle.ms_runs_good_laws.proofs.Frames.{same_insts, due_first}
+use Rattle.ms_runs_good_laws.proofs.CallTypes.{both_none, holds_unless, func_found, external_named_so, external_declared, no_fault_at, undefined}
+use Rattle.ms_runs_clean_laws.specs.CleanStates.{HasCleanValues}
+use Rattle.ms_pass_tasks.specs.Known.{ArgsFit}
+use Rattle.ms_threads_laws.specs.Due.{argument_word}
 
 -- a fiber begins with a function of the type `ptr (ptr)`, and its argument is a word
 pub record StartsWell (m : Module) (t : Thread) : Type 0 where

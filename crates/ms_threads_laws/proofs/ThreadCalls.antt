@@ -17,12 +17,12 @@ use Rattle.ms_runs.specs.Masks.{union, by_formulas}
 use Rattle.ms_runs.specs.Shadow.{poisoned_result}
 use Rattle.ms_runs.specs.Origins.{count_blind}
 use Rattle.ms_runs.specs.Uses.{blinded, blind_words, has_true_flag}
-use Rattle.ms_tasks.specs.Match.{CallHeld, Handed, SavedSize, Saved}
-use Rattle.ms_tasks.specs.InstructionLaw.{GoesOn, IsOutside, CallsOutside}
-use Rattle.ms_tasks.proofs.Externals.{external_goes}
-use Rattle.ms_tasks.proofs.DefineResults.{outside_clean}
-use Rattle.ms_threads_runs.specs.Fibers.{Own, Asks, Returns}
-use Rattle.ms_threads_runs.specs.PlainFibers.{due_of}
+use Rattle.ms_pass_tasks.specs.Match.{CallHeld, Handed, SavedSize, Saved}
+use Rattle.ms_pass_tasks.specs.InstructionLaw.{GoesOn, IsOutside, CallsOutside}
+use Rattle.ms_pass_tasks.proofs.Externals.{external_goes}
+use Rattle.ms_pass_tasks.proofs.DefineResults.{outside_clean}
+use Rattle.ms_runs_threads.specs.Fibers.{Own, Asks, Returns}
+use Rattle.ms_runs_threads.specs.PlainFibers.{due_of}
 use Rattle.ms_ir.specs.ThreadCalls.{is_asked}
 
 -- an operation is a thread call

@@ -3,9 +3,9 @@ ghost use Rattle.std.specs.Prelude.{◌≡◌, ℕ, true, List, Some};
 ghost use Rattle.ms_ir.specs.{declared.syntax.Name.{Name}, declared.syntax.Func.{Func}};
 ghost use Rattle.ms_ir.specs.{declared.syntax.Module.{Module}, Instructions.{func_at}};
 ghost use Rattle.ms_runs.specs.{declared.runs.Setup.{Setup}, Plain.{setting_of}, Faithful.{Fair}};
-ghost use Rattle.ms_valid.specs.{CleanValues.{IsClean}, Formed.{Formed}, Valid.{Valid}};
+ghost use Rattle.ms_check_valid.specs.{CleanValues.{IsClean}, Formed.{Formed}, Valid.{Valid}};
 ghost use Rattle.ms_pass_laws.specs.{Pass.{Numbering, pass}, Known.{KnownModule}};
-ghost use Rattle.ms_threads_runs.specs.{PlainFibers.{plain_threads}, ShadowFibers.{shadow_threads}};
+ghost use Rattle.ms_runs_threads.specs.{PlainFibers.{plain_threads}, ShadowFibers.{shadow_threads}};
 
 /// The step law holds of each fiber: where the pass takes a module, and what it takes to be clean is clean in every run, its
 /// instrumented form runs with each fair setup and each schedule as the shadow run of the module says.

@@ -2,7 +2,7 @@
 ghost use Rattle.std.specs.Prelude.{◌≡◌, ℕ, List};
 ghost use Rattle.ms_ir.specs.declared.syntax.Module.{Module};
 ghost use Rattle.ms_runs.specs.{declared.runs.Setup.{Setup}, Masks.{Rules, SameRules, by_completions, by_formulas}};
-ghost use Rattle.ms_threads_runs.specs.ShadowFibers.{shadow_threads_by};
+ghost use Rattle.ms_runs_threads.specs.ShadowFibers.{shadow_threads_by};
 
 /// Rules that give the same masks give the same shadow runs of fibers under every schedule. So do the rules by completions
 /// and those by formulas.

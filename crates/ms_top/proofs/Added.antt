@@ -9,18 +9,18 @@ use Rattle.ms_runs.specs.declared.runs.RunResult.{RunResult}
 use Rattle.ms_runs.specs.declared.runs.Report.{Report}
 use Rattle.ms_runs.specs.declared.runs.Setup.{Setup}
 use Rattle.ms_runs.specs.Plain.{plain}
-use Rattle.ms_moves.specs.declared.moves.Source.{Source}
-use Rattle.ms_moves.specs.declared.moves.Move.{Move}
-use Rattle.ms_moves.specs.declared.moves.Hop.{Hop}
-use Rattle.ms_moves.specs.Scanned.{trail_of}
+use Rattle.ms_trail_moves.specs.declared.moves.Source.{Source}
+use Rattle.ms_trail_moves.specs.declared.moves.Move.{Move}
+use Rattle.ms_trail_moves.specs.declared.moves.Hop.{Hop}
+use Rattle.ms_trail_moves.specs.Scanned.{trail_of}
 use Rattle.ms_trail.specs.declared.found.Trace.{Trace}
 use Rattle.ms_trail.specs.declared.found.Trace.TheVariants.{NoReport, TooLong, Found}
 use Rattle.ms_read_body.specs.declared.errors.ReadError.{ReadError}
 use Rattle.ms_read_body.specs.declared.errors.ReadError.TheVariants as e
 use Rattle.ms_read_top.specs.Reading.{IsReading}
-use Rattle.ms_valid.specs.Refusals.{Fault}
-use Rattle.ms_places.specs.Indented.{IsIndented, unindented}
-use Rattle.ms_source_map.proofs.Indents.{of_site, none as none_indented}
+use Rattle.ms_check_valid.specs.Refusals.{Fault}
+use Rattle.ms_where_places.specs.Indented.{IsIndented, unindented}
+use Rattle.ms_where.proofs.Indents.{of_site, none as none_indented}
 use Rattle.ms_report.specs.declared.refusals.Refusal.TheVariants.{Read}
 use Rattle.ms_report.specs.FaultTexts.{fault_text}
 use Rattle.ms_report.specs.RefusalTexts.{refusal_text}

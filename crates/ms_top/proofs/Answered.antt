@@ -15,8 +15,8 @@ use Rattle.ms_report.specs.WithLines.{Lines}
 use Rattle.ms_text_grammar.specs.Texts.{Reads}
 use Rattle.ms_text_grammar.proofs.WiderBodies.{plain_is_instrumented}
 use Rattle.ms_gen.specs.Generator.{generated}
-use Rattle.ms_valid.specs.Valid.{Valid}
-use Rattle.ms_valid.proofs.Refused.{invalid}
+use Rattle.ms_check_valid.specs.Valid.{Valid}
+use Rattle.ms_check_valid.proofs.Refused.{invalid}
 use Rattle.ms_words.specs.declared.commands.Command.{Command}
 use Rattle.ms_words.specs.declared.commands.Command.TheVariants.{Instrument, Run, Check, Explain, Corpus, Gen, Help, Version}
 use Rattle.ms_words.specs.declared.commands.Options.{Options}

@@ -23,12 +23,12 @@ use Rattle.ms_read_body.specs.declared.errors.What.{What}
 use Rattle.ms_read_body.specs.declared.errors.ReadError.{ReadError}
 use Rattle.ms_read_body.specs.declared.errors.ReadError.TheVariants as e
 use Rattle.ms_read_top.specs.Reading.{IsTextRefused, AnswersExactly, IsReading}
-use Rattle.ms_valid.specs.Formed.{Formed}
-use Rattle.ms_valid.specs.FormedNames.{are_bytes}
-use Rattle.ms_valid.specs.Refusals.{Fault, IsRefused}
+use Rattle.ms_check_valid.specs.Formed.{Formed}
+use Rattle.ms_check_valid.specs.FormedNames.{are_bytes}
+use Rattle.ms_check_valid.specs.Refusals.{Fault, IsRefused}
 use Rattle.ms_check.specs.declared.errors.CheckError.{CheckError}
 use Rattle.ms_check.specs.Faults.{fault_of}
-use Rattle.ms_valid.specs.Uninstrumented.{CanInstrument}
+use Rattle.ms_check_valid.specs.Uninstrumented.{CanInstrument}
 use Rattle.ms_text_laws.proofs.FormedModules.{read_formed}
 use Rattle.ms_text_laws.proofs.SmallLimits.{can_instrument}
 use Rattle.ms_top.specs.declared.answers.Answer.{Answer}
@@ -37,9 +37,9 @@ use Rattle.ms_words.specs.declared.commands.Command.TheVariants.{Instrument, Run
 use Rattle.ms_words.specs.declared.commands.Options.{Options}
 use Rattle.ms_report.specs.declared.refusals.Refusal.TheVariants.{Read as Of, Check as OfCheck}
 use Rattle.ms_words.specs.Limits.{RunsWithinLimits}
-use Rattle.ms_places.specs.declared.marks.Mark.{Mark}
-use Rattle.ms_places.specs.Marks.{AreMarks}
-use Rattle.ms_source_map.specs.Lines.{lines_of_site}
+use Rattle.ms_where_places.specs.declared.marks.Mark.{Mark}
+use Rattle.ms_where_places.specs.Marks.{AreMarks}
+use Rattle.ms_where.specs.Lines.{lines_of_site}
 use Rattle.ms_top.specs.Command.{form_of, located_file, module_limit, input_limit, only_input, setup_of}
 use Rattle.ms_top.specs.Lines.{AreLinesIn, AreLines}
 use Rattle.ms_corpus.specs.Jobs.{with_input}

@@ -11,19 +11,19 @@ use Rattle.ms_runs.specs.declared.runs.Setup.{Setup}
 use Rattle.ms_runs.specs.Faithful.{Fair, Faithful}
 use Rattle.ms_runs.specs.Plain.{plain}
 use Rattle.ms_runs.specs.Shadow.{shadow}
-use Rattle.ms_good_laws.specs.Fills.{to_first_report}
-use Rattle.ms_good_laws.specs.Reached.{IsReached, IsOperand}
-use Rattle.ms_fills_laws.proofs.Whole.{first_of}
-use Rattle.ms_moves.specs.declared.moves.Source.{Source}
-use Rattle.ms_moves.specs.declared.moves.Move.{Move}
-use Rattle.ms_moves.specs.declared.moves.Hop.{Hop}
-use Rattle.ms_moves.specs.Scanned.{trail_of}
-use Rattle.ms_moves.specs.Traces as moves_of
-use Rattle.ms_moves.proofs.Chains.{more_roots}
-use Rattle.ms_moves.proofs.Scans.{leads_trail}
-use Rattle.ms_moves_laws.specs.FromReached.{FromReached}
-use Rattle.ms_moves_laws.proofs.Found.{where_reported}
-use Rattle.ms_moves_laws.proofs.Whole.{ordered, some_way}
+use Rattle.ms_runs_good_laws.specs.Fills.{to_first_report}
+use Rattle.ms_runs_good_laws.specs.Reached.{IsReached, IsOperand}
+use Rattle.ms_runs_fills_laws.proofs.Whole.{first_of}
+use Rattle.ms_trail_moves.specs.declared.moves.Source.{Source}
+use Rattle.ms_trail_moves.specs.declared.moves.Move.{Move}
+use Rattle.ms_trail_moves.specs.declared.moves.Hop.{Hop}
+use Rattle.ms_trail_moves.specs.Scanned.{trail_of}
+use Rattle.ms_trail_moves.specs.Traces as moves_of
+use Rattle.ms_trail_moves.proofs.Chains.{more_roots}
+use Rattle.ms_trail_moves.proofs.Scans.{leads_trail}
+use Rattle.ms_trail_laws.specs.FromReached.{FromReached}
+use Rattle.ms_trail_laws.proofs.Found.{where_reported}
+use Rattle.ms_trail_laws.proofs.Whole.{ordered, some_way}
 use Rattle.ms_trail.specs.declared.found.Trace.{Trace}
 use Rattle.ms_trail.specs.declared.found.Trace.TheVariants.{NoReport, TooLong, Found}
 use Rattle.ms_trail_bytes.specs.Logs.{move_limit}

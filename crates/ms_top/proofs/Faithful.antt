@@ -9,7 +9,7 @@ use Rattle.ms_runs.specs.declared.runs.Setup.{Setup}
 use Rattle.ms_runs.specs.Plain.{plain}
 use Rattle.ms_runs.specs.Shadow.{shadow}
 use Rattle.ms_runs.specs.Faithful.{Fair}
-use Rattle.ms_fills_laws.specs.Checked.{HoldsUnderFills}
+use Rattle.ms_runs_fills_laws.specs.Checked.{HoldsUnderFills}
 use Rattle.ms_top.specs.declared.answers.Answer.{Answer}
 use Rattle.ms_words.specs.declared.commands.Command.TheVariants.{Check, Corpus}
 use Rattle.ms_words.specs.declared.commands.Options.{Options}

@@ -12,7 +12,7 @@ use Rattle.ms_ir.specs.Names.{lookup, externals, external_name}
 use Rattle.ms_ir.specs.Signatures.{is_thread_call}
 use Rattle.ms_ir.specs.ThreadCalls.{is_asked, is_func_threaded, is_threaded}
 use Rattle.ms_runs.specs.Shadow.{shadow}
-use Rattle.ms_good_laws.proofs.CallTypes.{external_named_so}
+use Rattle.ms_runs_good_laws.proofs.CallTypes.{external_named_so}
 use Rattle.ms_gen.specs.Generator.{function_of, functions_of, generated, main_of, name_of, operations, state_after}
 use Rattle.ms_words.specs.Words.{defaults}
 use Rattle.ms_top.specs.declared.answers.Answer.{Answer}

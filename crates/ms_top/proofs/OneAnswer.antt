@@ -12,16 +12,16 @@ use Rattle.ms_read_body.specs.declared.errors.ReadError.{ReadError}
 use Rattle.ms_read_body.specs.declared.errors.ReadError.TheVariants as e
 use Rattle.ms_read_top.specs.Reading.{IsReading}
 use Rattle.ms_read_top.proofs.Exactly.{module_exactly, lex_exactly, refused_exactly}
-use Rattle.ms_valid.specs.Refusals.{Fault as ModuleFault, Undefined}
-use Rattle.ms_valid.proofs.Refused.{invalid}
+use Rattle.ms_check_valid.specs.Refusals.{Fault as ModuleFault, Undefined}
+use Rattle.ms_check_valid.proofs.Refused.{invalid}
 use Rattle.ms_check.specs.Faults.{without_path}
 use Rattle.ms_check.proofs.OneAnswer.{one_answer as one_fault}
-use Rattle.ms_elide_laws.proofs.Once.{elided_once}
-use Rattle.ms_text_layout.specs.Modules.{written}
+use Rattle.ms_pass_form_laws.proofs.ElidedOnce.{elided_once}
+use Rattle.ms_text_grammar.specs.LayoutModules.{written}
 use Rattle.ms_text_grammar.proofs.Readings.{same_tokens}
-use Rattle.ms_places.specs.Marks.{AreMarks}
-use Rattle.ms_places.proofs.One.{one_list_of_marks}
-use Rattle.ms_source_map.specs.Lines.{lines_of_site}
+use Rattle.ms_where_places.specs.Marks.{AreMarks}
+use Rattle.ms_where_places.proofs.One.{one_list_of_marks}
+use Rattle.ms_where.specs.Lines.{lines_of_site}
 use Rattle.ms_report.specs.WithLines.{Lines}
 use Rattle.ms_top.specs.declared.answers.Answer.{Answer}
 use Rattle.ms_words.specs.declared.commands.Command.{Command}
@@ -31,7 +31,7 @@ use Rattle.ms_words.specs.declared.commands.Options.{Options}
 use Rattle.ms_words.specs.Words.{command_of, defaults}
 use Rattle.ms_gen.specs.Generator.{generated}
 use Rattle.ms_top.specs.Command.{form_of, files_of, located_file, only_input, setup_of}
-use Rattle.ms_top.specs.Files.{Counted, FilesRead, Whole, Fault, Long, behind, IsAtFault, IsLong, CanRead}
+use Rattle.ms_top.specs.Files.{Counted, FilesRead, Whole, Fault, Long, after, IsAtFault, IsLong, CanRead}
 use Rattle.ms_top.specs.Instrumented.{IsInstrumented}
 use Rattle.ms_top.specs.Lines.{AreLinesIn, AreLines, fault_text_with}
 use Rattle.ms_top.specs.Runs.{plain_under}
@@ -166,7 +166,7 @@ module _ (c : Counted) (files : Holdings) (told : c.told ≡ Some files) (steady
   one_read ((name, limit) ∷ rest) r s (inr (inr (text, whole, later, read, p))) (inr (inr (other, all, last, again, q))) =
       let e : text ≡ other = same_Some text other (sym (is_whole name limit text whole).0 ∙ (is_whole name limit other all).0) in
       let f : later ≡ last = one_read rest later last read again in
-      p ∙ ap (λ t. behind t later) e ∙ ap (behind other) f ∙ sym q
+      p ∙ ap (λ t. after t later) e ∙ ap (after other) f ∙ sym q
 
   without_file : (command : Command) (a b : Answer) → IsAnswerWithoutFile IsInstrumented command a → IsAnswerWithoutFile IsInstrumented command b → a ≡ b
   without_file (Instrument file) a b p q = absurd p

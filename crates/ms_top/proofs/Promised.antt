@@ -24,15 +24,15 @@ use Rattle.ms_top.specs.Lines.{AreLines}
 use Rattle.ms_top.specs.Runs.{plain_under, HoldsUnder}
 use Rattle.ms_top.specs.Said.{answer_of_result, says, IsExplanation, IsAnswerToValid, IsAnswerWithoutFile, IsAnswerToModule, IsAnswerToReading, IsAnswerToFiles, IsAnswerToCommand, IsAnswerFor, IsAnswer}
 use Rattle.ms_report.specs.WithLines.{Lines}
-use Rattle.ms_valid.specs.Valid.{Valid}
-use Rattle.ms_valid.proofs.Refused.{invalid}
+use Rattle.ms_check_valid.specs.Valid.{Valid}
+use Rattle.ms_check_valid.proofs.Refused.{invalid}
 use Rattle.ms_words.specs.Words.{command_of}
 use Rattle.ms_words.proofs.WithinLimits.{command_within}
 use Rattle.ms_text_grammar.specs.Texts.{Reads}
 use Rattle.ms_ir.specs.declared.forms.Form.TheVariants.{Plain}
 use Rattle.ms_text_laws.proofs.FormedModules.{read_formed}
-use Rattle.ms_fills_laws.specs.Chosen.{HoldsUnderChoices}
-use Rattle.ms_valid.specs.FormedNames.{are_bytes}
+use Rattle.ms_runs_fills_laws.specs.Chosen.{HoldsUnderChoices}
+use Rattle.ms_check_valid.specs.FormedNames.{are_bytes}
 use Rattle.ms_top.proofs.Answered.{text_read, explain_refused}
 use Rattle.ms_top.proofs.Answering.{scheduled}
 use Rattle.ms_top.proofs.Explaining.{explained_shadow, explained_way, explained_none}

@@ -20,9 +20,9 @@ use Rattle.ms_ir.specs.declared.syntax.Module.{Module}
 use Rattle.ms_ir.proofs.Sizes.{drop_next}
 use Rattle.ms_top.specs.Command.{input_names, module_file, module_limit, input_limit, input_files, files_of}
 use Rattle.ms_top.specs.Unread.{CauseShows}
-use Rattle.ms_top.specs.Files.{Counted, counted, FilesRead, Whole, Fault, Long, behind, IsAtFault, IsLong, CanRead}
+use Rattle.ms_top.specs.Files.{Counted, counted, FilesRead, Whole, Fault, Long, after, IsAtFault, IsLong, CanRead}
 use Rattle.ms_top.specs.Instrumented.{IsInstrumented}
-use Rattle.ms_top.specs.Parts.{AreShort, IsAnswerBehind, IsAnswerToFault, is_want_of_memory}
+use Rattle.ms_top.specs.Parts.{AreShort, IsAnswerAfter, IsAnswerToFault, is_want_of_memory}
 use Rattle.ms_report.specs.WordsTexts.{words_text}
 use Rattle.ms_top.specs.Said.{says, answer_of_help, answer_of_version, IsAnswerOfGen, IsAnswerToText, IsAnswerToFiles, IsAnswerToCommand, IsAnswerFor, IsAnswer}
 
@@ -105,12 +105,12 @@ module _ (c d : Counted) (e : IsEarlier c d) where
       inr (inr (text, subst (λ t. IsWholeFile t name limit text) (sym e.told) whole, later, can_read_earlier rest later read, is))
 
   -- the module's file is read whole, and then the others
-  pub behind_first : (Gives : Module → Module → Type 0) (command : Command) (file text bytes : List ℕ) (a : Answer) → module_file command ≡ Some file → IsWholeFile c.told file (module_limit command) text → bytes ≡ text
-      → IsAnswerBehind Gives d command bytes a → IsAnswerToCommand Gives c command a
-  behind_first Gives command file text bytes a named whole same (r, read, is) = (
-    behind text r,
-    subst (λ fs. CanRead c fs (behind text r)) (sym (files_named command file named)) (inr (inr (text, whole, r, can_read_earlier (input_files (input_names command)) r read, refl))),
-    subst (λ t. IsAnswerToFiles Gives command (behind t r) a) same is,
+  pub after_first : (Gives : Module → Module → Type 0) (command : Command) (file text bytes : List ℕ) (a : Answer) → module_file command ≡ Some file → IsWholeFile c.told file (module_limit command) text → bytes ≡ text
+      → IsAnswerAfter Gives d command bytes a → IsAnswerToCommand Gives c command a
+  after_first Gives command file text bytes a named whole same (r, read, is) = (
+    after text r,
+    subst (λ fs. CanRead c fs (after text r)) (sym (files_named command file named)) (inr (inr (text, whole, r, can_read_earlier (input_files (input_names command)) r read, refl))),
+    subst (λ t. IsAnswerToFiles Gives command (after t r) a) same is,
   )
 
 -- ---- a file that isn't read
@@ -143,44 +143,44 @@ unread_first Gives c command file a named (inr (long, is)) = (Long file, subst (
 
 -- ---- the inputs
 
--- behind files that are read whole
-pub behind_all : List (List ℕ) → FilesRead → FilesRead
-behind_all texts (Whole more) = Whole (texts ++ more)
-behind_all texts (Fault name) = Fault name
-behind_all texts (Long name) = Long name
+-- after files that are read whole
+pub after_all : List (List ℕ) → FilesRead → FilesRead
+after_all texts (Whole more) = Whole (texts ++ more)
+after_all texts (Fault name) = Fault name
+after_all texts (Long name) = Long name
 
-all_behind : (texts : List (List ℕ)) (text : List ℕ) (r : FilesRead) → behind_all texts (behind text r) ≡ behind_all (texts ++ text ∷ []) r
-unfolding behind_all
-all_behind texts text (Whole more) = ap Whole (sym (append_assoc texts (text ∷ []) more))
-all_behind texts text (Fault name) = refl
-all_behind texts text (Long name) = refl
+all_after : (texts : List (List ℕ)) (text : List ℕ) (r : FilesRead) → after_all texts (after text r) ≡ after_all (texts ++ text ∷ []) r
+unfolding after_all
+all_after texts text (Whole more) = ap Whole (sym (append_assoc texts (text ∷ []) more))
+all_after texts text (Fault name) = refl
+all_after texts text (Long name) = refl
 
-none_behind : (r : FilesRead) → behind_all [] r ≡ r
-unfolding behind_all
-none_behind (Whole more) = refl
-none_behind (Fault name) = refl
-none_behind (Long name) = refl
+none_after : (r : FilesRead) → after_all [] r ≡ r
+unfolding after_all
+none_after (Whole more) = refl
+none_after (Fault name) = refl
+none_after (Long name) = refl
 
 -- the files from one on, where those before were read whole: what reading them comes to from these counts on
 abbrev pub ReadSoFar : Option Holdings → (faults taken faults_now taken_now : ℕ) → (texts names left : List (List ℕ)) → Type 0
 ReadSoFar held faults taken faults_now taken_now texts names left = (faults_after taken_after : ℕ) (r : FilesRead)
-    → CanRead (counted held faults_now faults_after taken_now taken_after) (input_files left) r → CanRead (counted held faults faults_after taken taken_after) (input_files names) (behind_all texts r)
+    → CanRead (counted held faults_now faults_after taken_now taken_after) (input_files left) r → CanRead (counted held faults faults_after taken taken_after) (input_files names) (after_all texts r)
 
 -- at the first, none is read
 pub read_none : (held : Option Holdings) (faults taken : ℕ) (texts names : List (List ℕ)) → texts ≡ [] → ReadSoFar held faults taken faults taken texts names names
 read_none held faults taken texts names none = λ faults_after taken_after r can.
-    subst (λ l. CanRead (counted held faults faults_after taken taken_after) (input_files names) (behind_all l r)) (sym none)
-    (subst (CanRead (counted held faults faults_after taken taken_after) (input_files names)) (sym (none_behind r)) can)
+    subst (λ l. CanRead (counted held faults faults_after taken taken_after) (input_files names) (after_all l r)) (sym none)
+    (subst (CanRead (counted held faults faults_after taken taken_after) (input_files names)) (sym (none_after r)) can)
 
-one_behind : (held : Option Holdings) (faults taken faults_now taken_now faults_next taken_next : ℕ) (texts names left : List (List ℕ)) (name text : List ℕ)
+one_after : (held : Option Holdings) (faults taken faults_now taken_now faults_next taken_next : ℕ) (texts names left : List (List ℕ)) (name text : List ℕ)
     → IsWholeFile held name input_limit text → faults_now ≤ faults_next → taken_now ≤ taken_next
     → ReadSoFar held faults taken faults_now taken_now texts names (name ∷ left) → ReadSoFar held faults taken faults_next taken_next (texts ++ text ∷ []) names left
-one_behind held faults taken faults_now taken_now faults_next taken_next texts names left name text whole more later before = λ faults_after taken_after r can.
+one_after held faults taken faults_now taken_now faults_next taken_next texts names left name text whole more later before = λ faults_after taken_after r can.
     let now = counted held faults_now faults_after taken_now taken_after in
     let next = counted held faults_next faults_after taken_next taken_after in
     let earlier : IsEarlier now next = record { told = refl; faults = more; faults_after = refl; taken = later; taken_after = refl } in
-    subst (CanRead (counted held faults faults_after taken taken_after) (input_files names)) (all_behind texts text r)
-    (before faults_after taken_after (behind text r) (inr (inr (text, whole, r, can_read_earlier now next earlier (input_files left) r can, refl))))
+    subst (CanRead (counted held faults faults_after taken taken_after) (input_files names)) (all_after texts text r)
+    (before faults_after taken_after (after text r) (inr (inr (text, whole, r, can_read_earlier now next earlier (input_files left) r can, refl))))
 
 whole_is_short : (held : Option Holdings) (name text : List ℕ) → IsWholeFile held name input_limit text → length text ≤ input_limit
 whole_is_short None name text whole = whole.0
@@ -205,13 +205,13 @@ module _ (held held_now : Option Holdings) (faults taken faults_now taken_now : 
   read_next name text bytes more faults_next taken_next below is whole got grown rose later before =
       let told : IsWholeFile held name input_limit text = subst (λ t. IsWholeFile t name input_limit text) same (subst (IsWholeFile held_now name input_limit) (sym got) whole) in
       subst (λ l. ReadSoFar held faults taken faults_next taken_next l names (drop (i + 1) names)) (sym grown)
-      (one_behind held faults taken faults_now taken_now faults_next taken_next texts names (drop (i + 1) names) name text told rose later (left_from name below is before))
+      (one_after held faults taken faults_now taken_now faults_next taken_next texts names (drop (i + 1) names) name text told rose later (left_from name below is before))
 
   -- it isn't read, for a cause
   pub read_stops : (name : List ℕ) (cause : FileError) (faults_next taken_next : ℕ) → i < length names → name ≡ get_or names i name
       → Answered (counted held_now faults_now faults_next taken_now taken_next) name input_limit {A = List ℕ} (Err cause) → ReadSoFar held faults taken faults_now taken_now texts names (drop i names)
       → CauseShows (counted held faults faults_next taken taken_next) names (get_or names i []) cause
-  unfolding behind_all
+  unfolding after_all
   read_stops name cause faults_next taken_next below is answered before =
       subst (λ n. CauseShows (counted held faults faults_next taken taken_next) names n cause) (get_or_read names i name below is [])
       (by_cause_shown cause (subst (λ t. Answered (counted t faults_now faults_next taken_now taken_next) name input_limit {A = List ℕ} (Err cause)) same answered))
@@ -226,20 +226,20 @@ module _ (held held_now : Option Holdings) (faults taken faults_now taken_now : 
       by_cause_shown (TooLong n) h = reads faults_next taken_next (Long name) (inr (inl ((n, h.too_long), refl)))
       by_cause_shown NoMemory h = tt
 
--- behind the last, all are read
+-- after the last, all are read
 pub read_all : (held : Option Holdings) (faults taken faults_now taken_now : ℕ) (texts all names : List (List ℕ)) (i : ℕ) → length names ≤ i → all ≡ texts
     → ReadSoFar held faults taken faults_now taken_now texts names (drop i names) → CanRead (counted held faults faults_now taken taken_now) (input_files names) (Whole all)
-unfolding behind_all
+unfolding after_all
 read_all held faults taken faults_now taken_now texts all names i past is before =
     let reads = subst (ReadSoFar held faults taken faults_now taken_now texts names) (drop_all i names past) before in
     subst (λ l. CanRead (counted held faults faults_now taken taken_now) (input_files names) (Whole l)) (append-nil texts ∙ sym is) (reads faults_now taken_now (Whole []) refl)
 
 pub inputs_read : (Gives : Module → Module → Type 0) (c : Counted) (command : Command) (names : List (List ℕ)) (text : List ℕ) (inputs : List (List ℕ)) (a : Answer) → names ≡ input_names command
-    → CanRead c (input_files names) (Whole inputs) → IsAnswerToText Gives command inputs text a → IsAnswerBehind Gives c command text a
+    → CanRead c (input_files names) (Whole inputs) → IsAnswerToText Gives command inputs text a → IsAnswerAfter Gives c command text a
 inputs_read Gives c command names text inputs a same can answers = (Whole inputs, subst (λ ns. CanRead c (input_files ns) (Whole inputs)) same can, answers)
 
 pub input_unread : (Gives : Module → Module → Type 0) (c : Counted) (command : Command) (names : List (List ℕ)) (name text : List ℕ) (cause : FileError) (a : Answer) → names ≡ input_names command
-    → CauseShows c names name cause → IsAnswerToFault cause name a → IsAnswerBehind Gives c command text a
+    → CauseShows c names name cause → IsAnswerToFault cause name a → IsAnswerAfter Gives c command text a
 input_unread Gives c command names name text Failed a same can is = (Fault name, subst (λ ns. CanRead c (input_files ns) (Fault name)) same can, is)
 input_unread Gives c command names name text Absent a same can is = (Fault name, subst (λ ns. CanRead c (input_files ns) (Fault name)) same can, is)
 input_unread Gives c command names name text (TooLong n) a same can is = (Long name, subst (λ ns. CanRead c (input_files ns) (Long name)) same can, is)

@@ -19,7 +19,7 @@ any_passed p xs i x lt at miss same =
     sym here ∙ ap (λ y. list_any p (y ∷ drop (suc i) xs)) at ∙ sym (ap (list_any p) (drop-cons xs i x lt)) ∙ same
 
 module _ (under : Lines) (m : Module) where
-  -- no section is left behind the shorter list
+  -- no section is left after the shorter list
   none_left : (names : List (List ℕ)) (rs : List RunResult) (n i : ℕ) → min (length names) (length rs) ≤ i → sections_of under m n (drop i names) (drop i rs) ≡ []
   none_left [] rs n zero past = refl
   none_left (name ∷ names) [] n zero past = refl

@@ -11,13 +11,13 @@ use Rattle.ms_text_grammar.specs.Texts.{Reads, Stops, max_tokens}
 use Rattle.ms_read_body.specs.declared.errors.ReadError.{ReadError}
 use Rattle.ms_read_body.specs.declared.errors.ReadError.TheVariants as e
 use Rattle.ms_read_top.specs.Reading.{IsReading}
-use Rattle.ms_valid.specs.Formed.{Formed}
-use Rattle.ms_text_layout.specs.Modules.{written}
+use Rattle.ms_check_valid.specs.Formed.{Formed}
+use Rattle.ms_text_grammar.specs.LayoutModules.{written}
 use Rattle.ms_text_laws.specs.Fits.{FitsText, NamesLimit}
 use Rattle.ms_text_laws.proofs.ReadBack.{text_back, same_text}
 use Rattle.ms_text_laws.proofs.WrittenTexts.{written_reads, written_stops, written_cut}
-use Rattle.ms_elide_laws.specs.Elided.{IsElided}
-use Rattle.ms_elide_laws.proofs.Once.{elided_once}
+use Rattle.ms_pass_form_laws.specs.Elided.{IsElided}
+use Rattle.ms_pass_form_laws.proofs.ElidedOnce.{elided_once}
 use Rattle.ms_top.specs.declared.answers.Answer.{Answer}
 use Rattle.ms_words.specs.declared.commands.Command.TheVariants.{Instrument, Run}
 use Rattle.ms_words.specs.declared.commands.Options.{Options}

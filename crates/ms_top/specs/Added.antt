@@ -2,7 +2,7 @@
 use Rattle.std.specs.Prelude.{◌≡◌, ◌⊎◌, ℕ, Bool, true, false, List, []}
 use Rattle.ms_ir.specs.declared.syntax.Module.{Module}
 use Rattle.ms_runs.specs.declared.runs.RunResult.{RunResult}
-use Rattle.ms_places.specs.Indented.{unindented}
+use Rattle.ms_where_places.specs.Indented.{unindented}
 use Rattle.ms_report.specs.WithLines.{Lines, no_lines}
 use Rattle.ms_top.specs.declared.answers.Answer.{Answer}
 use Rattle.ms_top.specs.Lines.{AreLines}

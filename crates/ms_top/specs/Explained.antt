@@ -3,11 +3,11 @@ use Rattle.std.specs.Prelude.{◌<◌, ◌^◌, List, [], ◌++◌, length, Opti
 use Rattle.ms_ir.specs.declared.syntax.Module.{Module}
 use Rattle.ms_runs.specs.declared.runs.RunResult.{RunResult}
 use Rattle.ms_runs.specs.declared.runs.Setup.{Setup}
-use Rattle.ms_moves.specs.declared.moves.Source.{Source}
-use Rattle.ms_moves.specs.declared.moves.Move.{Move}
-use Rattle.ms_moves.specs.declared.moves.Hop.{Hop}
-use Rattle.ms_moves.specs.Scanned.{Ascending, trail_of}
-use Rattle.ms_moves.specs.Traces.{trace}
+use Rattle.ms_trail_moves.specs.declared.moves.Source.{Source}
+use Rattle.ms_trail_moves.specs.declared.moves.Move.{Move}
+use Rattle.ms_trail_moves.specs.declared.moves.Hop.{Hop}
+use Rattle.ms_trail_moves.specs.Scanned.{Ascending, trail_of}
+use Rattle.ms_trail_moves.specs.Traces.{trace}
 use Rattle.ms_trail.specs.declared.found.Trace.{Trace}
 use Rattle.ms_trail.specs.declared.found.Trace.TheVariants.{NoReport, TooLong, Found}
 use Rattle.ms_trail.specs.Tracing.{limited}

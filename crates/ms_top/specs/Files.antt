@@ -22,10 +22,10 @@ pub data FilesRead : Type 0 where
   Long : List ℕ → FilesRead
 
 -- after a file that is read whole
-abbrev pub behind : List ℕ → FilesRead → FilesRead
-behind text (Whole texts) = Whole (text ∷ texts)
-behind text (Fault name) = Fault name
-behind text (Long name) = Long name
+abbrev pub after : List ℕ → FilesRead → FilesRead
+after text (Whole texts) = Whole (text ∷ texts)
+after text (Fault name) = Fault name
+after text (Long name) = Long name
 
 -- the file isn't held; any other fault shows in the count of faults
 abbrev pub IsAtFault : Counted → List ℕ → Type 0
@@ -40,4 +40,4 @@ CanRead c [] r = r ≡ Whole []
 CanRead c ((name, limit) ∷ rest) r =
     (IsAtFault c name × (r ≡ Fault name))
     ⊎ ((IsLong c name limit × (r ≡ Long name))
-    ⊎ ((text : List ℕ) × IsWholeFile c.told name limit text × (later : FilesRead) × CanRead c rest later × (r ≡ behind text later)))
+    ⊎ ((text : List ℕ) × IsWholeFile c.told name limit text × (later : FilesRead) × CanRead c rest later × (r ≡ after text later)))

@@ -6,11 +6,11 @@ use Rattle.ms_ir.specs.Instructions.{strip}
 use Rattle.ms_ir.specs.ThreadCalls.{is_threaded}
 use Rattle.ms_runs.specs.Faithful.{Fair, Undisturbed}
 use Rattle.ms_runs.specs.Plain.{plain}
-use Rattle.ms_valid.specs.Formed.{Formed}
-use Rattle.ms_valid.specs.Valid.{Valid}
-use Rattle.ms_good_laws.specs.Fills.{InsertedUnderFills}
-use Rattle.ms_fills_laws.specs.Chosen.{HoldsUnderChoices}
-use Rattle.ms_elide_laws.specs.Elided.{IsElided}
+use Rattle.ms_check_valid.specs.Formed.{Formed}
+use Rattle.ms_check_valid.specs.Valid.{Valid}
+use Rattle.ms_runs_good_laws.specs.Fills.{InsertedUnderFills}
+use Rattle.ms_runs_fills_laws.specs.Chosen.{HoldsUnderChoices}
+use Rattle.ms_pass_form_laws.specs.Elided.{IsElided}
 use Rattle.ms_pass.specs.Passed.{IsMadeOf}
 use Rattle.ms_threads.specs.Faithful.{IsSchedule}
 use Rattle.ms_top.specs.Runs.{plain_under, shadow_under, HoldsUnder}

@@ -5,10 +5,10 @@ use Rattle.ms_ir.specs.declared.syntax.Module.{Module}
 use Rattle.ms_lex.specs.declared.kinds.Token.{Token}
 use Rattle.ms_lex.specs.Tokens.{Text}
 use Rattle.ms_text_grammar.specs.Texts.{HasTokens}
-use Rattle.ms_places.specs.declared.marks.Mark.{Mark}
-use Rattle.ms_places.specs.Marks.{AreMarks}
-use Rattle.ms_source_map.specs.Lines.{lines_of_site}
-use Rattle.ms_valid.specs.Refusals.{Fault}
+use Rattle.ms_where_places.specs.declared.marks.Mark.{Mark}
+use Rattle.ms_where_places.specs.Marks.{AreMarks}
+use Rattle.ms_where.specs.Lines.{lines_of_site}
+use Rattle.ms_check_valid.specs.Refusals.{Fault}
 use Rattle.ms_report.specs.FaultTexts.{fault_text}
 use Rattle.ms_report.specs.WithLines.{Lines, no_lines, under_line, fault_site}
 use Rattle.ms_words.specs.declared.commands.Command.{Command}

@@ -9,7 +9,7 @@ use Rattle.ms_runs.specs.declared.runs.RunResult.{RunResult}
 use Rattle.ms_runs.specs.declared.runs.Setup.{Setup}
 use Rattle.ms_runs.specs.Plain.{plain}
 use Rattle.ms_ir.specs.ThreadCalls.{is_threaded}
-use Rattle.ms_valid.specs.Uninstrumented.{CanInstrument}
+use Rattle.ms_check_valid.specs.Uninstrumented.{CanInstrument}
 use Rattle.ms_report.specs.RunTexts.{line}
 use Rattle.ms_top.specs.declared.answers.Answer.{Answer}
 use Rattle.ms_words.specs.declared.commands.Command.{Command}
@@ -19,7 +19,7 @@ use Rattle.ms_words.specs.declared.commands.WordsError.TheVariants.{NoMemory as 
 use Rattle.ms_runs.specs.Limits.{WithinLimits}
 use Rattle.ms_corpus.specs.Jobs.{with_input}
 use Rattle.ms_top.specs.Command.{input_names, input_files, input_limit}
-use Rattle.ms_top.specs.Files.{Counted, CanRead, FilesRead, behind}
+use Rattle.ms_top.specs.Files.{Counted, CanRead, FilesRead, after}
 use Rattle.ms_top.specs.Runs.{plain_under}
 use Rattle.ms_top.specs.Said.{says, IsAnswerToFiles}
 use Rattle.ms_top.specs.Statuses as statuses
@@ -32,9 +32,9 @@ IsAnswerToFault (TooLong taken) name a = a ≡ says statuses.too_long (line (cod
 IsAnswerToFault NoMemory name a = ⊥
 
 -- the answer to a command whose module's file has this text, for what reading the other files comes to
-abbrev pub IsAnswerBehind : (Module → Module → Type 0) → Counted → Command → List ℕ → Answer → Type 0
-IsAnswerBehind Gives c command text a =
-    (r : FilesRead) × CanRead c (input_files (input_names command)) r × IsAnswerToFiles Gives command (behind text r) a
+abbrev pub IsAnswerAfter : (Module → Module → Type 0) → Counted → Command → List ℕ → Answer → Type 0
+IsAnswerAfter Gives c command text a =
+    (r : FilesRead) × CanRead c (input_files (input_names command)) r × IsAnswerToFiles Gives command (after text r) a
 
 -- a text that reads as a module
 abbrev pub IsModuleText : Form → List ℕ → Type 0

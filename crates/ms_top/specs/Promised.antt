@@ -8,14 +8,14 @@ use Rattle.ms_runs.specs.Faithful.{Fair}
 use Rattle.ms_runs.specs.Shadow.{shadow}
 use Rattle.ms_runs.specs.declared.runs.Setup.{Setup}
 use Rattle.ms_text_grammar.specs.Texts.{Reads}
-use Rattle.ms_valid.specs.Formed.{Formed}
-use Rattle.ms_valid.specs.Valid.{Valid}
-use Rattle.ms_fills_laws.specs.Chosen.{HoldsUnderChoices}
-use Rattle.ms_good_laws.specs.Fills.{to_first_report}
-use Rattle.ms_moves.specs.declared.moves.Source.{Source}
-use Rattle.ms_moves.specs.declared.moves.Move.{Move}
-use Rattle.ms_moves.specs.Traces.{trace, Found}
-use Rattle.ms_moves_laws.specs.FromReached.{FromReached}
+use Rattle.ms_check_valid.specs.Formed.{Formed}
+use Rattle.ms_check_valid.specs.Valid.{Valid}
+use Rattle.ms_runs_fills_laws.specs.Chosen.{HoldsUnderChoices}
+use Rattle.ms_runs_good_laws.specs.Fills.{to_first_report}
+use Rattle.ms_trail_moves.specs.declared.moves.Source.{Source}
+use Rattle.ms_trail_moves.specs.declared.moves.Move.{Move}
+use Rattle.ms_trail_moves.specs.Traces.{trace, Found}
+use Rattle.ms_trail_laws.specs.FromReached.{FromReached}
 use Rattle.ms_report.specs.RunTexts.{line}
 use Rattle.ms_report.specs.TrailTexts.{trail_with}
 use Rattle.ms_report.specs.WithLines.{Lines, reports_with}

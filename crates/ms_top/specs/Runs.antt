@@ -5,10 +5,10 @@ use Rattle.ms_runs.specs.declared.runs.Setup.{Setup}
 use Rattle.ms_runs.specs.declared.runs.RunResult.{RunResult}
 use Rattle.ms_runs.specs.Plain.{plain}
 use Rattle.ms_runs.specs.Shadow.{shadow}
-use Rattle.ms_threads_runs.specs.PlainFibers.{plain_threads}
-use Rattle.ms_threads_runs.specs.ShadowFibers.{shadow_threads}
+use Rattle.ms_runs_threads.specs.PlainFibers.{plain_threads}
+use Rattle.ms_runs_threads.specs.ShadowFibers.{shadow_threads}
 use Rattle.ms_threads.specs.Fills.{ThreadsHoldUnderFills}
-use Rattle.ms_fills_laws.specs.Checked.{HoldsUnderFills}
+use Rattle.ms_runs_fills_laws.specs.Checked.{HoldsUnderFills}
 
 -- the plain run of a module with a setup, and where there are threads under a schedule
 abbrev pub plain_under : (threads : Bool) → Module → Setup → (schedule : List ℕ) → RunResult

@@ -13,9 +13,9 @@ use Rattle.ms_runs.specs.Plain.{plain}
 use Rattle.ms_read_body.specs.declared.errors.ReadError.{ReadError}
 use Rattle.ms_read_body.specs.declared.errors.ReadError.TheVariants as e
 use Rattle.ms_read_top.specs.Reading.{IsReading}
-use Rattle.ms_valid.specs.Valid.{Valid}
-use Rattle.ms_valid.specs.Refusals.{Fault as ModuleFault, Undefined, IsRefused}
-use Rattle.ms_text_layout.specs.Modules.{written}
+use Rattle.ms_check_valid.specs.Valid.{Valid}
+use Rattle.ms_check_valid.specs.Refusals.{Fault as ModuleFault, Undefined, IsRefused}
+use Rattle.ms_text_grammar.specs.LayoutModules.{written}
 use Rattle.ms_report.specs.declared.refusals.Refusal.TheVariants.{Read}
 use Rattle.ms_report.specs.RunTexts.{line}
 use Rattle.ms_report.specs.SummaryTexts.{summary_of}

@@ -2,7 +2,7 @@
 ghost use Rattle.std.specs.Prelude.{◌≡◌, ◌≤◌, [], false, length, IfErr, IfOk, IfSome, OnOk, Ok};
 ghost use Rattle.ms_runs.specs.Limits.{WithinLimits};
 ghost use Rattle.ms_ir.specs.ThreadCalls.{is_threaded};
-ghost use Rattle.ms_valid.specs.{Formed.{Formed}, Refusals.{IsRefused}, Uninstrumented.{CanInstrument}, Valid.{Valid}};
+ghost use Rattle.ms_check_valid.specs.{Formed.{Formed}, Refusals.{IsRefused}, Uninstrumented.{CanInstrument}, Valid.{Valid}};
 ghost use Rattle.ms_check.specs.Faults.{fault_of};
 ghost use Rattle.ms_text_grammar.specs.Texts.{Reads};
 ghost use Rattle.ms_report.specs.RefusalTexts.{HasLine, threads_text, wants_memory as is_want_of_memory};
@@ -15,13 +15,13 @@ ghost use Rattle.ms_threads.specs.Faithful.{IsSchedule};
 ghost use Rattle.ms_top.specs.Statuses as statuses;
 
 use crate::commands::{form_of, located_file};
-use crate::corpus::{Jobs, answer_of_corpus};
+use crate::corpus::{CorpusInputs, answer_of_corpus};
 use crate::exit_codes::Status;
 use crate::explained::answer_of_explain;
 use crate::generated::{summarised, written};
-use crate::itself::{answer_of_help, answer_of_version};
-use crate::located::Places;
+use crate::help::{answer_of_help, answer_of_version};
 use crate::passes::{Pass, has_threads, instrumented_by};
+use crate::site_lines::Places;
 use ms_bits::{Boxed, Bytes, NoMemory};
 use ms_check::{CheckError, CheckedModule, check};
 use ms_fork::Gate;
@@ -194,7 +194,7 @@ fn answer_to_valid<R: Threads + Sync, P: Pass, G: Gate + Sync, L: SiteLines>(
     requires inputs { AreShort inputs.now }
     ensures { IfOk result (λ a. IsAnswerToValid P.gives (L.lines under.now) command.now inputs.now m.now a) }
 {
-    m.is_valid();
+    m.law_valid();
     match command {
         Command::Instrument { .. } => answer_of_instrument(rt, alloc, m, pass),
         Command::Run { options, .. } => {
@@ -224,7 +224,7 @@ fn answer_to_valid<R: Threads + Sync, P: Pass, G: Gate + Sync, L: SiteLines>(
             workers,
             ..
         } => {
-            let jobs = Jobs {
+            let jobs = CorpusInputs {
                 names: names.as_slice(),
                 inputs,
                 workers: *workers,
@@ -276,7 +276,7 @@ fn answer_of_run<L: SiteLines>(
     requires input { length input.now ≤ input_limit }
     ensures { IfOk result (λ a. a ≡ answer_of_result (L.lines under.now) false m.now (plain_under (is_threaded m.now) m.now (setup_with options.now input.now) options.now.schedule)) }
 {
-    m.is_valid();
+    m.law_valid();
     let setup = setup_of(alloc, options, input)?;
     let result = run_under(
         alloc,
@@ -303,7 +303,7 @@ fn answer_of_check<R: Threads + Sync, P: Pass, L: SiteLines>(
     requires input { length input.now ≤ input_limit }
     ensures { IfOk result (λ a. IsAnswerOfCheck P.gives (L.lines under.now) (setup_with options.now input.now) options.now.schedule m.now a) }
 {
-    m.is_valid();
+    m.law_valid();
     let setup = setup_of(alloc, options, input)?;
     let result = run_given(rt, alloc, m, &setup, options.schedule.as_slice(), pass)?;
     answer_of(alloc, m.module(), result, true, under)

@@ -1,7 +1,7 @@
 //! What `corpus` says: a section for each input.
 ghost use Rattle.std.specs.Prelude.{◌≡◌, ◌≤◌, ◌++◌, [], false, codes, decimal, IfOk};
 ghost use Rattle.ms_ir.specs.ThreadCalls.{is_threaded};
-ghost use Rattle.ms_valid.specs.{Formed.{Formed}, Uninstrumented.{CanInstrument}};
+ghost use Rattle.ms_check_valid.specs.{Formed.{Formed}, Uninstrumented.{CanInstrument}};
 ghost use Rattle.ms_words.specs.Limits.{RunsWithinLimits};
 ghost use Rattle.ms_top.specs.{Command.{setup_of as setup_with}, Parts.{AreShort, AreRunsOfGiven, AreWithinLimits}};
 ghost use Rattle.ms_top.specs.Said.{answer_of_results, has_status, heading_of, section_of, sections_of, status_of_all as status_of_runs, AreSections, IsAnswerOfCorpus};
@@ -23,7 +23,7 @@ use std::thread::Threads;
 
 /// The inputs of a corpus with the names of their files, and by how many threads they are run at most.
 #[derive(Clone, Copy)]
-pub struct Jobs<'a> {
+pub struct CorpusInputs<'a> {
     pub names: &'a [Text],
     pub inputs: &'a [Bytes],
     pub workers: u8,
@@ -35,7 +35,7 @@ pub fn answer_of_corpus<R: Threads + Sync, P: Pass, G: Gate + Sync, L: SiteLines
     alloc: Global,
     m: &CheckedModule,
     options: &Options,
-    jobs: &Jobs<'_>,
+    jobs: &CorpusInputs<'_>,
     pass: &P,
     gate: &G,
     under: &L,
@@ -59,7 +59,7 @@ fn answer_of_jobs<R: Threads + Sync, P: Pass, G: Gate + Sync, L: SiteLines>(
     alloc: Global,
     m: &CheckedModule,
     options: &Options,
-    jobs: &Jobs<'_>,
+    jobs: &CorpusInputs<'_>,
     pass: &P,
     gate: &G,
     under: &L,
@@ -71,7 +71,7 @@ fn answer_of_jobs<R: Threads + Sync, P: Pass, G: Gate + Sync, L: SiteLines>(
     requires alone { is_threaded m.now ≡ false }
     ensures { IfOk result (λ a. AreSections P.gives (L.lines under.now) jobs.now.names.now options.now jobs.now.inputs.now m.now a) }
 {
-    m.is_valid();
+    m.law_valid();
     let results = run_with(rt, alloc, m, options, jobs, pass, gate)?;
     answer_of_runs(alloc, m.module(), jobs.names, results.as_slice(), under)
 }
@@ -82,7 +82,7 @@ fn run_with<R: Threads + Sync, P: Pass, G: Gate + Sync>(
     alloc: Global,
     m: &CheckedModule,
     options: &Options,
-    jobs: &Jobs<'_>,
+    jobs: &CorpusInputs<'_>,
     pass: &P,
     gate: &G,
 ) -> Result<List<RunResult>, NoMemory>
@@ -103,7 +103,7 @@ fn run_jobs<R: Threads + Sync, P: Pass, G: Gate + Sync>(
     alloc: Global,
     m: &CheckedModule,
     setup: &Setup,
-    jobs: &Jobs<'_>,
+    jobs: &CorpusInputs<'_>,
     pass: &P,
     gate: &G,
 ) -> Result<List<RunResult>, NoMemory>

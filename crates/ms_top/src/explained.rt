@@ -1,9 +1,9 @@
 //! What `explain` says: the first report of a run, and the way on which the bits of that report came.
 ghost use Rattle.std.specs.Prelude.{◌≡◌, ◌≤◌, ◌<◌, ◌^◌, true, false, length, IfOk};
 ghost use Rattle.ms_ir.specs.ThreadCalls.{is_threaded};
-ghost use Rattle.ms_moves.specs.Scanned.{Ascending, trail_of};
+ghost use Rattle.ms_trail_moves.specs.Scanned.{Ascending, trail_of};
 ghost use Rattle.ms_runs.specs.Limits.{WithinLimits};
-ghost use Rattle.ms_valid.specs.{Formed.{Formed}, Uninstrumented.{CanInstrument}};
+ghost use Rattle.ms_check_valid.specs.{Formed.{Formed}, Uninstrumented.{CanInstrument}};
 ghost use Rattle.ms_words.specs.Limits.{RunsWithinLimits};
 ghost use Rattle.ms_top.specs.Command.{input_limit, setup_of as setup_with};
 ghost use Rattle.ms_top.specs.Explained.{CanLead, explained_with, followed, trace_with, way_with};
@@ -14,12 +14,12 @@ use crate::passes::{Pass, has_threads};
 use ms_bits::{Bytes, NoMemory};
 use ms_check::CheckedModule;
 use ms_ir::Module;
-use ms_moves::back::trail;
-use ms_moves::moves::{Move, Source};
 use ms_report::{SiteLines, closing_with, report_text_with, trail_text_with};
 use ms_runs::{RunResult, Setup};
 use ms_trail::found::Trace;
 use ms_trail::traces::trace;
+use ms_trail_moves::back::trail;
+use ms_trail_moves::moves::{Move, Source};
 use ms_words::Options;
 use std::alloc::Global;
 use std::thread::Threads;
@@ -81,7 +81,7 @@ fn explanation<L: SiteLines>(
     requires alone { is_threaded m.now ≡ false }
     ensures { IfOk result (λ a. a ≡ answer_of_explained (L.lines under.now) m.now setup.now r.now) }
 {
-    m.is_valid();
+    m.law_valid();
     let out = explained(alloc, m, setup, r, under)?;
     let err = closing_with(alloc, m.module(), r, true, under)?;
     Ok(Answer {
@@ -104,7 +104,7 @@ fn explained<L: SiteLines>(
     requires alone { is_threaded m.now ≡ false }
     ensures { IfOk result (λ text. text.items ≡ explained_with (L.lines under.now) m.now setup.now r.now) }
 {
-    m.is_valid();
+    m.law_valid();
     if r.reports.as_slice().is_empty() {
         return Vec::from_slice(alloc, b"no report\n");
     }
@@ -126,7 +126,7 @@ fn lines_of_run<L: SiteLines>(
     requires alone { is_threaded m.now ≡ false }
     ensures { IfOk result (λ text. text.items ≡ trace_with (L.lines under.now) m.now (followed m.now setup.now)) }
 {
-    m.is_valid();
+    m.law_valid();
     let found = trace(alloc, m, setup)?;
     lines_of_trace(alloc, m.module(), &found, under)
 }

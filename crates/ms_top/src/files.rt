@@ -3,7 +3,7 @@ ghost use Rattle.std.specs.Prelude.{◌≡◌, ◌≤◌, ◌++◌, false, codes
 ghost use Rattle.ms_report.specs.{RunTexts.{line}, WordsTexts.{words_text}};
 ghost use Rattle.ms_words.specs.{Limits.{IsWithinLimits}, Words.{name_of, place_of}};
 ghost use Rattle.ms_top.specs.{Command.{input_files, module_file, module_limit}, Files.{counted, CanRead, Whole}};
-ghost use Rattle.ms_top.specs.Parts.{AreShort, IsAnswerBehind, IsAnswerToFault, is_want_of_memory};
+ghost use Rattle.ms_top.specs.Parts.{AreShort, IsAnswerAfter, IsAnswerToFault, is_want_of_memory};
 ghost use Rattle.ms_top.specs.{Said.{IsAnswerToCommand, says}, Unread.{IsUnread}};
 ghost use Rattle.ms_top.specs.Statuses as statuses;
 
@@ -11,7 +11,7 @@ use crate::answers::{Answer, answer_to_text};
 use crate::commands::{inputs_of, module_limit};
 use crate::exit_codes::Status;
 use crate::generated::answer_of_gen;
-use crate::itself::{answer_of_help, answer_of_version};
+use crate::help::{answer_of_help, answer_of_version};
 use crate::passes::Pass;
 use ms_bits::{Bytes, List, NoMemory, Text};
 use ms_fork::Gate;
@@ -50,8 +50,7 @@ fn wants_memory(fault: WordsError) -> bool
     }
 }
 
-/// The answer to a command: what is generated needs no file, nor does what the program says of itself. The one error is
-/// that it runs out of memory.
+/// The answer to a command: what is generated needs no file, nor does what the program says of itself.
 pub fn answer_to_command<R: Threads + Sync, F: Files, P: Pass, G: Gate + Sync>(
     rt: &R,
     alloc: Global,
@@ -104,13 +103,13 @@ fn answer_to_file<R: Threads + Sync, F: Files, P: Pass, G: Gate + Sync>(
     ensures taken_never_falls { F.taken files.old ≤ F.taken files.new }
 {
     match files.read_whole(alloc, file.as_str(), module_limit(command)) {
-        Ok(text) => answer_behind(rt, alloc, command, &text, files, pass, gate),
+        Ok(text) => answer_after(rt, alloc, command, &text, files, pass, gate),
         Err(cause) => unread(alloc, file, cause),
     }
 }
 
 /// The answer to a command whose module's file has this text: its inputs are read, in their order.
-fn answer_behind<R: Threads + Sync, F: Files, P: Pass, G: Gate + Sync>(
+fn answer_after<R: Threads + Sync, F: Files, P: Pass, G: Gate + Sync>(
     rt: &R,
     alloc: Global,
     command: &Command,
@@ -121,7 +120,7 @@ fn answer_behind<R: Threads + Sync, F: Files, P: Pass, G: Gate + Sync>(
 ) -> Result<Answer, NoMemory>
     requires limits { IsWithinLimits command.now }
     requires fits { length text.now ≤ module_limit command.now }
-    ensures said { IfOk result (λ a. IsAnswerBehind P.gives
+    ensures said { IfOk result (λ a. IsAnswerAfter P.gives
         (counted (F.held files.old) (F.faults files.old) (F.faults files.new) (F.taken files.old) (F.taken files.new)) command.now text.now a) }
     ensures holdings_stay { F.held files.new ≡ F.held files.old }
     ensures faults_never_fall { F.faults files.old ≤ F.faults files.new }

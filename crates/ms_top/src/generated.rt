@@ -1,7 +1,7 @@
 //! What `gen` says: the text of the module that it makes, or the summary of its run.
 ghost use Rattle.std.specs.Prelude.{◌≡◌, ◌∷◌, [], true, IfOk};
-ghost use Rattle.ms_valid.specs.{Formed.{Formed}, Uninstrumented.{CanInstrument}, Valid.{Valid}};
-ghost use Rattle.ms_text_layout.specs.Modules.{written as text_of};
+ghost use Rattle.ms_check_valid.specs.{Formed.{Formed}, Uninstrumented.{CanInstrument}, Valid.{Valid}};
+ghost use Rattle.ms_text_grammar.specs.LayoutModules.{written as text_of};
 ghost use Rattle.ms_report.specs.SummaryTexts.{summary_of};
 ghost use Rattle.ms_words.specs.{Limits.{MadeWithinLimits}, Words.{defaults}};
 ghost use Rattle.ms_gen.specs.Generator.{generated};
@@ -20,8 +20,7 @@ use ms_write::write;
 use std::alloc::Global;
 use std::thread::Threads;
 
-/// The answer of `gen`: its module is made and written, or checked with no option given. The one error is
-/// that it runs out of memory.
+/// The answer of `gen`: its module is made and written, or checked with no option given.
 pub fn answer_of_gen<R: Threads + Sync, P: Pass>(
     rt: &R,
     alloc: Global,
@@ -86,7 +85,7 @@ pub fn summarised<R: Threads + Sync, P: Pass>(
     requires { CanInstrument m.now }
     ensures { IfOk result (λ a. IsAnswerOfGen P.gives true m.now a) }
 {
-    m.is_valid();
+    m.law_valid();
     let setup = default_setup(alloc)?;
     let result = run_given(rt, alloc, m, &setup, default_schedule(), pass)?;
     summary_answer(alloc, m.module(), &result)

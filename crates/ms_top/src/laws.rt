@@ -5,11 +5,11 @@ ghost use Rattle.ms_io.specs.{Counts.{Rose}, Reading.{Holdings}};
 ghost use Rattle.ms_ir.specs.{declared.syntax.Module.{Module}, ThreadCalls.{is_threaded}};
 ghost use Rattle.ms_ir.specs.declared.forms.Form.TheVariants.{Plain};
 ghost use Rattle.ms_runs.specs.{declared.runs.RunResult.{RunResult}, Faithful.{Fair, Faithful}, Shadow.{shadow}};
-ghost use Rattle.ms_fills_laws.specs.Checked.{HoldsUnderFills};
-ghost use Rattle.ms_valid.specs.{Formed.{Formed}, Refusals.{Fault}, Valid.{Valid}};
-ghost use Rattle.ms_text_layout.specs.Modules.{written};
+ghost use Rattle.ms_runs_fills_laws.specs.Checked.{HoldsUnderFills};
+ghost use Rattle.ms_check_valid.specs.{Formed.{Formed}, Refusals.{Fault}, Valid.{Valid}};
+ghost use Rattle.ms_text_grammar.specs.LayoutModules.{written};
 ghost use Rattle.ms_text_laws.specs.Fits.{FitsText};
-ghost use Rattle.ms_elide_laws.specs.Elided.{IsElided};
+ghost use Rattle.ms_pass_form_laws.specs.Elided.{IsElided};
 ghost use Rattle.ms_top.specs.{declared.answers.Answer.{Answer}, Answered.{AreHeld, IsTaken, IsDoneStatus, Begins}};
 ghost use Rattle.ms_top.specs.Added.{with_locations, without_lines, without_any_lines, CorpusAdds};
 ghost use Rattle.ms_top.specs.{Command.{files_of, form_of, input_limit, only_input, setup_of}, Explained.{no_report}};
@@ -24,7 +24,7 @@ ghost use Rattle.ms_words.specs.declared.commands.Command.TheVariants.{Instrumen
 ghost use Rattle.ms_words.specs.{declared.commands.Options.{Options}, Limits.{RunsWithinLimits, IsWithinLimits}};
 ghost use Rattle.ms_words.specs.{Reading.{same}, Table.{commands, command_word, topics}, Usage.{usage, version_line}};
 ghost use Rattle.ms_words.specs.Words.{asks, command_of, defaults};
-ghost use Rattle.ms_places.specs.Indented.{unindented};
+ghost use Rattle.ms_where_places.specs.Indented.{unindented};
 ghost use Rattle.ms_report.specs.{FaultTexts.{fault_text}, RefusalTexts.{threads_text}, ReportTexts.{report_text_of}};
 ghost use Rattle.ms_report.specs.{RunTexts.{closing_of}, SummaryTexts.{summary_of}, WithLines.{Lines, no_lines}};
 ghost use Rattle.ms_report.specs.WordsTexts.{words_text};
@@ -37,7 +37,7 @@ use crate::passes::Pass;
 
 /// What is to be said is one answer, but where memory runs out, and for the path that shows that a use of a value isn't
 /// defined: of a module's text, and of commands and of words where the files are told and no fault of theirs was counted.
-pub fn one_answer()
+pub fn law_one_answer()
     ensures text { (command : Command) (inputs : List (List ℕ)) (text : List ℕ) (a b : Answer)
         → IsAnswerToText IsInstrumented command inputs text a → IsAnswerToText IsInstrumented command inputs text b → (a ≡ b) ⊎ DifferInPath a b }
     ensures commands { (c : Counted) (files : Holdings) (command : Command) (a b : Answer) → c.told ≡ Some files → (Rose c.faults c.faults_after → ⊥)
@@ -48,7 +48,7 @@ pub fn one_answer()
 
 /// What is said of a question about the program itself is the usage, or the line with the version, and of a first word that
 /// is neither a question nor a command the line `words: UnknownCommand at 0`, whatever words follow.
-pub fn questions_are_answered()
+pub fn law_questions_are_answered()
     ensures help { (c : Counted) (words : List (List ℕ)) (a : Answer) → command_of words ≡ Ok Help → IsAnswer IsInstrumented c words a → a ≡ answer_of statuses.done usage [] }
     ensures version { (c : Counted) (words : List (List ℕ)) (a : Answer) → command_of words ≡ Ok Version → IsAnswer IsInstrumented c words a → a ≡ answer_of statuses.done version_line [] }
     ensures unknown { (c : Counted) (word : List ℕ) (rest : List (List ℕ)) (a : Answer) → find (asks word) topics ≡ None → find (λ n. same word (command_word n)) commands ≡ None
@@ -60,7 +60,7 @@ pub fn questions_are_answered()
 /// generated one that is run, which has no threads, it is the summary of its shadow run with the default options, whose setup is
 /// fair: no input, the fill a5, ten million steps, one report, the schedule 00. A clean verdict, and a first report where no blind use was counted, hold under
 /// every fill, with threads under the same schedule; of two schedules nothing is said.
-pub fn checks_show_the_shadow_run()
+pub fn law_checks_show_the_shadow_run()
     ensures shadow { (under : Lines) (file : List ℕ) (inputs : List (List ℕ)) (o : Options) (m : Module) (a : Answer) → let s = setup_of o (only_input inputs) in Fair s → IsSchedule o.schedule
         → IsAnswerToValid IsInstrumented under (Check file o) inputs m a → a ≡ answer_of_result under true m (shadow_under (is_threaded m) m s o.schedule) }
     ensures under_fills { (under : Lines) (file : List ℕ) (inputs : List (List ℕ)) (o : Options) (m : Module) (a : Answer) → let s = setup_of o (only_input inputs) in Fair s → IsSchedule o.schedule
@@ -82,7 +82,7 @@ pub fn checks_show_the_shadow_run()
 /// report's bits over the moves of that run, or that there is none; the closing lines are those of `check`. The way begins at a root
 /// that the run had reached, each place on it is what the next move reads, and the last is what the report's use reads. A module with
 /// threads is refused.
-pub fn explanations_show_the_way()
+pub fn law_explanations_show_the_way()
     ensures shadow { (under : Lines) (file : List ℕ) (inputs : List (List ℕ)) (o : Options) (m : Module) (a : Answer) → is_threaded m ≡ false → let s = setup_of o (only_input inputs) in Fair s
         → IsAnswerToValid IsInstrumented under (Explain file o) inputs m a → a ≡ answer_of_explained under m s (shadow m s) }
     ensures way { (under : Lines) (file : List ℕ) (inputs : List (List ℕ)) (o : Options) (m : Module) (a : Answer) → is_threaded m ≡ false → let s = setup_of o (only_input inputs) in Fair s
@@ -93,8 +93,8 @@ pub fn explanations_show_the_way()
         → IsAnswerToValid IsInstrumented under (Explain file o) inputs m a → a ≡ says statuses.refused threads_text }
 {}
 
-/// The same of every pass, where the modules that it gives are faithful.
-pub fn faithful_passes_explain<P: Pass>()
+/// What `explain` says holds of every pass whose modules are faithful.
+pub fn law_faithful_passes_explain<P: Pass>()
     ensures { (under : Lines) (file : List ℕ) (inputs : List (List ℕ)) (o : Options) (m : Module) (a : Answer) → ((j : Module) → P.gives m j → Faithful m j)
         → is_threaded m ≡ false → let s = setup_of o (only_input inputs) in Fair s → IsAnswerToValid P.gives under (Explain file o) inputs m a → a ≡ answer_of_explained under m s (shadow m s) }
 {}
@@ -103,7 +103,7 @@ pub fn faithful_passes_explain<P: Pass>()
 /// says of the module that was read, with the same options and input, but for the verdict, or it refuses the text for a limit or
 /// for numbering. It doesn't refuse one that is within the limits of its form. Where lines under each site are asked for, `run` shows
 /// where the sites stand in the text that was written.
-pub fn written_modules_run_alike()
+pub fn law_written_modules_run_alike()
     ensures named { (under : Lines) (file : List ℕ) (inputs : List (List ℕ)) (m j : Module) (a : Answer) → IsAnswerToValid IsInstrumented under (Instrument file) inputs m a
         → Formed j → a.out ≡ written j → IsInstrumented m j }
     ensures alike { (under : Lines) (file name : List ℕ) (inputs : List (List ℕ)) (o : Options) (m : Module) (a b c : Answer) → IsAnswerToValid IsInstrumented under (Instrument file) [] m a
@@ -117,7 +117,7 @@ pub fn written_modules_run_alike()
 /// What the option `--where` adds is lines that begin with four blanks, under those that name a site: once these are taken out,
 /// what `run`, `check` and `explain` say with the option is what they say without it. So is each text of which the sections of `corpus` are
 /// made beside the output, which may have such lines of its own. Without the option each text is as it always was.
-pub fn lines_are_added()
+pub fn law_lines_are_added()
     ensures run { (file : List ℕ) (inputs : List (List ℕ)) (o : Options) (text : List ℕ) (a : Answer) → IsAnswerToText IsInstrumented (Run file (with_locations true o)) inputs text a
         → IsAnswerToText IsInstrumented (Run file (with_locations false o)) inputs text (without_lines a) }
     ensures check { (file : List ℕ) (inputs : List (List ℕ)) (o : Options) (text : List ℕ) (a : Answer) → IsAnswerToText IsInstrumented (Check file (with_locations true o)) inputs text a
@@ -137,7 +137,7 @@ pub fn lines_are_added()
 /// So it is for words that are a command, where the files are told and hold the texts within their limits, and no fault of
 /// theirs was counted. The status of such an answer is one of four; only `msan` itself may say instead that memory ran out. What is
 /// generated has no file. Only commands that take no schedule, `corpus` and `explain`, refuse a module with threads.
-pub fn valid_modules_are_answered()
+pub fn law_valid_modules_are_answered()
     ensures text { (command : Command) (inputs : List (List ℕ)) (text : List ℕ) (m : Module) (a : Answer) → Reads (form_of command) text m → Valid m
         → IsAnswerToText IsInstrumented command inputs text a
         → (under : Lines) × AreLines command text m under × IsAnswerToValid IsInstrumented under command inputs m a }
@@ -155,7 +155,7 @@ pub fn valid_modules_are_answered()
 /// The output of `check` on a module is a beginning of the output of `run` on it, with the same options and input, where the setup
 /// is fair; unless the checked run ends as reported, both print the same and end in the same way. With threads both have one schedule.
 /// The same holds of one text that both read.
-pub fn checks_begin_runs()
+pub fn law_checks_begin_runs()
     ensures valid { (under below : Lines) (file name : List ℕ) (inputs : List (List ℕ)) (o : Options) (m : Module) (a b : Answer) → Fair (setup_of o (only_input inputs)) → IsSchedule o.schedule
         → IsAnswerToValid IsInstrumented under (Check file o) inputs m a → IsAnswerToValid IsInstrumented below (Run name o) inputs m b → Begins m a b }
     ensures text { (file name : List ℕ) (inputs : List (List ℕ)) (o : Options) (text : List ℕ) (m : Module) (a b : Answer) → Fair (setup_of o (only_input inputs)) → IsSchedule o.schedule
@@ -167,7 +167,7 @@ pub fn checks_begin_runs()
 /// file couldn't be read or was too long, or since the text that was read isn't a valid module's; or a text was read as a valid
 /// module, and the answer is its shadow run with a fair setup. Then a clean verdict and a first report hold under every fill, with
 /// threads under the same schedule, and without threads a clean verdict also where each step has a fill of its own.
-pub fn checks_hold()
+pub fn law_checks_hold()
     ensures words { (c : Counted) (words : List (List ℕ)) (file : List ℕ) (o : Options) (a : Answer) → command_of words ≡ Ok (Check file o)
         → IsAnswer IsInstrumented c words a → NothingRan c (files_of (Check file o)) a ⊎ ShadowShown c file o a }
     ensures commands { (c : Counted) (file : List ℕ) (o : Options) (a : Answer) → RunsWithinLimits o
@@ -181,7 +181,7 @@ pub fn checks_hold()
 /// Of any words that ask for an explanation what is to be said is this, with no premise on files: nothing was run, as of a check, or
 /// since a valid module with threads was read; or it explains what `check` says of the same files with the same options, and shows
 /// the way of the bits of a report.
-pub fn explanations_hold()
+pub fn law_explanations_hold()
     ensures words { (c : Counted) (words : List (List ℕ)) (file : List ℕ) (o : Options) (a : Answer) → command_of words ≡ Ok (Explain file o)
         → IsAnswer IsInstrumented c words a → NothingRan c (files_of (Explain file o)) a ⊎ (ThreadsRefused c file o a ⊎ WayShown c file o a) }
     ensures commands { (c : Counted) (file : List ℕ) (o : Options) (a : Answer) → RunsWithinLimits o

@@ -8,11 +8,11 @@ mod exit_codes;
 mod explained;
 mod files;
 mod generated;
-mod itself;
+mod help;
 pub mod laws;
-mod located;
+mod output;
 pub mod passes;
-mod pieces;
+mod site_lines;
 mod top;
 
 pub use exit_codes::Status;

@@ -2,7 +2,7 @@
 ghost use Rattle.std.specs.{Prelude.{◌≡◌, true, false, IfOk}, Thread.{IsSync}};
 ghost use Rattle.ms_ir.specs.{declared.syntax.Module.{Module as ModuleOf}, Instructions.{strip}};
 ghost use Rattle.ms_ir.specs.ThreadCalls.{is_threaded};
-ghost use Rattle.ms_valid.specs.{Formed.{Formed}, Uninstrumented.{CanInstrument}};
+ghost use Rattle.ms_check_valid.specs.{Formed.{Formed}, Uninstrumented.{CanInstrument}};
 ghost use Rattle.ms_top.specs.Instrumented.{IsInstrumented};
 
 use ms_bits::{Boxed, Duplicate, NoMemory};
@@ -20,7 +20,7 @@ pub trait Pass {
     ghost gives: { ModuleOf → ModuleOf → Type 0 };
 
     /// The module as the pass makes it, by threads of the runtime where it makes some. Without what is inserted it is the
-    /// module itself. The one error is that it runs out of memory.
+    /// module itself.
     fn instrument<R: Threads + Sync>(
         &self,
         rt: &R,
@@ -32,8 +32,7 @@ pub trait Pass {
         ensures gives { IfOk result (λ j. gives m.now j) }
         ensures stripped { IfOk result (λ j. strip j ≡ m.now) };
 
-    /// Such a module that is to be written and not run, so that no code of it is needed. It is formed. The one error is running out of
-    /// memory.
+    /// Such a module that is to be written and not run, so that no code of it is needed. It is formed.
     fn instrumented<R: Threads + Sync>(
         &self,
         rt: &R,
@@ -46,7 +45,7 @@ pub trait Pass {
         ensures formed { IfOk result (λ j. Formed j) }
     {
         let module = self.instrument(rt, alloc, m)?;
-        module.is_valid();
+        module.law_valid();
         Ok(module.into_module())
     }
 }
@@ -58,8 +57,7 @@ pub(crate) fn has_threads(m: &CheckedModule) -> bool
     threaded(m.module())
 }
 
-/// The module that a pass makes, on the heap: it has threads exactly where the one that is read has. The one error is that it runs
-/// out of memory.
+/// The module that a pass makes, on the heap: it has threads exactly where the one that is read has.
 pub(crate) fn instrumented_by<R: Threads + Sync, P: Pass>(
     rt: &R,
     alloc: Global,
@@ -71,7 +69,7 @@ pub(crate) fn instrumented_by<R: Threads + Sync, P: Pass>(
     ensures threads { IfOk result (λ j. is_threaded j ≡ is_threaded m.now) }
 {
     let instrumented = pass.instrument(rt, alloc, m)?;
-    instrumented.is_valid();
+    instrumented.law_valid();
     Boxed::new(alloc, instrumented)
 }
 
@@ -101,11 +99,11 @@ fn made_alone<R: Threads + Sync>(
     ensures stripped { IfOk result (λ j. strip j ≡ m.now) }
 {
     let module = instrument(rt, alloc, m, gate)?;
-    module.is_valid();
+    module.law_valid();
     Ok(module)
 }
 
-/// The same of one with threads.
+/// The module that the pass makes of one with threads.
 fn made_with_threads<R: Threads + Sync>(
     rt: &R,
     alloc: Global,
@@ -118,7 +116,7 @@ fn made_with_threads<R: Threads + Sync>(
     ensures stripped { IfOk result (λ j. strip j ≡ m.now) }
 {
     let module = instrument_threads(rt, alloc, m, gate)?;
-    module.is_valid();
+    module.law_valid();
     Ok(module)
 }
 
@@ -138,7 +136,7 @@ fn written_alone<R: Threads + Sync>(
     Ok(module)
 }
 
-/// The same of one with threads.
+/// The module that the pass makes of one with threads, for being written.
 fn written_with_threads<R: Threads + Sync>(
     rt: &R,
     alloc: Global,

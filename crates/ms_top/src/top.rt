@@ -11,8 +11,8 @@ use crate::answers::Answer;
 use crate::commands::read_command;
 use crate::exit_codes::Status;
 use crate::files::{answer_to_command, no_command};
+use crate::output::write_output;
 use crate::passes::{Pass, RealPass};
-use crate::pieces::say;
 use ms_bits::{NoMemory, Text};
 use ms_fork::{Gate, OpenGate};
 use ms_io::{Files, Sink};
@@ -109,13 +109,13 @@ fn put_answer<O: Sink, E: Sink>(answer: Result<Answer, NoMemory>, out: &mut O, e
     ensures err_faults_never_fall { E.faults err.old ≤ E.faults err.new }
 {
     match answer {
-        Ok(answer) => say(
+        Ok(answer) => write_output(
             out,
             err,
             answer.status,
             answer.out.as_slice(),
             answer.err.as_slice(),
         ),
-        Err(_) => say(out, err, Status::NoMemory as u8, b"", b"out of memory\n"),
+        Err(_) => write_output(out, err, Status::NoMemory as u8, b"", b"out of memory\n"),
     }
 }

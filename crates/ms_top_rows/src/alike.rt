@@ -1,7 +1,7 @@
 //! Modules that are instrumented, and then run: `run` says of what `instrument` writes what `check` says of the module, but
 //! for the verdict.
 
-use crate::calls::{Call, Case, Desk, NOTHING, Row, all_agree, behind, on_text, said, says};
+use crate::calls::{Call, Case, Desk, NOTHING, Row, after, all_agree, on_text, said, says};
 use crate::failing::{differ, differs, fails};
 use crate::modules::Run;
 use std::alloc::Global;
@@ -26,7 +26,7 @@ impl CheckedRow for Run {
         }
         checked.status == self.3
             && checked.out.as_slice() == self.1
-            && behind(
+            && after(
                 checked.err.as_slice(),
                 &["end: ", self.2, "\nreports: 0\nblind: "],
             )

@@ -290,7 +290,7 @@ pub fn said_by<R: Threads + Sync, P: Pass, G: Gate + Sync>(
 }
 
 /// What stands after these pieces, if a text begins with them.
-pub fn behind<'a>(text: &'a [u8], pieces: &[&str]) -> Option<&'a [u8]> {
+pub fn after<'a>(text: &'a [u8], pieces: &[&str]) -> Option<&'a [u8]> {
     let mut rest = text;
     for piece in pieces {
         match rest.strip_prefix(piece.as_bytes()) {
@@ -303,7 +303,7 @@ pub fn behind<'a>(text: &'a [u8], pieces: &[&str]) -> Option<&'a [u8]> {
 
 /// Whether a text is these pieces, one after the other.
 pub fn is_joined(text: &[u8], pieces: &[&str]) -> bool {
-    match behind(text, pieces) {
+    match after(text, pieces) {
         Some(rest) => rest.is_empty(),
         None => false,
     }

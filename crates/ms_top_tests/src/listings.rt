@@ -365,7 +365,7 @@ define i32 @main() {
 !0 = !{}
 
 ====
-# Of a block that is made anew what lies behind its old size is undefined; the name of that size isn't taken again.
+# Of a block that is made anew what lies after its old size is undefined; the name of that size isn't taken again.
 ~
 declare ptr @realloc(ptr, i64)
 ~

@@ -1,10 +1,10 @@
 //! Work in several threads: that two pieces of a list, of a module or of a corpus run at once, and short lists.
 ghost use Rattle.std.specs.Prelude.{◌≡◌, ℕ, ◌*◌, ◌%◌, ◌^◌, IfOk};
-ghost use Rattle.ms_valid.specs.Uninstrumented.{CanInstrument};
+ghost use Rattle.ms_check_valid.specs.Uninstrumented.{CanInstrument};
 
 use ms_bits::{Boxed, NoMemory};
 use ms_check::CheckedModule;
-use ms_fork::{Cuts, Gate, OpenGate, Work, by_halves};
+use ms_fork::{Gate, OpenGate, Split, Work, parallel_map};
 use ms_gen::generate;
 use ms_pass::instrument;
 use ms_top::RealPass;
@@ -90,12 +90,12 @@ fn meets<R: Threads + Sync>(
     rt: &R,
     alloc: Global,
     count: usize,
-    cuts: Cuts,
+    split: Split,
     later: u64,
     last: u64,
 ) -> bool {
     let gate = Meeting::new(later);
-    match by_halves(rt, alloc, &Squares, count, cuts, &gate) {
+    match parallel_map(rt, alloc, &Squares, count, split, &gate) {
         Ok(all) => gate.is_met()
             && all.as_slice().len() == count
             && all.as_slice().last() == Some(&last),
@@ -105,21 +105,21 @@ fn meets<R: Threads + Sync>(
 
 #[test]
 fn two_pieces_run_at_once(rt: HostRuntime) -> Result<(), Fail> {
-    let cuts = Cuts {
+    let split = Split {
         most: 8,
         threads: 16,
     };
-    assert!(rt; meets(&rt, rt.alloc(), 16, cuts, 8, 225));
+    assert!(rt; meets(&rt, rt.alloc(), 16, split, 8, 225));
     Ok(())
 }
 
 #[test]
 fn two_workers_meet(rt: HostRuntime) -> Result<(), Fail> {
-    let cuts = Cuts {
+    let split = Split {
         most: 1,
         threads: 2,
     };
-    assert!(rt; meets(&rt, rt.alloc(), 2, cuts, 1, 1));
+    assert!(rt; meets(&rt, rt.alloc(), 2, split, 1, 1));
     Ok(())
 }
 
@@ -183,8 +183,8 @@ fn two_workers_of_a_corpus_meet(rt: HostRuntime) -> Result<(), Fail> {
 }
 
 /// Whether the squares of 0, 1 and 2 are made in this way.
-fn makes_three<R: Threads + Sync>(rt: &R, alloc: Global, cuts: Cuts) -> bool {
-    match by_halves(rt, alloc, &Squares, 3, cuts, &OpenGate) {
+fn makes_three<R: Threads + Sync>(rt: &R, alloc: Global, split: Split) -> bool {
+    match parallel_map(rt, alloc, &Squares, 3, split, &OpenGate) {
         Ok(all) => all.as_slice() == [0, 1, 4].as_slice(),
         Err(_) => false,
     }
@@ -192,11 +192,11 @@ fn makes_three<R: Threads + Sync>(rt: &R, alloc: Global, cuts: Cuts) -> bool {
 
 #[test]
 fn short_lists_are_made(rt: HostRuntime) -> Result<(), Fail> {
-    let alone = Cuts {
+    let alone = Split {
         most: 0,
         threads: 0,
     };
-    let both = Cuts {
+    let both = Split {
         most: 1,
         threads: 8,
     };

@@ -1,6 +1,6 @@
 //! Texts with lines under each line that names a site.
 ghost use Rattle.std.specs.Prelude.{◌≡◌, ◌+◌, ◌%◌, ◌++◌, ◌∷◌, true, is_some, IfOk, codes};
-ghost use Rattle.ms_valid.specs.Formed.{Formed};
+ghost use Rattle.ms_check_valid.specs.Formed.{Formed};
 ghost use Rattle.ms_check.specs.Faults.{fault_of};
 
 use crate::texts::{REPORTS, TWO_UNSET, reports_of, result_of};

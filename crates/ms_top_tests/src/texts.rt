@@ -1,6 +1,6 @@
 //! The lines of reports and of ends, also of such as no run gives yet.
 
-ghost use Rattle.ms_valid.specs.Formed.{Formed};
+ghost use Rattle.ms_check_valid.specs.Formed.{Formed};
 
 use ms_bits::{Bytes, Duplicate, List, Trap};
 use ms_ir::{Form, Module};
@@ -273,14 +273,14 @@ fn is_named<R: Eprint>(rt: &R, alloc: Global, m: &Module, kind: u32, name: &str)
         mask: 0xa0,
         origin: 1,
     };
-    let behind =
+    let after =
         " at site 3 in @main, part 2, bits 0xa0 of i8\n  origin 1: alloca at site 1 in @main\n";
     are_printed(
         rt,
         alloc,
         m,
         &[Reported(found, &ROOT, "")],
-        &["report 1: ", name, behind],
+        &["report 1: ", name, after],
     )
 }
 
@@ -304,8 +304,8 @@ fn all_are_traps<R: Eprint>(rt: &R, alloc: Global, m: &Module, traps: &[(Trap, &
             site: 5,
         };
         let r = result_of(alloc, end, Vec::new(alloc), 0);
-        let behind = " at site 5 in @main\nreports: 0\nblind: 0\n";
-        if !is_closing(rt, alloc, m, &r, false, &["end: trap ", name, behind]) {
+        let after = " at site 5 in @main\nreports: 0\nblind: 0\n";
+        if !is_closing(rt, alloc, m, &r, false, &["end: trap ", name, after]) {
             return false;
         }
     }

@@ -2,22 +2,22 @@
 ghost use Rattle.std.specs.Prelude.{◌≡◌, ◌<◌, ◌^◌, length, IfOk, false};
 ghost use Rattle.ms_ir.specs.ThreadCalls.{is_threaded};
 ghost use Rattle.ms_runs.specs.Limits.{WithinLimits};
-ghost use Rattle.ms_valid.specs.{Formed.{Formed}, Uninstrumented.{CanInstrument}};
-ghost use Rattle.ms_moves.specs.Scanned.{Ascending};
+ghost use Rattle.ms_check_valid.specs.{Formed.{Formed}, Uninstrumented.{CanInstrument}};
+ghost use Rattle.ms_trail_moves.specs.Scanned.{Ascending};
 ghost use Rattle.ms_top.specs.Explained.{CanLead};
 
 use ms_bits::Bytes;
 use ms_check::{CheckedModule, check};
 use ms_ir::{Form, Module};
-use ms_moves::back::trail;
-use ms_moves::checks::check_trail;
-use ms_moves::moves::{Hop, Move, Source};
 use ms_read_top::read;
 use ms_runs::Setup;
 use ms_threads::threaded;
 use ms_top_rows::failing::fails;
 use ms_trail::found::Trace;
 use ms_trail::traces::trace;
+use ms_trail_moves::back::trail;
+use ms_trail_moves::checks::check_trail;
+use ms_trail_moves::moves::{Hop, Move, Source};
 use std::alloc::{AllocError, Global};
 use std::test::Fail;
 

@@ -164,7 +164,7 @@ refused 11: type at site 1, operand 1
 ~
 5
 ====
-# An unknown name comes first, also behind it.
+# An unknown name comes first, also after it.
 run f~
 define i32 @main() {
   %1 = zext i64 5 to i32
@@ -217,7 +217,7 @@ refused 12: phi at site 2
 ~
 5
 ====
-# A type that doesn't agree comes first, also behind it.
+# A type that doesn't agree comes first, also after it.
 run f~
 define i32 @main() {
   br label %0
@@ -420,7 +420,7 @@ refused 16: mark at site 2
 ~
 5
 ====
-# A use that isn't defined comes first, also behind it.
+# A use that isn't defined comes first, also after it.
 run f~
 define i32 @main() {
   %__msan.1 = alloca i32, !nosanitize !0
@@ -483,7 +483,7 @@ refused 17: size of @main
 ~
 5
 ====
-# A mark comes first, also behind it.
+# A mark comes first, also after it.
 run f~
 @g = global [67108865 x i8] zeroinitializer
 define i32 @main() {

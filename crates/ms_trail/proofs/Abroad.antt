@@ -1,4 +1,4 @@
--- A follower behind a call of an external.
+-- A follower after a call of an external.
 use Rattle.std.proofs.Common.{◌≡◌, ℕ, List, [], ◌∷◌, map, Option, Some, None, unwrap_or, option_map, refl, sym, ap, ◌∙◌, subst}
 use Rattle.ms_ir.specs.declared.syntax.Op.{Op}
 use Rattle.ms_ir.specs.declared.syntax.Op.TheVariants as op
@@ -14,12 +14,12 @@ use Rattle.ms_runs.specs.Act.{plain_reading, act}
 use Rattle.ms_runs.specs.Plain.{PlainState, setting_of}
 use Rattle.ms_runs.specs.Poisoned.{Poisoned}
 use Rattle.ms_runs.specs.Shadow.{read_poisoned}
-use Rattle.ms_code.specs.declared.code.Source.{Source}
-use Rattle.ms_code.specs.declared.code.Code.{Code}
-use Rattle.ms_code.specs.declared.code.Code.TheVariants as code
-use Rattle.ms_code.specs.Words.{words_of}
-use Rattle.ms_code.specs.Encodes.{Where, Encodes}
-use Rattle.ms_code.specs.Compiled.{where_is}
+use Rattle.ms_machine_code.specs.declared.code.WordSource.{WordSource}
+use Rattle.ms_machine_code.specs.declared.code.Code.{Code}
+use Rattle.ms_machine_code.specs.declared.code.Code.TheVariants as code
+use Rattle.ms_machine_code.specs.Words.{words_of}
+use Rattle.ms_machine_code.specs.Encodes.{Where, Encodes}
+use Rattle.ms_machine_code.specs.Compiled.{where_is}
 use Rattle.ms_host.specs.declared.calls.Asked.TheVariants as asked
 use Rattle.ms_host.specs.declared.calls.HostCall.{HostCall}
 use Rattle.ms_host.specs.Answers.{asked_effect, resumed}
@@ -27,11 +27,11 @@ use Rattle.ms_host.specs.State.{Beside, nothing_beside}
 use Rattle.ms_machine_steps.specs.Waiting.{Waits, FirstWaits, types_due}
 use Rattle.ms_machine_steps.proofs.Dense.{all_read}
 use Rattle.ms_machine.specs.Running.{IsRunning, WaitsFor}
-use Rattle.ms_follow_laws.specs.Follows.{bare_frame, light, words}
-use Rattle.ms_follow_laws.proofs.Frames.{words_shown}
-use Rattle.ms_follow_laws.proofs.Light.{light_effect, light_act}
-use Rattle.ms_moves.specs.Traces.{Traced}
-use Rattle.ms_trail.specs.declared.follower.Follower.{Follower}
+use Rattle.ms_runs_laws.specs.Follows.{bare_frame, light, words}
+use Rattle.ms_runs_laws.proofs.FollowedParts.{light_effect, light_act}
+use Rattle.ms_runs_laws.proofs.ShownSteps.{words_shown}
+use Rattle.ms_trail_moves.specs.Traces.{Traced}
+use Rattle.ms_trail.specs.declared.traced_run.TracedRun.{TracedRun}
 use Rattle.ms_trail.specs.Asking.{WaitsSome}
 use Rattle.ms_trail_uses.specs.Due.{IsDue}
 use Rattle.ms_trail.specs.Following.{Passes, IsFollowed}
@@ -61,7 +61,7 @@ gave (Leaves w) None after e = absurd (cc)
 gave (Ends x w) (Some n) after e = absurd (cc)
 gave (Ends x w) None after e = absurd (cc)
 
-module _ (m : Module) (u : Setup) (t : Traced) (old : Follower) (o : IsFollowed m u t old) (k : Code) (passes : Passes m u t) (due : IsDue m old.fiber old.world k) (e : External) (args : List Source) (to : Option ℕ) (is_call : k ≡ code.External e args to) where
+module _ (m : Module) (u : Setup) (t : Traced) (old : TracedRun) (o : IsFollowed m u t old) (k : Code) (passes : Passes m u t) (due : IsDue m old.fiber old.world k) (e : External) (args : List WordSource) (to : Option ℕ) (is_call : k ≡ code.External e args to) where
   abbrev d : DueNow m u t old o k
   d = due_now m u t old o k passes due
 

@@ -20,12 +20,12 @@ use Rattle.ms_ir.specs.Signatures.{Signature, word_params, called_signature}
 use Rattle.ms_runs.specs.World.{World, Gives}
 use Rattle.ms_runs.specs.Poisoned.{Poisoned, clean}
 use Rattle.ms_runs.specs.Masks.{word_at, answer_mask, answer_origin, as_result, last_origin}
-use Rattle.ms_good_laws.specs.GoodStates.{IsBelow, PoisonedBelow}
-use Rattle.ms_good_laws.specs.Straight.{HaveTypes}
-use Rattle.ms_good_laws.proofs.CallTypes.{CallsAs, calls_answer}
-use Rattle.ms_good_laws.proofs.ShadowSteps.{numbers_have}
-use Rattle.ms_moves.specs.Sources.{placed}
-use Rattle.ms_moves_laws.proofs.ResultMoves.{result_zero, first_place}
+use Rattle.ms_runs_good_laws.specs.GoodStates.{IsBelow, PoisonedBelow}
+use Rattle.ms_runs_good_laws.specs.Straight.{HaveTypes}
+use Rattle.ms_runs_good_laws.proofs.CallTypes.{CallsAs, calls_answer}
+use Rattle.ms_runs_good_laws.proofs.ShadowSteps.{numbers_have}
+use Rattle.ms_trail_moves.specs.Sources.{placed}
+use Rattle.ms_trail_laws.proofs.ResultMoves.{result_zero, first_place}
 use Rattle.ms_trail_uses.specs.Origins.{last_masked}
 use Rattle.ms_trail_uses.proofs.Asked.{last_placed}
 use Rattle.ms_trail.proofs.Outsides.{value_at, mask_at}

@@ -1,4 +1,4 @@
--- A follower behind an external that was answered.
+-- A follower after an external that was answered.
 use Rattle.std.proofs.Common.{◌≡◌, ◌<◌, ◌+◌, ◌%◌, ℕ, Bool, true, false, not, ◌&&◌, ◌||◌, eqb, List, [], ◌∷◌, ◌++◌, map, length, reverse, if◌then◌else◌, Option, Some, None, is_some, unwrap_or, Result, Ok, Err, refl, sym, ap, ◌∙◌, subst, append_assoc, append-nil}
 use Rattle.std.specs.Prelude.{slice_get}
 use Rattle.std.proofs.lemmas.Option.{same_Some}
@@ -38,22 +38,22 @@ use Rattle.ms_runs.specs.Poisoned.{Poisoned, clean}
 use Rattle.ms_runs.specs.Masks.{by_formulas, union, word_at, answer_mask, answer_origin, as_result, result_mask}
 use Rattle.ms_runs.specs.Uses.{blinded}
 use Rattle.ms_runs.specs.Shadow.{ShadowState, read_poisoned, planes, poisoned_result, shadow_reading, shadow_moved, shadow_act, shadow_step}
-use Rattle.ms_good_laws.specs.GoodStates.{PoisonedBelow}
-use Rattle.ms_good_laws.specs.Straight.{HaveTypes}
-use Rattle.ms_good_laws.proofs.CallTypes.{CallsAs, external_call}
-use Rattle.ms_good_laws.proofs.ThreadsApart.{none_due}
-use Rattle.ms_good_laws.proofs.Frames.{same_insts, read_all_have}
-use Rattle.ms_good_laws.proofs.Readings.{shadow_read}
-use Rattle.ms_good_laws.proofs.ShadowSteps.{numbers_have}
-use Rattle.ms_valid.specs.Valid.{Valid}
-use Rattle.ms_valid.proofs.NameTests.{name_same}
-use Rattle.ms_code.specs.declared.code.Source.{Source as Read_from}
-use Rattle.ms_code.specs.declared.code.Code.{Code}
-use Rattle.ms_code.specs.declared.code.Code.TheVariants as code
-use Rattle.ms_code.specs.Words.{words_of}
-use Rattle.ms_code.specs.Reads.{Holds, PutsResult}
-use Rattle.ms_code.specs.Encodes.{Where}
-use Rattle.ms_code.specs.Compiled.{where_is}
+use Rattle.ms_runs_good_laws.specs.GoodStates.{PoisonedBelow}
+use Rattle.ms_runs_good_laws.specs.Straight.{HaveTypes}
+use Rattle.ms_runs_good_laws.proofs.CallTypes.{CallsAs, external_call}
+use Rattle.ms_runs_good_laws.proofs.ThreadsApart.{none_due}
+use Rattle.ms_runs_good_laws.proofs.Frames.{same_insts, read_all_have}
+use Rattle.ms_runs_good_laws.proofs.Readings.{shadow_read}
+use Rattle.ms_runs_good_laws.proofs.ShadowSteps.{numbers_have}
+use Rattle.ms_check_valid.specs.Valid.{Valid}
+use Rattle.ms_check_valid.proofs.NameTests.{name_same}
+use Rattle.ms_machine_code.specs.declared.code.WordSource.{WordSource as Read_from}
+use Rattle.ms_machine_code.specs.declared.code.Code.{Code}
+use Rattle.ms_machine_code.specs.declared.code.Code.TheVariants as code
+use Rattle.ms_machine_code.specs.Words.{words_of}
+use Rattle.ms_machine_code.specs.Reads.{Holds, PutsResult}
+use Rattle.ms_machine_code.specs.Encodes.{Where}
+use Rattle.ms_machine_code.specs.Compiled.{where_is}
 use Rattle.ms_host.specs.declared.calls.Answer.TheVariants as answer
 use Rattle.ms_host.specs.declared.calls.Asked.TheVariants as asked
 use Rattle.ms_host.specs.Answers.{Answered, FitsFirst, asked_effect, resumed}
@@ -62,21 +62,21 @@ use Rattle.ms_machine_steps.specs.Waiting.{types_due}
 use Rattle.ms_machine_steps.specs.Advances.{step_of}
 use Rattle.ms_machine.specs.Running.{IsRunning}
 use Rattle.ms_runtime.proofs.Fitting.{fits_first}
-use Rattle.ms_follow_laws.specs.Follows.{light, fill_shadow, answer_shadow, external_shadow, callee_shadow, shadow_left, leave_shadow, step_shadow}
-use Rattle.ms_follow_laws.proofs.Light.{light_effect}
-use Rattle.ms_follow_laws.proofs.Planes.{planes_light, blind_shows}
-use Rattle.ms_moves.specs.declared.moves.Source.{Source}
-use Rattle.ms_moves.specs.declared.moves.Target.TheVariants.{Value}
-use Rattle.ms_moves.specs.declared.moves.Move.{Move}
-use Rattle.ms_moves.specs.Sources.{operand_source, sources, source_at, placed, result_source}
-use Rattle.ms_moves.specs.Written.{callee_written, external_written, written}
-use Rattle.ms_moves.specs.Events.{innermost, result_move, return_move, param_moves, phi_moves, memory_moves, callee_moves, inst_moves, event_moves}
-use Rattle.ms_moves.specs.Traces.{Traced}
-use Rattle.ms_shades.specs.Shades.{masks_of}
-use Rattle.ms_shades.proofs.Reading.{read_masks}
-use Rattle.ms_trail.specs.declared.follower.Follower.{Follower}
-use Rattle.ms_trail_uses.specs.declared.shades.Shade.{Shade}
-use Rattle.ms_trail_uses.specs.declared.tables.Row.{Row}
+use Rattle.ms_runs_laws.specs.Follows.{light, fill_shadow, answer_shadow, external_shadow, callee_shadow, shadow_left, leave_shadow, step_shadow}
+use Rattle.ms_runs_laws.proofs.FollowedParts.{light_effect}
+use Rattle.ms_runs_laws.proofs.FollowedPlanes.{planes_light, blind_shows}
+use Rattle.ms_trail_moves.specs.declared.moves.Source.{Source}
+use Rattle.ms_trail_moves.specs.declared.moves.Target.TheVariants.{Value}
+use Rattle.ms_trail_moves.specs.declared.moves.Move.{Move}
+use Rattle.ms_trail_moves.specs.Sources.{operand_source, sources, source_at, placed, result_source}
+use Rattle.ms_trail_moves.specs.Written.{callee_written, external_written, written}
+use Rattle.ms_trail_moves.specs.Events.{innermost, result_move, return_move, param_moves, phi_moves, memory_moves, callee_moves, inst_moves, event_moves}
+use Rattle.ms_trail_moves.specs.Traces.{Traced}
+use Rattle.ms_trail_masks.specs.Shades.{masks_of}
+use Rattle.ms_trail_masks.proofs.Reading.{read_masks}
+use Rattle.ms_trail.specs.declared.traced_run.TracedRun.{TracedRun}
+use Rattle.ms_trail_uses.specs.declared.frame_masks.FrameMasks.{FrameMasks}
+use Rattle.ms_trail_uses.specs.declared.tables.InstRow.{InstRow}
 use Rattle.ms_trail.specs.Calling.{answer_told, noted_masks, returned_told}
 use Rattle.ms_trail_uses.specs.Due.{IsDue}
 use Rattle.ms_trail.specs.Following.{HasShade, HaveShades, Passes, Went, IsFollowed}
@@ -180,13 +180,13 @@ shadow_good PthreadCreate ps before v w a n = cleaned_good (word_at 0 ps).value 
 shadow_good PthreadJoin ps before v w a n = joined_good (word_at 1 ps).value (word_at 0 ps).value v w a n
 shadow_good e ps before v w a n = refl
 
--- ---- the frame behind a call
+-- ---- the frame after a call
 
-abbrev pub behind : Inst → Frame Poisoned → (ℕ → World → Poisoned) → Option ℕ → World → Frame Poisoned
-behind i fr lift (Some v) w = put fr i.result (lift v w)
-behind i fr lift None w = one_on fr
+abbrev pub later : Inst → Frame Poisoned → (ℕ → World → Poisoned) → Option ℕ → World → Frame Poisoned
+later i fr lift (Some v) w = put fr i.result (lift v w)
+later i fr lift None w = one_on fr
 
-shade_put : (m : Module) (number : ℕ) (fr : Frame Poisoned) (r : Option Name) (w : Poisoned) (shade : Shade) (func : Func) → func_at m fr.func ≡ Some func → shade.number ≡ number
+shade_put : (m : Module) (number : ℕ) (fr : Frame Poisoned) (r : Option Name) (w : Poisoned) (shade : FrameMasks) (func : Func) → func_at m fr.func ≡ Some func → shade.number ≡ number
     → Holds (locals func) shade.masks.items (λ x. ((put fr r w).values x).mask) → HasShade m number (put fr r w) shade
 shade_put m number fr None w shade func at numbered holds = record { func = func; is = at; numbered = numbered; masks = holds }
 shade_put m number fr (Some x) w shade func at numbered holds = record { func = func; is = at; numbered = numbered; masks = holds }
@@ -247,7 +247,7 @@ outside_moves s m event i from to fr below w next after ret callee args e is non
 
 -- ---- a call of an external
 
-module _ (m : Module) (u : Setup) (t : Traced) (old : Follower) (o : IsFollowed m u t old) (k : Code) (passes : Passes m u t) (due : IsDue m old.fiber old.world k) (valid : Valid m) (e : External) (args : List Read_from) (to : Option ℕ)
+module _ (m : Module) (u : Setup) (t : Traced) (old : TracedRun) (o : IsFollowed m u t old) (k : Code) (passes : Passes m u t) (due : IsDue m old.fiber old.world k) (valid : Valid m) (e : External) (args : List Read_from) (to : Option ℕ)
     (is_call : k ≡ code.External e args to) where
   abbrev d : DueNow m u t old o k
   d = due_now m u t old o k passes due
@@ -374,15 +374,15 @@ module _ (m : Module) (u : Setup) (t : Traced) (old : Follower) (o : IsFollowed 
       abbrev v : ℕ
       v = unwrap_or value 0
 
-      state : record { frames = behind i fr lift value second.world ∷ d.below; world = planes s h.site own i.op ps counted v second.world } ≡ c
+      state : record { frames = later i fr lift value second.world ∷ d.below; world = planes s h.site own i.op ps counted v second.world } ≡ c
       state = by_value value second.world second.is
         where
-          by_value : (q : Option ℕ) (w : World) → act s h i.op vs counted ≡ resumed q w → record { frames = behind i fr lift q w ∷ d.below; world = planes s h.site own i.op ps counted (unwrap_or q 0) w } ≡ c
+          by_value : (q : Option ℕ) (w : World) → act s h i.op vs counted ≡ resumed q w → record { frames = later i fr lift q w ∷ d.below; world = planes s h.site own i.op ps counted (unwrap_or q 0) w } ≡ c
           by_value (Some n) w is = gives_state s m h.site i.result ps lift (planes s h.site own i.op ps counted) fr d.below c i.op (act s h i.op vs counted) on n w
               (keeps_none i.op (λ k. ap (λ (y : Op). local_block y k) calls) (Gives n w) fr) is
           by_value None w is = does_state s m h.site i.result ps lift (planes s h.site own i.op ps counted) fr d.below c i.op (act s h i.op vs counted) on w is
 
-      frames : c.frames ≡ behind i fr lift value second.world ∷ d.below
+      frames : c.frames ≡ later i fr lift value second.world ∷ d.below
       frames = sym (ap (λ (x : ShadowState). x.frames) state)
 
       -- the shadow that it leaves
@@ -399,7 +399,7 @@ module _ (m : Module) (u : Setup) (t : Traced) (old : Follower) (o : IsFollowed 
       light_left : light left ≡ light c.world
       light_left = sym (ap light (step_is next.world)) ∙ (gone m u t old o k passes due next took).1.2
 
-      -- what is good behind it
+      -- what is good after it
       good_same : (a n : ℕ) → is_good next.world a n ≡ is_good first.world a n
       good_same a n =
           sym (shadow_good e ps t.state.world v next.world a n)
@@ -425,7 +425,7 @@ module _ (m : Module) (u : Setup) (t : Traced) (old : Follower) (o : IsFollowed 
       pub had : (base size : ℕ) → base ≡ (word_at 0 ps).value → size ≡ unwrap_or (heap_size o.state.world base) 0 → size ≡ unwrap_or (heap_size t.state.world (word_at 0 ps).value) 0
       had base size is are = are ∙ ap (λ (w : World). unwrap_or (heap_size w base) 0) o.follows.world ∙ ap (λ b. unwrap_or (heap_size t.state.world b) 0) is
 
-      module _ (new : Follower) (w : WorldState) (running : IsRunning m u nothing_beside new.fiber w next) (slots : Keeps w new.world) (mask from : ℕ) (row : Row) (stands : slice_get old.tables.rows.items old.fiber.frame.at ≡ Some row)
+      module _ (new : TracedRun) (w : WorldState) (running : IsRunning m u nothing_beside new.fiber w next) (slots : Keeps w new.world) (mask from : ℕ) (row : InstRow) (stands : slice_get old.tables.rows.items old.fiber.frame.at ≡ Some row)
           (site_is : (v : Setup) (beside : Beside) (state : PlainState) (frame : Frame ℕ) (below : List (Frame ℕ)) → IsRunning m v beside old.fiber old.world state → state.frames ≡ frame ∷ below → site ≡ site_at m frame.func frame.block frame.place)
           (keeps : KeepsCalls old new) (event : new.event ≡ old.event + 1) (number : new.shade.number ≡ old.shade.number) (masks : new.shade.masks.items ≡ noted_masks to value mask old.shade.masks.items)
           (mask_is : mask ≡ answer_mask (Some e) ps) (from_is : from ≡ last_masked 0 (map (λ p. p.mask) ps) 0)
@@ -449,11 +449,11 @@ module _ (m : Module) (u : Setup) (t : Traced) (old : Follower) (o : IsFollowed 
             subst (λ (f : Func). PutsResult (locals f) to i.result) (same_Some d.coded.func (its m u t old o k passes due next took).shade_is.func (sym d.coded.is ∙ (its m u t old o k passes due next took).shade_is.is))
             (enc m u t old o k passes due e args to is_call).3.4
 
-        shade : HasShade m (its m u t old o k passes due next took).number (behind i fr lift value second.world) new.shade
+        shade : HasShade m (its m u t old o k passes due next took).number (later i fr lift value second.world) new.shade
         shade = by_value value masks same_mask
           where
             by_value : (q : Option ℕ) → new.shade.masks.items ≡ noted_masks to q mask old.shade.masks.items → mask ≡ (lift (unwrap_or q 0) second.world).mask
-                → HasShade m (its m u t old o k passes due next took).number (behind i fr lift q second.world) new.shade
+                → HasShade m (its m u t old o k passes due next took).number (later i fr lift q second.world) new.shade
             by_value (Some n) are same =
                 let top = (its m u t old o k passes due next took).shade_is in
                 shade_put m (its m u t old o k passes due next took).number fr i.result (lift n second.world) new.shade top.func top.is (number ∙ top.numbered)
@@ -473,11 +473,11 @@ module _ (m : Module) (u : Setup) (t : Traced) (old : Follower) (o : IsFollowed 
         all : HaveShades m ((its m u t old o k passes due next took).number ∷ (its m u t old o k passes due next took).numbers) c.frames (new.shade ∷ reverse new.below.items)
         all =
             subst (λ (fs : List (Frame Poisoned)). HaveShades m ((its m u t old o k passes due next took).number ∷ (its m u t old o k passes due next took).numbers) fs (new.shade ∷ reverse new.below.items)) (sym frames)
-            (shade, subst (λ (bs : List Shade). HaveShades m (its m u t old o k passes due next took).numbers d.below (reverse bs)) (sym keeps.below) (its m u t old o k passes due next took).lower)
+            (shade, subst (λ (bs : List FrameMasks). HaveShades m (its m u t old o k passes due next took).numbers d.below (reverse bs)) (sym keeps.below) (its m u t old o k passes due next took).lower)
 
         -- its moves
         abbrev result_moves : List Move
-        result_moves = result_move t.events h.site frame_number i.result (behind i fr lift value second.world).values (result_source i.op ps ss t.state.world)
+        result_moves = result_move t.events h.site frame_number i.result (later i fr lift value second.world).values (result_source i.op ps ss t.state.world)
 
         abbrev memory : List Move
         memory = memory_moves t.events h.site c.world.shadow (written s own i.op ps ss t.state.world c.world)
@@ -501,7 +501,7 @@ module _ (m : Module) (u : Setup) (t : Traced) (old : Follower) (o : IsFollowed 
                 ap (λ j. source_at j ss) (from_is ∙ sym (answer_place f n ps) ∙ ap (λ (x : External). answer_origin (Some x) (placed 0 ps)) (sym is_word) ∙ ap (λ (q : Option External). answer_origin q (placed 0 ps)) (sym found))
                 ∙ sym (ap (λ (x : Op). result_source x ps ss t.state.world) calls)
 
-            by_value : (q : Option ℕ) → q ≡ Some given_word.0 → answer_told t.events h.site frame_number q i.result mask (source_at from ss) ≡ result_move t.events h.site frame_number i.result (behind i fr lift q second.world).values (result_source i.op ps ss t.state.world)
+            by_value : (q : Option ℕ) → q ≡ Some given_word.0 → answer_told t.events h.site frame_number q i.result mask (source_at from ss) ≡ result_move t.events h.site frame_number i.result (later i fr lift q second.world).values (result_source i.op ps ss t.state.world)
             by_value (Some x) is_some = put_told t.events h.site frame_number fr i.result (lift x second.world) mask (source_at from ss) (result_source i.op ps ss t.state.world) (mask_is ∙ sym (mask_of_result second.world)) come
             by_value None is_some = absurd (cc)
 
@@ -518,8 +518,8 @@ module _ (m : Module) (u : Setup) (t : Traced) (old : Follower) (o : IsFollowed 
         moves_are =
             told_by e told result_moves mem memory (λ f n is_word. (word_told f n is_word, word_mem f n is_word))
             (λ no. (clean_told t.events h.site frame_number value i.result mask (source_at from ss) (mask_is ∙ answer_clean e ps no), other_mem))
-            ∙ sym (outside_moves s m t.events i frame_number frame_number fr d.below t.state.world (behind i fr lift value second.world) c.world ret callee typed e calls none named)
-            ∙ sym (moves_at s m t.state fr d.below d.first i d.coded.rest d.coded.due t.events t.numbers t.numbers c (behind i fr lift value second.world) d.below frames)
+            ∙ sym (outside_moves s m t.events i frame_number frame_number fr d.below t.state.world (later i fr lift value second.world) c.world ret callee typed e calls none named)
+            ∙ sym (moves_at s m t.state fr d.below d.first i d.coded.rest d.coded.due t.events t.numbers t.numbers c (later i fr lift value second.world) d.below frames)
 
         inst_same : row.inst.now ≡ i
         inst_same = inst_is m u t old o k passes due next took row stands

@@ -1,4 +1,4 @@
--- A follower behind a call.
+-- A follower after a call.
 use Rattle.std.proofs.Common.{◌≡◌, ◌≤◌, ◌<◌, ◌+◌, ◌-◌, ◌^◌, ℕ, zero, suc, Bool, true, false, List, [], ◌∷◌, ◌++◌, map, drop, length, reverse, get_or, replicate, flat_map, if◌then◌else◌, Option, Some, None, option_map, unwrap_or, refl, sym, ap, ◌∙◌, subst, arith, append_assoc, append-nil}
 use Rattle.std.specs.Prelude.{slice_get, is_some}
 use Rattle.std.proofs.lemmas.Bool.{lt-ltb}
@@ -28,37 +28,37 @@ use Rattle.ms_runs.specs.Poisoned.{Poisoned, clean}
 use Rattle.ms_runs.specs.Masks.{by_formulas, word_at}
 use Rattle.ms_runs.specs.Uses.{blinded, flagged_words, has_true_flag}
 use Rattle.ms_runs.specs.Shadow.{ShadowState, read_poisoned, shadow_reading, planes, poisoned_result}
-use Rattle.ms_good_laws.proofs.Frames.{same_insts}
-use Rattle.ms_good_laws.proofs.Counted.{counted_within}
-use Rattle.ms_good_laws.proofs.CallTypes.{func_found, fitted_call, args_widths, defined_call}
-use Rattle.ms_valid.specs.Formed.{Formed, count_written}
-use Rattle.ms_valid.specs.Paths.{insts_of}
-use Rattle.ms_valid.specs.Valid.{Valid}
-use Rattle.ms_code.specs.declared.code.Source.{Source}
-use Rattle.ms_code.specs.declared.code.Code.{Code}
-use Rattle.ms_code.specs.declared.code.Code.TheVariants as code
-use Rattle.ms_code.specs.Reads.{Holds}
-use Rattle.ms_code.specs.Encodes.{Where, Encodes}
-use Rattle.ms_code.specs.Compiled.{where_is}
+use Rattle.ms_runs_good_laws.proofs.Frames.{same_insts}
+use Rattle.ms_runs_good_laws.proofs.Counted.{counted_within}
+use Rattle.ms_runs_good_laws.proofs.CallTypes.{func_found, fitted_call, args_widths, defined_call}
+use Rattle.ms_check_valid.specs.Formed.{Formed, count_written}
+use Rattle.ms_check_valid.specs.Paths.{insts_of}
+use Rattle.ms_check_valid.specs.Valid.{Valid}
+use Rattle.ms_machine_code.specs.declared.code.WordSource.{WordSource}
+use Rattle.ms_machine_code.specs.declared.code.Code.{Code}
+use Rattle.ms_machine_code.specs.declared.code.Code.TheVariants as code
+use Rattle.ms_machine_code.specs.Reads.{Holds}
+use Rattle.ms_machine_code.specs.Encodes.{Where, Encodes}
+use Rattle.ms_machine_code.specs.Compiled.{where_is}
 use Rattle.ms_host.specs.State.{WorldState, Beside, nothing_beside}
 use Rattle.ms_machine_frames.specs.declared.fibers.Fiber.{Fiber}
 use Rattle.ms_machine_steps.specs.Advances.{step_of}
 use Rattle.ms_machine_frames.proofs.Calls.{zero_at, bind_holds, params_length}
 use Rattle.ms_machine.specs.Running.{StandsFor, AllStandFor, IsRunning}
-use Rattle.ms_follow_laws.specs.Follows.{light, bare_frame}
-use Rattle.ms_moves.specs.declared.moves.Source.{Source as From}
-use Rattle.ms_moves.specs.declared.moves.Target.TheVariants.{Value}
-use Rattle.ms_moves.specs.declared.moves.Move.{Move}
-use Rattle.ms_moves.specs.Sources.{operand_source, sources, source_at, result_source}
-use Rattle.ms_moves.specs.Written.{written}
-use Rattle.ms_moves.specs.Events.{Numbers, renumbered, innermost, result_move, return_move, param_moves, phi_moves, memory_moves, callee_moves, inst_moves, event_moves}
-use Rattle.ms_moves.specs.Traces.{Traced}
-use Rattle.ms_shades.specs.Shades.{masks_of}
-use Rattle.ms_shades.proofs.Reading.{read_masks}
-use Rattle.ms_trail.specs.declared.follower.Follower.{Follower}
+use Rattle.ms_runs_laws.specs.Follows.{light, bare_frame}
+use Rattle.ms_trail_moves.specs.declared.moves.Source.{Source as From}
+use Rattle.ms_trail_moves.specs.declared.moves.Target.TheVariants.{Value}
+use Rattle.ms_trail_moves.specs.declared.moves.Move.{Move}
+use Rattle.ms_trail_moves.specs.Sources.{operand_source, sources, source_at, result_source}
+use Rattle.ms_trail_moves.specs.Written.{written}
+use Rattle.ms_trail_moves.specs.Events.{Numbers, renumbered, innermost, result_move, return_move, param_moves, phi_moves, memory_moves, callee_moves, inst_moves, event_moves}
+use Rattle.ms_trail_moves.specs.Traces.{Traced}
+use Rattle.ms_trail_masks.specs.Shades.{masks_of}
+use Rattle.ms_trail_masks.proofs.Reading.{read_masks}
+use Rattle.ms_trail.specs.declared.traced_run.TracedRun.{TracedRun}
 use Rattle.ms_trail_bytes.specs.declared.logs.Log.{Log}
-use Rattle.ms_trail_uses.specs.declared.shades.Shade.{Shade}
-use Rattle.ms_trail_uses.specs.declared.tables.Row.{Row}
+use Rattle.ms_trail_uses.specs.declared.frame_masks.FrameMasks.{FrameMasks}
+use Rattle.ms_trail_uses.specs.declared.tables.InstRow.{InstRow}
 use Rattle.ms_trail.specs.Calling.{params_told}
 use Rattle.ms_trail_bytes.specs.Logs.{IsLog}
 use Rattle.ms_trail_uses.specs.Due.{IsDue}
@@ -68,7 +68,7 @@ use Rattle.ms_trail.proofs.ResultSteps.{TopShade, shades_count}
 use Rattle.ms_trail.proofs.DueCode.{DueNow, holds_now}
 use Rattle.ms_trail.proofs.Onward.{KeepsRest, onward, enters_state, moves_at}
 use Rattle.ms_trail.proofs.Writing.{now, gone, its, number_is, shade_is, on, site_same, inst_is, roots_are}
-use Rattle.ms_compile.proofs.Building.{drop-zero}
+use Rattle.ms_machine_compile.proofs.Building.{drop-zero}
 
 -- ---- telling the arguments, one after the other
 
@@ -183,8 +183,8 @@ call_moves s m event i from to fr below w next after ret callee args f is found 
 
 -- ---- a step that enters a function
 
-module _ (m : Module) (u : Setup) (t : Traced) (old : Follower) (o : IsFollowed m u t old) (k : Code) (passes : Passes m u t) (due : IsDue m old.fiber old.world k) (next : PlainState) (took : step_of m u o.state ≡ More next)
-    (formed : Formed m) (valid : Valid m) (f : ℕ) (args : List Source) (to : Option ℕ) (is_call : k ≡ code.Call f args to) where
+module _ (m : Module) (u : Setup) (t : Traced) (old : TracedRun) (o : IsFollowed m u t old) (k : Code) (passes : Passes m u t) (due : IsDue m old.fiber old.world k) (next : PlainState) (took : step_of m u o.state ≡ More next)
+    (formed : Formed m) (valid : Valid m) (f : ℕ) (args : List WordSource) (to : Option ℕ) (is_call : k ≡ code.Call f args to) where
   abbrev d : DueNow m u t old o k
   d = now m u t old o k passes due next took
 
@@ -327,8 +327,8 @@ module _ (m : Module) (u : Setup) (t : Traced) (old : Follower) (o : IsFollowed 
           let same : length callee'.params ≡ length g.params = ap (λ (q : Func). length q.params) callee_is in
           omega (arith, sum, same, masks_many)
 
-      module _ (new : Follower) (fiber_is : new.fiber ≡ fiber) (world_is : new.world ≡ world) (keeps : KeepsRest old new) (below : new.below.items ≡ old.below.items ++ old.shade ∷ []) (made : new.made ≡ old.made + 1) (event : new.event ≡ old.event + 1)
-          (shade : new.shade.masks.items ≡ masks) (number : new.shade.number ≡ old.made) (row : Row) (stands : slice_get old.tables.rows.items old.fiber.frame.at ≡ Some row) (site : ℕ)
+      module _ (new : TracedRun) (fiber_is : new.fiber ≡ fiber) (world_is : new.world ≡ world) (keeps : KeepsRest old new) (below : new.below.items ≡ old.below.items ++ old.shade ∷ []) (made : new.made ≡ old.made + 1) (event : new.event ≡ old.event + 1)
+          (shade : new.shade.masks.items ≡ masks) (number : new.shade.number ≡ old.made) (row : InstRow) (stands : slice_get old.tables.rows.items old.fiber.frame.at ≡ Some row) (site : ℕ)
           (sited : (v : Setup) (beside : Beside) (state : PlainState) (frame : Frame ℕ) (below : List (Frame ℕ)) → IsRunning m v beside old.fiber old.world state → state.frames ≡ frame ∷ below → site ≡ site_at m frame.func frame.block frame.place)
           (told : IsLog new.log (t.moves ++ params_told old.event site old.made callee'.params masks (sources old.shade.number (operands row.inst.now.op) row.roots) 0)) where
         pub call_on : Went m u t true new
@@ -362,7 +362,7 @@ module _ (m : Module) (u : Setup) (t : Traced) (old : Follower) (o : IsFollowed 
             let lower : HaveShades m t.numbers.standing (fr ∷ d.below) (old.shade ∷ reverse old.below.items) = subst (λ (fs : List (Frame Poisoned)). HaveShades m t.numbers.standing fs (old.shade ∷ reverse old.below.items)) d.first o.shades in
             let order : reverse new.below.items ≡ old.shade ∷ reverse old.below.items = ap reverse below ∙ reverse-append old.below.items (old.shade ∷ []) in
             let all : HaveShades m ns.standing c.frames (new.shade ∷ reverse new.below.items) =
-            subst (λ (ss : List Shade). HaveShades m ns.standing c.frames (new.shade ∷ ss)) (sym order) (subst (λ (fs : List (Frame Poisoned)). HaveShades m ns.standing fs (new.shade ∷ old.shade ∷ reverse old.below.items)) (sym frames) (first, lower))
+            subst (λ (ss : List FrameMasks). HaveShades m ns.standing c.frames (new.shade ∷ ss)) (sym order) (subst (λ (fs : List (Frame Poisoned)). HaveShades m ns.standing fs (new.shade ∷ old.shade ∷ reverse old.below.items)) (sym frames) (first, lower))
             in
             let from_is : innermost t.numbers.standing ≡ old.shade.number = number_is m u t old o k passes due next took in
             let ss_many : length ps ≡ length (sources (innermost t.numbers.standing) (operands i.op) h.root) =

@@ -16,23 +16,23 @@ use Rattle.ms_runs.specs.Plain.{PlainState, setting_of}
 use Rattle.ms_runs.specs.Poisoned.{Poisoned}
 use Rattle.ms_runs.specs.Masks.{result_origin}
 use Rattle.ms_runs.specs.Shadow.{read_poisoned}
-use Rattle.ms_code.specs.declared.code.Code.{Code}
-use Rattle.ms_code.specs.declared.code.Code.TheVariants as code
-use Rattle.ms_code.specs.Reads.{IsPlace}
-use Rattle.ms_code.specs.Encodes.{Where, Encodes}
-use Rattle.ms_code.specs.Compiled.{where_is}
+use Rattle.ms_machine_code.specs.declared.code.Code.{Code}
+use Rattle.ms_machine_code.specs.declared.code.Code.TheVariants as code
+use Rattle.ms_machine_code.specs.Reads.{IsPlace}
+use Rattle.ms_machine_code.specs.Encodes.{Where, Encodes}
+use Rattle.ms_machine_code.specs.Compiled.{where_is}
 use Rattle.ms_host.specs.State.{WorldState, Beside, nothing_beside}
 use Rattle.ms_machine_frames.specs.declared.fibers.Fiber.{Fiber}
 use Rattle.ms_machine.specs.Running.{IsRunning}
-use Rattle.ms_follow_laws.specs.Follows.{bare_frame}
-use Rattle.ms_moves.specs.declared.moves.Source.{Source}
-use Rattle.ms_moves.specs.declared.moves.Target.TheVariants.{Value}
-use Rattle.ms_moves.specs.declared.moves.Move.{Move}
-use Rattle.ms_moves.specs.Sources.{sources, source_at, placed, result_source}
-use Rattle.ms_moves.specs.Traces.{Traced}
-use Rattle.ms_shades.specs.Results.{IsComputed, IsMask}
-use Rattle.ms_trail.specs.declared.follower.Follower.{Follower}
-use Rattle.ms_trail_uses.specs.declared.tables.Row.{Row}
+use Rattle.ms_runs_laws.specs.Follows.{bare_frame}
+use Rattle.ms_trail_moves.specs.declared.moves.Source.{Source}
+use Rattle.ms_trail_moves.specs.declared.moves.Target.TheVariants.{Value}
+use Rattle.ms_trail_moves.specs.declared.moves.Move.{Move}
+use Rattle.ms_trail_moves.specs.Sources.{sources, source_at, placed, result_source}
+use Rattle.ms_trail_moves.specs.Traces.{Traced}
+use Rattle.ms_trail_masks.specs.Results.{IsComputed, IsMask}
+use Rattle.ms_trail.specs.declared.traced_run.TracedRun.{TracedRun}
+use Rattle.ms_trail_uses.specs.declared.tables.InstRow.{InstRow}
 use Rattle.ms_trail_bytes.specs.Logs.{IsLog}
 use Rattle.ms_trail.specs.Telling.{masked_move}
 use Rattle.ms_trail_uses.specs.Tabled.{HasRow}
@@ -78,7 +78,7 @@ source_is n at k inst fits e ps ss w = by_code k fits e
     by_code (code.Gep base offset strides to) fits (t, p, indices, (is, based, reads, sums, res)) = by_op _ is refl
     by_code j fits e = absurd fits
 
-module _ (m : Module) (u : Setup) (t : Traced) (old : Follower) (o : IsFollowed m u t old) (k : Code) (passes : Passes m u t) (due : IsDue m old.fiber old.world k) where
+module _ (m : Module) (u : Setup) (t : Traced) (old : TracedRun) (o : IsFollowed m u t old) (k : Code) (passes : Passes m u t) (due : IsDue m old.fiber old.world k) where
   pub now : DueNow m u t old o k
   now = due_now m u t old o k passes due
 
@@ -89,7 +89,7 @@ module _ (m : Module) (u : Setup) (t : Traced) (old : Follower) (o : IsFollowed 
       ends (setting_of m u) m o.bare t.state o.state o.follows d.frame d.below d.first d.coded.inst d.coded.rest d.coded.due d.passes e last stop
 
   -- it goes on
-  module _ (n to mask place site : ℕ) (row : Row) (new : Follower) (stepped : stepping.Stepped m u nothing_beside o.state true new.fiber new.world) (fits : IsComputed n k) (sets : sets_at k ≡ Some to)
+  module _ (n to mask place site : ℕ) (row : InstRow) (new : TracedRun) (stepped : stepping.Stepped m u nothing_beside o.state true new.fiber new.world) (fits : IsComputed n k) (sets : sets_at k ≡ Some to)
       (stands : slice_get old.tables.rows.items old.fiber.frame.at ≡ Some row) (is_mask : IsMask old.fill.now old.fiber.frame.values.items old.shade.masks.items k mask)
       (is_place : mask ≢ 0 → place ≡ place_read old.fill.now old.fiber.frame.values.items old.shade.masks.items row.inst.now.op k) (keeps : KeepsCalls old new) (event : new.event ≡ old.event + 1)
       (masks : new.shade.masks.items ≡ set old.shade.masks.items to mask) (number : new.shade.number ≡ old.shade.number)
@@ -107,8 +107,8 @@ module _ (m : Module) (u : Setup) (t : Traced) (old : Follower) (o : IsFollowed 
         let shade = (top m u t old o d.frame d.below d.first i d.coded.rest d.coded.due).shade_is in
         let listed : HasRow m old.tables.rows.items d.frame.func d.frame.block d.frame.place i = o.tables d.frame.func d.frame.block d.frame.place i d.coded.item in
         let same : row ≡ listed.row = same_Some row listed.row (sym stands ∙ ap (slice_get old.tables.rows.items) d.stands.at ∙ listed.stands) in
-        let inst_is : row.inst.now ≡ i = ap (λ (r : Row). r.inst.now) same ∙ listed.is.inst_is in
-        let roots : row.roots ≡ root = ap (λ (r : Row). r.roots) same ∙ listed.is.roots in
+        let inst_is : row.inst.now ≡ i = ap (λ (r : InstRow). r.inst.now) same ∙ listed.is.inst_is in
+        let roots : row.roots ≡ root = ap (λ (r : InstRow). r.roots) same ∙ listed.is.roots in
         let res = result_is at k i to sets d.coded.encodes in
         let x = res.0 in
         let placed_at : IsPlace (locals shade.func) to x = subst (λ (g : Func). IsPlace (locals g) to x) (same_Some d.coded.func shade.func (sym d.coded.is ∙ shade.is)) res.1.1 in

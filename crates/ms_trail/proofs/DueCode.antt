@@ -13,15 +13,15 @@ use Rattle.ms_runs.specs.Plain.{PlainState, setting_of}
 use Rattle.ms_runs.specs.Poisoned.{Poisoned}
 use Rattle.ms_runs.specs.Uses.{uses, check_uses}
 use Rattle.ms_runs.specs.Shadow.{read_poisoned}
-use Rattle.ms_valid.specs.Formed.{Formed}
-use Rattle.ms_valid.specs.Valid.{Valid}
-use Rattle.ms_code.specs.declared.code.Code.{Code}
-use Rattle.ms_code.specs.declared.code.Code.TheVariants as code
-use Rattle.ms_code.specs.declared.code.Program.{Program}
-use Rattle.ms_code.specs.declared.code.Site.{Site}
-use Rattle.ms_code.specs.Reads.{Holds, IsResult}
-use Rattle.ms_code.specs.Encodes.{Where, Encodes}
-use Rattle.ms_code.specs.Compiled.{Compiled}
+use Rattle.ms_check_valid.specs.Formed.{Formed}
+use Rattle.ms_check_valid.specs.Valid.{Valid}
+use Rattle.ms_machine_code.specs.declared.code.Code.{Code}
+use Rattle.ms_machine_code.specs.declared.code.Code.TheVariants as code
+use Rattle.ms_machine_code.specs.declared.code.Program.{Program}
+use Rattle.ms_machine_code.specs.declared.code.Site.{Site}
+use Rattle.ms_machine_code.specs.Reads.{Holds, IsResult}
+use Rattle.ms_machine_code.specs.Encodes.{Where, Encodes}
+use Rattle.ms_machine_code.specs.Compiled.{Compiled}
 use Rattle.ms_host.specs.State.{WorldState, Beside, nothing_beside}
 use Rattle.ms_machine_frames.specs.declared.fibers.Fiber.{Fiber}
 use Rattle.ms_machine_frames.specs.Standing.{IsState}
@@ -29,11 +29,11 @@ use Rattle.ms_machine_steps.proofs.Due.{site_is}
 use Rattle.ms_machine_steps.proofs.Loops.{first, due, encodes, fits, at_code, at_site}
 use Rattle.ms_machine.specs.Running.{StandsFor, AllStandFor, IsRunning, Runs}
 use Rattle.ms_machine.proofs.Programs.{state_to}
-use Rattle.ms_follow_laws.specs.Follows.{bare_frame, words}
-use Rattle.ms_moves.specs.Traces.{Traced}
-use Rattle.ms_shades.specs.Shades.{HoldsShades}
-use Rattle.ms_shades.specs.Results.{IsComputed}
-use Rattle.ms_trail.specs.declared.follower.Follower.{Follower}
+use Rattle.ms_runs_laws.specs.Follows.{bare_frame, words}
+use Rattle.ms_trail_moves.specs.Traces.{Traced}
+use Rattle.ms_trail_masks.specs.Shades.{HoldsShades}
+use Rattle.ms_trail_masks.specs.Results.{IsComputed}
+use Rattle.ms_trail.specs.declared.traced_run.TracedRun.{TracedRun}
 use Rattle.ms_trail_uses.specs.Due.{HasCode, IsDue, sets_at}
 use Rattle.ms_trail.specs.Ready.{FitsHere}
 use Rattle.ms_trail.specs.Following.{InstPasses, FramesPass, Passes, IsFollowed}
@@ -84,7 +84,7 @@ due_site m p formed valid compiled fiber w s found u beside state frame below ru
     own ∙ ap (λ (f : Frame ℕ). site_at m f.func f.block f.place) (first_same top.frame frame top.below below (sym top.is ∙ frames))
 
 -- the instruction that is due, of a follower whose checks pass
-pub record DueNow (m : Module) (u : Setup) (t : Traced) (f : Follower) (o : IsFollowed m u t f) (made : Code) : Type 0 where
+pub record DueNow (m : Module) (u : Setup) (t : Traced) (f : TracedRun) (o : IsFollowed m u t f) (made : Code) : Type 0 where
   pub frame : Frame Poisoned
   pub below : List (Frame Poisoned)
   pub first : t.state.frames ≡ frame ∷ below
@@ -94,7 +94,7 @@ pub record DueNow (m : Module) (u : Setup) (t : Traced) (f : Follower) (o : IsFo
       ≡ Does t.state.world
   pub stands : StandsFor m f.fiber.frame (bare_frame frame)
 
-pub due_now : (m : Module) (u : Setup) (t : Traced) (f : Follower) (o : IsFollowed m u t f) (made : Code) → Passes m u t → IsDue m f.fiber f.world made → DueNow m u t f o made
+pub due_now : (m : Module) (u : Setup) (t : Traced) (f : TracedRun) (o : IsFollowed m u t f) (made : Code) → Passes m u t → IsDue m f.fiber f.world made → DueNow m u t f o made
 due_now m u t f o made passes due = by_frames t.state.frames refl passes
   where
     by_frames : (fs : List (Frame Poisoned)) → t.state.frames ≡ fs → FramesPass (setting_of m u) m fs t.state.world → DueNow m u t f o made
@@ -112,7 +112,7 @@ due_now m u t f o made passes due = by_frames t.state.frames refl passes
         }
 
 -- values and masks of the frame stand by number
-pub holds_now : (m : Module) (u : Setup) (t : Traced) (f : Follower) (o : IsFollowed m u t f) (made : Code) (d : DueNow m u t f o made)
+pub holds_now : (m : Module) (u : Setup) (t : Traced) (f : TracedRun) (o : IsFollowed m u t f) (made : Code) (d : DueNow m u t f o made)
     → HoldsShades (locals d.coded.func) f.fiber.frame.values.items f.shade.masks.items d.frame.values
 holds_now m u t f o made d =
     let shade = (top m u t f o d.frame d.below d.first d.coded.inst d.coded.rest d.coded.due).shade_is in record {

@@ -23,25 +23,25 @@ use Rattle.ms_runs.specs.Plain.{setting_of}
 use Rattle.ms_runs.specs.Poisoned.{Poisoned}
 use Rattle.ms_runs.specs.Uses.{uses, check_uses}
 use Rattle.ms_runs.specs.Shadow.{read_poisoned}
-use Rattle.ms_good_laws.proofs.Frames.{unmarked_at}
-use Rattle.ms_compile.proofs.Widths.{wider}
-use Rattle.ms_code.specs.declared.code.Routine.{Routine}
-use Rattle.ms_code.specs.declared.code.Code.{Code}
-use Rattle.ms_code.specs.declared.code.Code.TheVariants as code
-use Rattle.ms_code.specs.Fits.{Fits}
-use Rattle.ms_code.specs.Reads.{Holds}
-use Rattle.ms_code.specs.Compiled.{where_is}
+use Rattle.ms_runs_good_laws.proofs.Frames.{unmarked_at}
+use Rattle.ms_machine_compile.proofs.Widths.{wider}
+use Rattle.ms_machine_code.specs.declared.code.Routine.{Routine}
+use Rattle.ms_machine_code.specs.declared.code.Code.{Code}
+use Rattle.ms_machine_code.specs.declared.code.Code.TheVariants as code
+use Rattle.ms_machine_code.specs.Fits.{Fits}
+use Rattle.ms_machine_code.specs.Reads.{Holds}
+use Rattle.ms_machine_code.specs.Compiled.{where_is}
 use Rattle.ms_host.specs.State.{nothing_beside}
 use Rattle.ms_host.specs.Shows.{Shows}
 use Rattle.ms_machine.specs.Running.{StandsFor, AllStandFor}
-use Rattle.ms_follow_laws.specs.Follows.{light, bare_frame, words}
-use Rattle.ms_moves.specs.declared.moves.Source.{Source}
-use Rattle.ms_moves.specs.Sources.{sources, source_at}
-use Rattle.ms_moves.specs.Events.{innermost}
-use Rattle.ms_moves.specs.Traces.{Traced, use_of, frames_read, first_read as first_source}
-use Rattle.ms_shades.specs.Shades.{HoldsShades}
-use Rattle.ms_trail.specs.declared.follower.Follower.{Follower}
-use Rattle.ms_trail_uses.specs.declared.tables.Row.{Row}
+use Rattle.ms_runs_laws.specs.Follows.{light, bare_frame, words}
+use Rattle.ms_trail_moves.specs.declared.moves.Source.{Source}
+use Rattle.ms_trail_moves.specs.Sources.{sources, source_at}
+use Rattle.ms_trail_moves.specs.Events.{innermost}
+use Rattle.ms_trail_moves.specs.Traces.{Traced, use_of, frames_read, first_read as first_source}
+use Rattle.ms_trail_masks.specs.Shades.{HoldsShades}
+use Rattle.ms_trail.specs.declared.traced_run.TracedRun.{TracedRun}
+use Rattle.ms_trail_uses.specs.declared.tables.InstRow.{InstRow}
 use Rattle.ms_trail_uses.specs.declared.used.Used.{Used}
 use Rattle.ms_trail_uses.specs.declared.used.Used.TheVariants as read
 use Rattle.ms_trail_uses.specs.declared.used.Shape.{Shape}
@@ -96,14 +96,14 @@ using_fits n phis rs (code.Exit v) x = wider n 32 v x (omega arith)
 using_fits n phis rs (code.External e args to) (x, z) = x
 using_fits n phis rs k fits = tt
 
-pub record DueHere (m : Module) (u : Setup) (t : Traced) (f : Follower) (o : IsFollowed m u t f) (made : Code) : Type 0 where
+pub record DueHere (m : Module) (u : Setup) (t : Traced) (f : TracedRun) (o : IsFollowed m u t f) (made : Code) : Type 0 where
   pub frame : Frame Poisoned
   pub below : List (Frame Poisoned)
   pub first : t.state.frames ≡ frame ∷ below
   pub coded : HasCode m (bare_frame frame) made
   pub stands : StandsFor m f.fiber.frame (bare_frame frame)
 
-module _ (m : Module) (u : Setup) (t : Traced) (f : Follower) (o : IsFollowed m u t f) (k : Code) (due : IsDue m f.fiber f.world k) where
+module _ (m : Module) (u : Setup) (t : Traced) (f : TracedRun) (o : IsFollowed m u t f) (k : Code) (due : IsDue m f.fiber f.world k) where
   pub due_here : DueHere m u t f o k
   due_here = by_frames t.state.frames refl
     where
@@ -162,15 +162,15 @@ module _ (m : Module) (u : Setup) (t : Traced) (f : Follower) (o : IsFollowed m 
       ∙ ap (λ (insts : List Inst). inst_sources s m (innermost t.numbers.standing) insts due_here.frame) due_here.coded.due
       ∙ ap (λ n. sources n (operands i.op) h.root) (ap innermost top_here.is ∙ sym top_here.shade_is.numbered)
 
-  module _ (row : Row) (found : slice_get f.tables.rows.items f.fiber.frame.at ≡ Some row) where
+  module _ (row : InstRow) (found : slice_get f.tables.rows.items f.fiber.frame.at ≡ Some row) where
     row_is : row ≡ listed.row
     row_is = same_Some row listed.row (sym found ∙ row_there)
 
     inst_is : row.inst.now ≡ i
-    inst_is = ap (λ (q : Row). q.inst.now) row_is ∙ listed.is.inst_is
+    inst_is = ap (λ (q : InstRow). q.inst.now) row_is ∙ listed.is.inst_is
 
     roots_are : row.roots ≡ h.root
-    roots_are = ap (λ (q : Row). q.roots) row_is ∙ listed.is.roots
+    roots_are = ap (λ (q : InstRow). q.roots) row_is ∙ listed.is.roots
 
     pub few_here : row.roots + count_undefs (operands row.inst.now.op) < 2 ^ 32
     few_here =

@@ -13,10 +13,10 @@ use Rattle.ms_runs.specs.Poisoned.{Poisoned}
 use Rattle.ms_runs.specs.Masks.{by_formulas, union}
 use Rattle.ms_runs.specs.Uses.{uses, check_uses, blinded}
 use Rattle.ms_runs.specs.Shadow.{ShadowState, read_poisoned, shadow_moved, shadow_act, after_checks, shadow_first, shadow_frames, shadow_step}
-use Rattle.ms_follow_laws.specs.Follows.{light, bare_frame, step_shadow, Follows, StepFollows}
-use Rattle.ms_follow_laws.proofs.Steps.{step_follows}
+use Rattle.ms_runs_laws.specs.Follows.{light, bare_frame, step_shadow, Follows, StepFollows}
+use Rattle.ms_runs_laws.proofs.FollowedSteps.{step_follows}
 use Rattle.ms_runs_laws.proofs.UnreportedEnds.{is_reported}
-use Rattle.ms_moves_laws.proofs.EndsAtUse.{ReadMoved, after_read}
+use Rattle.ms_trail_laws.proofs.EndsAtUse.{ReadMoved, after_read}
 
 stop_same : (x e : End) (w v : World) → ◌≡◌ {A = Stepped ShadowState} (Stop x w) (Stop e v) → x ≡ e
 stop_same x e w v h = cc

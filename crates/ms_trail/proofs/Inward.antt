@@ -12,10 +12,10 @@ use Rattle.ms_ir.specs.Instructions.{func_index}
 use Rattle.ms_runs.specs.declared.runs.Setup.{Setup}
 use Rattle.ms_runs.specs.Control.{Frame}
 use Rattle.ms_runs.specs.Plain.{PlainState}
-use Rattle.ms_code.specs.declared.code.Code.{Code}
-use Rattle.ms_code.specs.declared.code.Code.TheVariants as code
-use Rattle.ms_code.specs.Encodes.{Where, Encodes}
-use Rattle.ms_code.specs.Compiled.{where_is}
+use Rattle.ms_machine_code.specs.declared.code.Code.{Code}
+use Rattle.ms_machine_code.specs.declared.code.Code.TheVariants as code
+use Rattle.ms_machine_code.specs.Encodes.{Where, Encodes}
+use Rattle.ms_machine_code.specs.Compiled.{where_is}
 use Rattle.ms_host.specs.declared.calls.Asked.{Asked}
 use Rattle.ms_host.specs.declared.calls.Asked.TheVariants as asked
 use Rattle.ms_host.specs.declared.calls.HostCall.{HostCall}

@@ -1,4 +1,4 @@
--- A follower behind a jump.
+-- A follower after a jump.
 use Rattle.std.proofs.Common.{◌≡◌, ◌≤◌, ◌<◌, ◌+◌, ◌-◌, ℕ, suc, Bool, true, false, List, [], ◌∷◌, ◌++◌, map, length, reverse, if◌then◌else◌, Option, Some, None, unwrap_or, refl, sym, ap, ◌∙◌, subst, arith}
 use Rattle.std.specs.Prelude.{slice_get}
 use Rattle.std.proofs.lemmas.List.{length-map}
@@ -24,39 +24,38 @@ use Rattle.ms_runs.specs.Poisoned.{Poisoned, clean}
 use Rattle.ms_runs.specs.Masks.{by_formulas, word_at}
 use Rattle.ms_runs.specs.Uses.{blinded}
 use Rattle.ms_runs.specs.Shadow.{ShadowState, read_poisoned, shadow_reading, planes, poisoned_result}
-use Rattle.ms_good_laws.proofs.Frames.{unmarked_at}
-use Rattle.ms_compile.proofs.Numbers.{phis_below}
-use Rattle.ms_code.specs.declared.code.Source.{Source}
-use Rattle.ms_code.specs.declared.code.Move.{Move as Moved}
-use Rattle.ms_code.specs.declared.code.Edge.{Edge}
-use Rattle.ms_code.specs.declared.code.Code.{Code}
-use Rattle.ms_code.specs.declared.code.Code.TheVariants as code
-use Rattle.ms_code.specs.Words.{put_all}
-use Rattle.ms_code.specs.Reads.{Holds, Reads, IsPlace}
-use Rattle.ms_code.specs.Encodes.{Where, number_of, ReadsEdge, AreMoved, Leads, Encodes}
-use Rattle.ms_code.specs.Compiled.{where_is}
-use Rattle.ms_host.specs.State.{Beside, nothing_beside}
+use Rattle.ms_runs_good_laws.proofs.Frames.{unmarked_at}
+use Rattle.ms_machine_compile.proofs.Numbers.{phis_below}
+use Rattle.ms_machine_code.specs.declared.code.WordSource.{WordSource}
+use Rattle.ms_machine_code.specs.declared.code.PhiMove.{PhiMove as Moved}
+use Rattle.ms_machine_code.specs.declared.code.Edge.{Edge}
+use Rattle.ms_machine_code.specs.declared.code.Code.{Code}
+use Rattle.ms_machine_code.specs.declared.code.Code.TheVariants as code
+use Rattle.ms_machine_code.specs.Words.{put_all}
+use Rattle.ms_machine_code.specs.Reads.{Holds, Reads, IsPlace}
+use Rattle.ms_machine_code.specs.Encodes.{Where, number_of, ReadsEdge, AreMoved, Leads, Encodes}
+use Rattle.ms_machine_code.specs.Compiled.{where_is}
+use Rattle.ms_host.specs.State.{Beside, nothing_beside, WorldState}
 use Rattle.ms_machine_frames.specs.Meaning.{Jumps, IsJump, Doing, doing}
 use Rattle.ms_machine_steps.specs.Advances.{step_of}
 use Rattle.ms_machine_frames.specs.declared.fibers.Fiber.{Fiber}
 use Rattle.ms_machine_steps.proofs.Acts.{Same, acts}
 use Rattle.ms_machine.specs.Running.{IsRunning}
-use Rattle.ms_host.specs.State.{WorldState}
-use Rattle.ms_follow_laws.specs.Follows.{light, bare_frame, words}
-use Rattle.ms_follow_laws.proofs.Frames.{words_shown}
-use Rattle.ms_moves.specs.declared.moves.Source.{Source as From}
-use Rattle.ms_moves.specs.declared.moves.Target.TheVariants.{Value}
-use Rattle.ms_moves.specs.declared.moves.Move.{Move}
-use Rattle.ms_moves.specs.Sources.{operand_source, sources, source_at, result_source}
-use Rattle.ms_moves.specs.Written.{written}
-use Rattle.ms_moves.specs.Edges.{edge_source}
-use Rattle.ms_moves.specs.Events.{innermost, word_move, result_move, return_move, param_moves, phi_moves, memory_moves, callee_moves, inst_moves, event_moves}
-use Rattle.ms_moves.specs.Traces.{Traced}
-use Rattle.ms_shades.specs.Shades.{mask_of, masks_read, masks_moved, shades_at}
-use Rattle.ms_shades.proofs.Reading.{reads_mask, jump_masks}
-use Rattle.ms_trail.specs.declared.follower.Follower.{Follower}
-use Rattle.ms_trail_uses.specs.declared.shades.Shade.{Shade}
-use Rattle.ms_trail_uses.specs.declared.tables.Row.{Row}
+use Rattle.ms_runs_laws.specs.Follows.{light, bare_frame, words}
+use Rattle.ms_runs_laws.proofs.ShownSteps.{words_shown}
+use Rattle.ms_trail_moves.specs.declared.moves.Source.{Source as From}
+use Rattle.ms_trail_moves.specs.declared.moves.Target.TheVariants.{Value}
+use Rattle.ms_trail_moves.specs.declared.moves.Move.{Move}
+use Rattle.ms_trail_moves.specs.Sources.{operand_source, sources, source_at, result_source}
+use Rattle.ms_trail_moves.specs.Written.{written}
+use Rattle.ms_trail_moves.specs.Edges.{edge_source}
+use Rattle.ms_trail_moves.specs.Events.{innermost, word_move, result_move, return_move, param_moves, phi_moves, memory_moves, callee_moves, inst_moves, event_moves}
+use Rattle.ms_trail_moves.specs.Traces.{Traced}
+use Rattle.ms_trail_masks.specs.Shades.{mask_of, masks_read, masks_moved, shades_at}
+use Rattle.ms_trail_masks.proofs.Reading.{reads_mask, jump_masks}
+use Rattle.ms_trail.specs.declared.traced_run.TracedRun.{TracedRun}
+use Rattle.ms_trail_uses.specs.declared.frame_masks.FrameMasks.{FrameMasks}
+use Rattle.ms_trail_uses.specs.declared.tables.InstRow.{InstRow}
 use Rattle.ms_trail_bytes.specs.Logs.{IsLog}
 use Rattle.ms_trail_uses.specs.Tabled.{HasRow}
 use Rattle.ms_trail_uses.specs.Due.{IsDue}
@@ -69,7 +68,7 @@ use Rattle.ms_trail.proofs.ResultSteps.{KeepsCalls, shades_count}
 use Rattle.ms_trail.proofs.DueCode.{DueNow, holds_now}
 use Rattle.ms_trail.proofs.Readying.{root_within}
 use Rattle.ms_trail.proofs.Onward.{onward, goes_state, moves_at}
-use Rattle.ms_trail.proofs.PhisTold.{PhiAt, phi_at, number_behind, sites_up}
+use Rattle.ms_trail.proofs.PhisTold.{PhiAt, phi_at, number_after, sites_up}
 use Rattle.ms_trail.proofs.Writing.{now, gone, its, number_is, listed, shade_is, on, row_is}
 
 -- ---- what jumps
@@ -95,7 +94,7 @@ jump_sees func o ps j = absurd j
 -- ---- masks of phis and their moves
 
 module _ (m : Module) (names : List Name) (ms : List ℕ) (u : Setup) (values : Name → Poisoned) (holds : Holds names ms (λ x. (values x).mask)) where
-  edge_mask : (t : Ty) (from : Name) (edges : List (Operand × Name)) (n : ℕ) (s : Source) → ReadsEdge m names t from edges s → mask_of ms s ≡ (read_edge (read_poisoned (setting_of m u) values) clean t from edges n).mask
+  edge_mask : (t : Ty) (from : Name) (edges : List (Operand × Name)) (n : ℕ) (s : WordSource) → ReadsEdge m names t from edges s → mask_of ms s ≡ (read_edge (read_poisoned (setting_of m u) values) clean t from edges n).mask
   edge_mask t from [] n s reads = ap (mask_of ms) reads
   edge_mask t from (e ∷ es) n s reads = by_test (name_eq e.1 from) reads (edge_mask t from es (n + one_undef e.0) s)
     where
@@ -201,7 +200,7 @@ jump_moves s m event i from to fr below w next after jumps =
 
 -- ---- a step that jumps
 
-module _ (m : Module) (u : Setup) (t : Traced) (old : Follower) (o : IsFollowed m u t old) (k : Code) (passes : Passes m u t) (due : IsDue m old.fiber old.world k) (next : PlainState) (took : step_of m u o.state ≡ More next)
+module _ (m : Module) (u : Setup) (t : Traced) (old : TracedRun) (o : IsFollowed m u t old) (k : Code) (passes : Passes m u t) (due : IsDue m old.fiber old.world k) (next : PlainState) (took : step_of m u o.state ≡ More next)
     (jumps : IsJump k) (edge : Edge) (taken : IsTaken old.fill.now old.fiber.frame.values.items k edge) where
   abbrev d : DueNow m u t old o k
   d = now m u t old o k passes due next took
@@ -288,7 +287,7 @@ module _ (m : Module) (u : Setup) (t : Traced) (old : Follower) (o : IsFollowed 
   moves_many = moved_count m at.names old.shade.masks.items u fr.values masks_hold (block_name m fr.func fr.block) insts edge.moves leads.phis
 
   reached : edge.to ≡ number_of m fr.func b 0 + count_phis insts
-  reached = leads.behind ∙ number_behind m fr.func b (count_phis insts) (phis_below insts)
+  reached = leads.after ∙ number_after m fr.func b (count_phis insts) (phis_below insts)
 
   pub few_first : length edge.moves ≤ edge.to
   few_first = omega (arith, reached, moves_many)
@@ -320,8 +319,8 @@ module _ (m : Module) (u : Setup) (t : Traced) (old : Follower) (o : IsFollowed 
       few = λ n row lt stands.
           let x : HasRow m old.tables.rows.items fr.func b n (phi n lt).inst = row_of n lt in
           let is : row ≡ x.row = same_Some row x.row (sym stands ∙ at_row n lt) in
-          let inst_is : row.inst.now ≡ (phi n lt).inst = ap (λ (q : Row). q.inst.now) is ∙ x.is.inst_is in
-          let roots : row.roots ≡ root_at (func_index m.funcs) m fr.func b n = ap (λ (q : Row). q.roots) is ∙ x.is.roots in
+          let inst_is : row.inst.now ≡ (phi n lt).inst = ap (λ (q : InstRow). q.inst.now) is ∙ x.is.inst_is in
+          let roots : row.roots ≡ root_at (func_index m.funcs) m fr.func b n = ap (λ (q : InstRow). q.roots) is ∙ x.is.roots in
           let undefs : count_undefs (operands row.inst.now.op) ≡ count_undefs (operands (phi n lt).inst.op) = ap (λ (j : Inst). count_undefs (operands j.op)) inst_is in
           omega (arith, roots, undefs, root_within m o.bare fr.func d.coded.func b n (phi n lt).inst d.coded.is (phi n lt).stands, o.few);
       sites = few_read;
@@ -336,18 +335,18 @@ module _ (m : Module) (u : Setup) (t : Traced) (old : Follower) (o : IsFollowed 
         at_row : (n : ℕ) (lt : n < length read) → slice_get old.tables.rows.items (edge.to - length edge.moves + n) ≡ Some (row_of n lt).row
         at_row n lt =
             let within : n < length insts = slice_get_within insts n (phi n lt).inst (phi n lt).stands in
-            let here : edge.to - length edge.moves + n ≡ number_of m fr.func b n = omega (arith, first_is, number_behind m fr.func b n (omega (arith, within))) in
+            let here : edge.to - length edge.moves + n ≡ number_of m fr.func b n = omega (arith, first_is, number_after m fr.func b n (omega (arith, within))) in
             ap (slice_get old.tables.rows.items) here ∙ (row_of n lt).stands
 
-    module _ (new : Follower) (fiber_is : new.fiber ≡ fiber) (world_is : new.world ≡ world) (keeps : KeepsCalls old new) (event : new.event ≡ old.event + 1) (masks : new.shade.masks.items ≡ put_all old.shade.masks.items edge.moves read) (number : new.shade.number ≡ old.shade.number)
-        (row : Row) (stands : slice_get old.tables.rows.items old.fiber.frame.at ≡ Some row)
+    module _ (new : TracedRun) (fiber_is : new.fiber ≡ fiber) (world_is : new.world ≡ world) (keeps : KeepsCalls old new) (event : new.event ≡ old.event + 1) (masks : new.shade.masks.items ≡ put_all old.shade.masks.items edge.moves read) (number : new.shade.number ≡ old.shade.number)
+        (row : InstRow) (stands : slice_get old.tables.rows.items old.fiber.frame.at ≡ Some row)
         (told : IsLog new.log (t.moves ++ phis_told old.event old.shade.number (func_index m.funcs) row.block.now insts (root_at (func_index m.funcs) m fr.func b 0) (site_at m fr.func b 0) read)) where
       pub jump_on : Went m u t true new
       jump_on =
           let top = its m u t old o k passes due next took in
           let after = gone m u t old o k passes due next took in
           let x : HasRow m old.tables.rows.items fr.func fr.block fr.place i = listed m u t old o k passes due next took in
-          let block : row.block.now ≡ block_name m fr.func fr.block = ap (λ (q : Row). q.block.now) (row_is m u t old o k passes due next took row stands) ∙ x.is.block in
+          let block : row.block.now ≡ block_name m fr.func fr.block = ap (λ (q : InstRow). q.block.now) (row_is m u t old o k passes due next took row stands) ∙ x.is.block in
           let light_is : light next.world ≡ light c.world = ap light (sym (shade_is m u t old o k passes due next took (Goes to t.state.world) goes next.world)) ∙ after.1.2 in
           let depth : length c.frames ≡ length t.numbers.standing =
           ap length frames ∙ sym (ap length d.first) ∙ shades_count m t.numbers.standing t.state.frames (old.shade ∷ reverse old.below.items) o.shades
@@ -361,7 +360,7 @@ module _ (m : Module) (u : Setup) (t : Traced) (old : Follower) (o : IsFollowed 
           } in
           let all : HaveShades m (top.number ∷ top.numbers) c.frames (new.shade ∷ reverse new.below.items) =
           subst (λ (fs : List (Frame Poisoned)). HaveShades m (top.number ∷ top.numbers) fs (new.shade ∷ reverse new.below.items)) (sym frames)
-          (shade, subst (λ (bs : List Shade). HaveShades m top.numbers d.below (reverse bs)) (sym keeps.below) top.lower)
+          (shade, subst (λ (bs : List FrameMasks). HaveShades m top.numbers d.below (reverse bs)) (sym keeps.below) top.lower)
           in
           let from_is : innermost t.numbers.standing ≡ old.shade.number = number_is m u t old o k passes due next took in
           let moves : phis_told old.event old.shade.number (func_index m.funcs) row.block.now insts (root_at (func_index m.funcs) m fr.func b 0) (site_at m fr.func b 0) read ≡ event_moves s m t.events t.numbers t.numbers t.state c =

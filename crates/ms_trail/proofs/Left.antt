@@ -1,4 +1,4 @@
--- A follower behind a return.
+-- A follower after a return.
 use Rattle.std.proofs.Common.{◌≡◌, ◌<◌, ◌+◌, ◌-◌, ℕ, suc, Bool, true, false, true≢false, List, [], ◌∷◌, ◌++◌, map, drop, length, reverse, get_or, set, if◌then◌else◌, Option, Some, None, option_and_then, refl, sym, ap, ap₂, ◌∙◌, subst, arith}
 use Rattle.std.specs.Prelude.{slice_get}
 use Rattle.std.proofs.lemmas.Bool.{le-ltb}
@@ -25,19 +25,19 @@ use Rattle.ms_runs.specs.Poisoned.{Poisoned, clean}
 use Rattle.ms_runs.specs.Masks.{by_formulas, word_at}
 use Rattle.ms_runs.specs.Uses.{blinded}
 use Rattle.ms_runs.specs.Shadow.{ShadowState, read_poisoned, planes, poisoned_result}
-use Rattle.ms_good_laws.specs.GoodStates.{IsBelow, GoodFrames, StandsAtCall, IsMain, Bottom}
-use Rattle.ms_good_laws.proofs.Frames.{same_insts, top_good}
-use Rattle.ms_good_laws.proofs.SitedMoves.{last_is_main}
-use Rattle.ms_valid.specs.Formed.{Formed}
-use Rattle.ms_valid.specs.Valid.{Valid}
-use Rattle.ms_code.specs.declared.code.Source.{Source}
-use Rattle.ms_code.specs.declared.code.Code.{Code}
-use Rattle.ms_code.specs.declared.code.Code.TheVariants as code
-use Rattle.ms_code.specs.declared.code.Program.{Program}
-use Rattle.ms_code.specs.Fits.{IsPut}
-use Rattle.ms_code.specs.Reads.{Holds, PutsResult}
-use Rattle.ms_code.specs.Encodes.{Where, number_of, Returns, Encodes}
-use Rattle.ms_code.specs.Compiled.{Compiled, where_is}
+use Rattle.ms_runs_good_laws.specs.GoodStates.{IsBelow, GoodFrames, StandsAtCall, IsMain, Bottom}
+use Rattle.ms_runs_good_laws.proofs.Frames.{same_insts, top_good}
+use Rattle.ms_runs_good_laws.proofs.SitedMoves.{last_is_main}
+use Rattle.ms_check_valid.specs.Formed.{Formed}
+use Rattle.ms_check_valid.specs.Valid.{Valid}
+use Rattle.ms_machine_code.specs.declared.code.WordSource.{WordSource}
+use Rattle.ms_machine_code.specs.declared.code.Code.{Code}
+use Rattle.ms_machine_code.specs.declared.code.Code.TheVariants as code
+use Rattle.ms_machine_code.specs.declared.code.Program.{Program}
+use Rattle.ms_machine_code.specs.Fits.{IsPut}
+use Rattle.ms_machine_code.specs.Reads.{Holds, PutsResult}
+use Rattle.ms_machine_code.specs.Encodes.{Where, number_of, Returns, Encodes}
+use Rattle.ms_machine_code.specs.Compiled.{Compiled, where_is}
 use Rattle.ms_host.specs.State.{Beside, nothing_beside}
 use Rattle.ms_machine_frames.specs.declared.frames.Frame.{Frame as Kept}
 use Rattle.ms_machine_frames.specs.declared.fibers.Fiber.{Fiber}
@@ -48,19 +48,19 @@ use Rattle.ms_machine_steps.proofs.Due.{Due, due_good, code_stands}
 use Rattle.ms_machine_steps.proofs.Crossings.{call_puts}
 use Rattle.ms_machine.specs.Running.{IsRunning}
 use Rattle.ms_machine.proofs.Programs.{state_to}
-use Rattle.ms_follow_laws.specs.Follows.{light, bare_frame}
-use Rattle.ms_moves.specs.declared.moves.Source.{Source as From}
-use Rattle.ms_moves.specs.declared.moves.Target.TheVariants.{Value}
-use Rattle.ms_moves.specs.declared.moves.Move.{Move}
-use Rattle.ms_moves.specs.Sources.{operand_source, sources, source_at, result_source}
-use Rattle.ms_moves.specs.Written.{written}
-use Rattle.ms_moves.specs.Events.{Numbers, renumbered, innermost, result_move, return_move, param_moves, phi_moves, memory_moves, callee_moves, inst_moves, event_moves}
-use Rattle.ms_moves.specs.Traces.{Traced}
-use Rattle.ms_shades.specs.Shades.{mask_of}
-use Rattle.ms_shades.proofs.Reading.{source_difference, reads_mask}
-use Rattle.ms_trail.specs.declared.follower.Follower.{Follower}
-use Rattle.ms_trail_uses.specs.declared.shades.Shade.{Shade}
-use Rattle.ms_trail_uses.specs.declared.tables.Row.{Row}
+use Rattle.ms_runs_laws.specs.Follows.{light, bare_frame}
+use Rattle.ms_trail_moves.specs.declared.moves.Source.{Source as From}
+use Rattle.ms_trail_moves.specs.declared.moves.Target.TheVariants.{Value}
+use Rattle.ms_trail_moves.specs.declared.moves.Move.{Move}
+use Rattle.ms_trail_moves.specs.Sources.{operand_source, sources, source_at, result_source}
+use Rattle.ms_trail_moves.specs.Written.{written}
+use Rattle.ms_trail_moves.specs.Events.{Numbers, renumbered, innermost, result_move, return_move, param_moves, phi_moves, memory_moves, callee_moves, inst_moves, event_moves}
+use Rattle.ms_trail_moves.specs.Traces.{Traced}
+use Rattle.ms_trail_masks.specs.Shades.{mask_of}
+use Rattle.ms_trail_masks.proofs.Reading.{source_difference, reads_mask}
+use Rattle.ms_trail.specs.declared.traced_run.TracedRun.{TracedRun}
+use Rattle.ms_trail_uses.specs.declared.frame_masks.FrameMasks.{FrameMasks}
+use Rattle.ms_trail_uses.specs.declared.tables.InstRow.{InstRow}
 use Rattle.ms_trail.specs.Calling.{returned_told}
 use Rattle.ms_trail_bytes.specs.Logs.{IsLog}
 use Rattle.ms_trail_uses.specs.Tabled.{HasRow}
@@ -96,7 +96,7 @@ word_first [] = refl
 word_first (p ∷ ps) = refl
 
 -- the mask of the word that a return gives
-return_mask : (at : Where) (v : Source) (value : Option (Ty × Operand)) → Returns at v value → (u : Setup) (ms : List ℕ) (values : Name → Poisoned) (root : ℕ) → Holds at.names ms (λ x. (values x).mask)
+return_mask : (at : Where) (v : WordSource) (value : Option (Ty × Operand)) → Returns at v value → (u : Setup) (ms : List ℕ) (values : Name → Poisoned) (root : ℕ) → Holds at.names ms (λ x. (values x).mask)
     → mask_of ms v ≡ (word_at 0 (read_all (read_poisoned (setting_of at.whole u) values) (operands (op.Ret value)) root)).mask
 return_mask at v None r u ms values root holds = source_difference at.names ms v ∙ ap₂ (λ a b. a - b) (r (255 ∷ []) ms) (r (0 ∷ []) (map (λ x. 0) at.names))
 return_mask at v (Some x) r u ms values root holds = reads_mask at.whole at.names (width_of x.0) v x.1 r ms values holds
@@ -191,8 +191,8 @@ caller_now m p s compiled fiber fr (caller ∷ rest) stand good last inside = by
 
 -- ---- a step that returns
 
-module _ (m : Module) (p : Program) (formed : Formed m) (valid : Valid m) (compiled : Compiled m p) (u : Setup) (t : Traced) (old : Follower) (o : IsFollowed m u t old) (k : Code) (passes : Passes m u t) (due : IsDue m old.fiber old.world k)
-    (v : Source) (is_return : k ≡ code.Return v) where
+module _ (m : Module) (p : Program) (formed : Formed m) (valid : Valid m) (compiled : Compiled m p) (u : Setup) (t : Traced) (old : TracedRun) (o : IsFollowed m u t old) (k : Code) (passes : Passes m u t) (due : IsDue m old.fiber old.world k)
+    (v : WordSource) (is_return : k ≡ code.Return v) where
   abbrev d : DueNow m u t old o k
   d = due_now m u t old o k passes due
 
@@ -256,8 +256,8 @@ module _ (m : Module) (p : Program) (formed : Formed m) (valid : Valid m) (compi
     pub call_is : (call : Code) → slice_get p.code kept.at ≡ Some call → call ≡ its_caller.made
     call_is call e = same_Some call its_caller.made (sym e ∙ ap (slice_get p.code) kept_at ∙ its_caller.stands)
 
-    pub call_inst : (row : Row) → slice_get old.tables.rows.items kept.at ≡ Some row → row.inst.now ≡ its_caller.inst
-    call_inst row e = ap (λ (q : Row). q.inst.now) (same_Some row listed_call.row (sym e ∙ row_there)) ∙ listed_call.is.inst_is
+    pub call_inst : (row : InstRow) → slice_get old.tables.rows.items kept.at ≡ Some row → row.inst.now ≡ its_caller.inst
+    call_inst row e = ap (λ (q : InstRow). q.inst.now) (same_Some row listed_call.row (sym e ∙ row_there)) ∙ listed_call.is.inst_is
 
   -- ---- masks of its caller
 
@@ -265,14 +265,14 @@ module _ (m : Module) (p : Program) (formed : Formed m) (valid : Valid m) (compi
   shades_below = subst (λ (fs : List (Frame Poisoned)). HaveShades m t.numbers.standing fs (old.shade ∷ reverse old.below.items)) (d.first ∙ ap (λ bs. fr ∷ bs) its_caller.is) o.shades
 
   pub never_alone : old.below.items ≡ [] → ⊥
-  never_alone e = by_numbers t.numbers.standing (subst (λ (ss : List Shade). HaveShades m t.numbers.standing (fr ∷ its_caller.caller ∷ its_caller.rest) (old.shade ∷ reverse ss)) e shades_below)
+  never_alone e = by_numbers t.numbers.standing (subst (λ (ss : List FrameMasks). HaveShades m t.numbers.standing (fr ∷ its_caller.caller ∷ its_caller.rest) (old.shade ∷ reverse ss)) e shades_below)
     where
       by_numbers : (ns : List ℕ) → HaveShades m ns (fr ∷ its_caller.caller ∷ its_caller.rest) (old.shade ∷ []) → ⊥
       by_numbers [] x = x
       by_numbers (n ∷ []) x = x.1
       by_numbers (n ∷ l ∷ ns) x = x.1
 
-  module _ (shade : Shade) (left_below : List Shade) (popped : old.below.items ≡ left_below ++ shade ∷ []) where
+  module _ (shade : FrameMasks) (left_below : List FrameMasks) (popped : old.below.items ≡ left_below ++ shade ∷ []) where
     pub record ShadesLeft : Type 0 where
       pub inner : ℕ
       pub number : ℕ
@@ -284,7 +284,7 @@ module _ (m : Module) (p : Program) (formed : Formed m) (valid : Valid m) (compi
     shades_left : ShadesLeft
     shades_left =
         by_numbers t.numbers.standing refl
-        (subst (λ (ss : List Shade). HaveShades m t.numbers.standing (fr ∷ its_caller.caller ∷ its_caller.rest) (old.shade ∷ ss)) (ap reverse popped ∙ reverse-append left_below (shade ∷ [])) shades_below)
+        (subst (λ (ss : List FrameMasks). HaveShades m t.numbers.standing (fr ∷ its_caller.caller ∷ its_caller.rest) (old.shade ∷ ss)) (ap reverse popped ∙ reverse-append left_below (shade ∷ [])) shades_below)
       where
         by_numbers : (ns : List ℕ) → t.numbers.standing ≡ ns → HaveShades m ns (fr ∷ its_caller.caller ∷ its_caller.rest) (old.shade ∷ shade ∷ reverse left_below) → ShadesLeft
         by_numbers [] e x = absurd x
@@ -327,9 +327,9 @@ module _ (m : Module) (p : Program) (formed : Formed m) (valid : Valid m) (compi
       result_is : result_at m its_caller.caller ≡ its_caller.inst.result
       result_is = ap (option_and_then (λ (x : Inst). x.result)) its_caller.item
 
-      module _ (new : Follower) (running : IsRunning m u nothing_beside new.fiber new.world next) (keeps : KeepsRest old new) (below : new.below.items ≡ left_below) (made : new.made ≡ old.made) (event : new.event ≡ old.event + 1)
+      module _ (new : TracedRun) (running : IsRunning m u nothing_beside new.fiber new.world next) (keeps : KeepsRest old new) (below : new.below.items ≡ left_below) (made : new.made ≡ old.made) (event : new.event ≡ old.event + 1)
           (call : Code) (is_call : call ≡ its_caller.made) (mask : ℕ) (mask_is : mask ≡ mask_of old.shade.masks.items v) (masks : new.shade.masks.items ≡ put_value (put_of call) (Some mask) shade.masks.items) (number : new.shade.number ≡ shade.number)
-          (row : Row) (stands : slice_get old.tables.rows.items old.fiber.frame.at ≡ Some row) (site : ℕ)
+          (row : InstRow) (stands : slice_get old.tables.rows.items old.fiber.frame.at ≡ Some row) (site : ℕ)
           (sited : (v : Setup) (beside : Beside) (state : PlainState) (frame : Frame ℕ) (below : List (Frame ℕ)) → IsRunning m v beside old.fiber old.world state → state.frames ≡ frame ∷ below → site ≡ site_at m frame.func frame.block frame.place)
           (inst : Inst) (is_inst : inst ≡ its_caller.inst)
           (told : IsLog new.log (t.moves ++ returned_told old.event site shade.number inst.result mask (source_at 0 (sources old.shade.number (operands row.inst.now.op) row.roots)))) where
@@ -365,7 +365,7 @@ module _ (m : Module) (p : Program) (formed : Formed m) (valid : Valid m) (compi
             in
             let all : HaveShades m ns.standing c.frames (new.shade ∷ reverse new.below.items) =
             subst (λ (fs : List (Frame Poisoned)). HaveShades m ns.standing fs (new.shade ∷ reverse new.below.items)) (sym frames)
-            (first, subst (λ (bs : List Shade). HaveShades m l.numbers its_caller.rest (reverse bs)) (sym below) l.lower)
+            (first, subst (λ (bs : List FrameMasks). HaveShades m l.numbers its_caller.rest (reverse bs)) (sym below) l.lower)
             in
             let from_is : innermost t.numbers.standing ≡ old.shade.number = number_is m u t old o k passes due next took in
             let moves : returned_told old.event site shade.number inst.result mask (source_at 0 (sources old.shade.number (operands row.inst.now.op) row.roots)) ≡ event_moves s m t.events t.numbers ns t.state c =
@@ -379,7 +379,7 @@ module _ (m : Module) (p : Program) (formed : Formed m) (valid : Valid m) (compi
             in
             onward m u t old o new c next after.1.0 keeps running after.1.1 light_is ns numbers all (made ∙ o.made) event (subst (λ (qs : List Move). IsLog new.log (t.moves ++ qs)) moves told)
           where
-            one : (l : ShadesLeft) (new : Follower) → Holds (locals its_caller.func) (put_value (put_of its_caller.made) (Some given.mask) shade.masks.items) (λ x. ((put its_caller.caller its_caller.inst.result given).values x).mask)
+            one : (l : ShadesLeft) (new : TracedRun) → Holds (locals its_caller.func) (put_value (put_of its_caller.made) (Some given.mask) shade.masks.items) (λ x. ((put its_caller.caller its_caller.inst.result given).values x).mask)
                 → new.shade.masks.items ≡ put_value (put_of its_caller.made) (Some given.mask) shade.masks.items → new.shade.number ≡ shade.number
                 → HasShade m l.number (put its_caller.caller its_caller.inst.result given) new.shade
             one l new held masks_are number = by_result its_caller.inst.result (subst (λ (ms : List ℕ). Holds (locals its_caller.func) ms (λ x. ((put its_caller.caller its_caller.inst.result given).values x).mask)) (sym masks_are) held)

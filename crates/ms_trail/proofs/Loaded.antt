@@ -28,25 +28,25 @@ use Rattle.ms_runs.specs.Poisoned.{Poisoned}
 use Rattle.ms_runs.specs.Masks.{by_formulas, union, word_at, result_mask}
 use Rattle.ms_runs.specs.Uses.{blinded}
 use Rattle.ms_runs.specs.Shadow.{ShadowState, read_poisoned, shadow_reading, planes, shadow_moved, poisoned_result, shadow_act, shadow_step}
-use Rattle.ms_code.specs.declared.code.Source.{Source as Operand_}
-use Rattle.ms_code.specs.declared.code.Code.{Code}
-use Rattle.ms_code.specs.declared.code.Code.TheVariants as code
-use Rattle.ms_code.specs.Words.{word_of}
-use Rattle.ms_code.specs.Reads.{IsPlace, IsResult}
-use Rattle.ms_code.specs.Encodes.{Where, Encodes}
-use Rattle.ms_code.specs.Compiled.{where_is}
+use Rattle.ms_machine_code.specs.declared.code.WordSource.{WordSource as Operand_}
+use Rattle.ms_machine_code.specs.declared.code.Code.{Code}
+use Rattle.ms_machine_code.specs.declared.code.Code.TheVariants as code
+use Rattle.ms_machine_code.specs.Words.{word_of}
+use Rattle.ms_machine_code.specs.Reads.{IsPlace, IsResult}
+use Rattle.ms_machine_code.specs.Encodes.{Where, Encodes}
+use Rattle.ms_machine_code.specs.Compiled.{where_is}
 use Rattle.ms_host.specs.State.{Beside, nothing_beside}
 use Rattle.ms_host.specs.Shows.{Shows}
 use Rattle.ms_machine_steps.specs.Advances.{step_of}
 use Rattle.ms_machine.specs.Running.{IsRunning}
-use Rattle.ms_follow_laws.specs.Follows.{light, bare_frame, step_shadow}
-use Rattle.ms_moves.specs.declared.moves.Source.{Source}
-use Rattle.ms_moves.specs.declared.moves.Target.TheVariants.{Value}
-use Rattle.ms_moves.specs.declared.moves.Move.{Move}
-use Rattle.ms_moves.specs.Sources.{sources, byte_source, result_source}
-use Rattle.ms_moves.specs.Traces.{Traced}
-use Rattle.ms_trail.specs.declared.follower.Follower.{Follower}
-use Rattle.ms_trail_uses.specs.declared.tables.Row.{Row}
+use Rattle.ms_runs_laws.specs.Follows.{light, bare_frame, step_shadow}
+use Rattle.ms_trail_moves.specs.declared.moves.Source.{Source}
+use Rattle.ms_trail_moves.specs.declared.moves.Target.TheVariants.{Value}
+use Rattle.ms_trail_moves.specs.declared.moves.Move.{Move}
+use Rattle.ms_trail_moves.specs.Sources.{sources, byte_source, result_source}
+use Rattle.ms_trail_moves.specs.Traces.{Traced}
+use Rattle.ms_trail.specs.declared.traced_run.TracedRun.{TracedRun}
+use Rattle.ms_trail_uses.specs.declared.tables.InstRow.{InstRow}
 use Rattle.ms_trail_bytes.specs.Logs.{IsLog}
 use Rattle.ms_trail.specs.Telling.{masked_move}
 use Rattle.ms_trail_uses.specs.Tabled.{HasRow}
@@ -57,7 +57,7 @@ use Rattle.ms_trail.proofs.Going.{goes, acts}
 use Rattle.ms_trail.proofs.Valued.{IsValued}
 use Rattle.ms_trail.proofs.ResultSteps.{KeepsCalls, valued_followed, top}
 use Rattle.ms_trail.proofs.DueCode.{DueNow, due_now, holds_now}
-use Rattle.ms_good_laws.proofs.Readings.{word_number}
+use Rattle.ms_runs_good_laws.proofs.Readings.{word_number}
 
 -- ---- effects that go on
 
@@ -86,7 +86,7 @@ blind_good mask w a n = by_test (eqb mask 0)
 
 -- ---- a load
 
-module _ (m : Module) (u : Setup) (t : Traced) (old : Follower) (o : IsFollowed m u t old) (k : Code) (passes : Passes m u t) (due : IsDue m old.fiber old.world k) (size cut : ℕ) (addr : Operand_) (to : ℕ) (is_load : k ≡ code.Load size cut addr to)
+module _ (m : Module) (u : Setup) (t : Traced) (old : TracedRun) (o : IsFollowed m u t old) (k : Code) (passes : Passes m u t) (due : IsDue m old.fiber old.world k) (size cut : ℕ) (addr : Operand_) (to : ℕ) (is_load : k ≡ code.Load size cut addr to)
     (next : PlainState) (took : step_of m u o.state ≡ More next) where
   now : DueNow m u t old o k
   now = due_now m u t old o k passes due
@@ -168,7 +168,7 @@ module _ (m : Module) (u : Setup) (t : Traced) (old : Follower) (o : IsFollowed 
           ∙ (λ j. byte_source (first_nonzero (ap (λ (v : World). v.shadow) o.follows.world j) (at_first j) (sym encoded.2.1 j)))
           ∙ (λ j. result_source (sym is j) ps (sources old.shade.number (operands i.op) h.root) t.state.world)
 
-      module _ (site : ℕ) (row : Row) (new : Follower) (running : IsRunning m u nothing_beside new.fiber new.world next) (stands : slice_get old.tables.rows.items old.fiber.frame.at ≡ Some row)
+      module _ (site : ℕ) (row : InstRow) (new : TracedRun) (running : IsRunning m u nothing_beside new.fiber new.world next) (stands : slice_get old.tables.rows.items old.fiber.frame.at ≡ Some row)
           (mask_read : (beside : Beside) (meant : World) → Shows old.world beside meant → is_good meant first size ≡ true → mask ≡ bit_and (number_at meant.shadow first size) cut)
           (keeps : KeepsCalls old new) (event : new.event ≡ old.event + 1) (masks : new.shade.masks.items ≡ set old.shade.masks.items to mask) (number : new.shade.number ≡ old.shade.number)
           (site_is : (v : Setup) (beside : Beside) (state : PlainState) (frame : Frame ℕ) (below : List (Frame ℕ)) → IsRunning m v beside old.fiber old.world state → state.frames ≡ frame ∷ below → site ≡ site_at m frame.func frame.block frame.place)
@@ -177,7 +177,7 @@ module _ (m : Module) (u : Setup) (t : Traced) (old : Follower) (o : IsFollowed 
         loaded_on =
             let listed : HasRow m old.tables.rows.items now.frame.func now.frame.block now.frame.place i = o.tables now.frame.func now.frame.block now.frame.place i now.coded.item in
             let same : row ≡ listed.row = same_Some row listed.row (sym stands ∙ ap (slice_get old.tables.rows.items) now.stands.at ∙ listed.stands) in
-            let inst_is : row.inst.now ≡ i = ap (λ (r : Row). r.inst.now) same ∙ listed.is.inst_is in
+            let inst_is : row.inst.now ≡ i = ap (λ (r : InstRow). r.inst.now) same ∙ listed.is.inst_is in
             let res : IsResult (locals now.coded.func) to i.result = encoded.2.4 in
             let x : Name = res.0 in
             let shade = (top m u t old o now.frame now.below now.first i now.coded.rest now.coded.due).shade_is in

@@ -2,11 +2,11 @@
 use Rattle.std.proofs.Common.{◌≡◌, ◌<◌, ℕ, List, length, Option, sym, ap, ◌∙◌, subst}
 use Rattle.ms_ir.specs.declared.syntax.Op.{Op}
 use Rattle.ms_runs.specs.World.{World}
-use Rattle.ms_code.specs.declared.code.Code.{Code}
-use Rattle.ms_code.specs.declared.code.Edge.{Edge}
-use Rattle.ms_shades.specs.declared.words.View.{View}
-use Rattle.ms_shades.specs.Results.{IsMask}
-use Rattle.ms_shades.specs.Views.{IsView}
+use Rattle.ms_machine_code.specs.declared.code.Code.{Code}
+use Rattle.ms_machine_code.specs.declared.code.Edge.{Edge}
+use Rattle.ms_trail_masks.specs.declared.words.View.{View}
+use Rattle.ms_trail_masks.specs.Results.{IsMask}
+use Rattle.ms_trail_masks.specs.Views.{IsView}
 use Rattle.ms_trail_uses.specs.declared.used.Used.{Used}
 use Rattle.ms_trail_uses.specs.Used.{code_read}
 use Rattle.ms_trail_uses.specs.Taken.{IsTaken}

@@ -1,4 +1,4 @@
--- A follower behind a step: what stands for the next state of the run.
+-- A follower after a step: what stands for the next state of the run.
 use Rattle.std.proofs.Common.{◌≡◌, ◌+◌, ℕ, Bool, true, false, List, ◌∷◌, ◌++◌, map, length, reverse, get_or, if◌then◌else◌, Option, Some, None, refl, sym, ap, ◌∙◌, subst, ltb, ◌&&◌, arith}
 use Rattle.std.specs.Prelude.{leb}
 use Rattle.ms_bits.specs.declared.traps.Trap.TheVariants as trap
@@ -20,37 +20,37 @@ use Rattle.ms_runs.specs.Plain.{PlainState, More, setting_of}
 use Rattle.ms_runs.specs.Poisoned.{Poisoned, clean}
 use Rattle.ms_runs.specs.Masks.{by_formulas, word_at}
 use Rattle.ms_runs.specs.Shadow.{ShadowState, read_poisoned, shadow_reading, shadow_moved, shadow_step}
-use Rattle.ms_good_laws.specs.GoodWorlds.{GoodWorld, FitsCell}
-use Rattle.ms_good_laws.proofs.WorldChanges.{either, set_shadow_good, set_cells_good}
+use Rattle.ms_runs_good_laws.specs.GoodWorlds.{GoodWorld, FitsCell}
+use Rattle.ms_runs_good_laws.proofs.WorldChanges.{either, set_shadow_good, set_cells_good}
 use Rattle.ms_host.specs.State.{WorldState, Keeps, nothing_beside}
 use Rattle.ms_host.specs.Shows.{Shows}
 use Rattle.ms_host.specs.SlotBytes.{ShowsSlots}
 use Rattle.ms_printf.specs.CallSites.{AreCallSites}
 use Rattle.ms_machine_frames.specs.declared.fibers.Fiber.{Fiber}
-use Rattle.ms_good_laws.specs.GoodStates.{IsMain}
-use Rattle.ms_good_laws.proofs.Bottoms.{StateBottom, shadow_bottom}
+use Rattle.ms_runs_good_laws.specs.GoodStates.{IsMain}
+use Rattle.ms_runs_good_laws.proofs.Bottoms.{StateBottom, shadow_bottom}
 use Rattle.ms_machine_frames.proofs.HeapBlocks.{same_turn}
 use Rattle.ms_machine.specs.Running.{IsRunning}
-use Rattle.ms_follow_laws.specs.Follows.{light, bare_frame}
-use Rattle.ms_moves.specs.declared.moves.Source.{Source}
-use Rattle.ms_moves.specs.declared.moves.Move.{Move}
-use Rattle.ms_moves.specs.Sources.{operand_source, sources, source_at, result_source}
-use Rattle.ms_moves.specs.Written.{callee_written, external_written, written}
-use Rattle.ms_moves.specs.Events.{Numbers, renumbered, innermost, result_move, return_move, param_moves, phi_moves, memory_moves, callee_moves, inst_moves, first_moves, frames_moves, event_moves}
-use Rattle.ms_moves.specs.Traces.{Traced}
-use Rattle.ms_trail.specs.declared.follower.Follower.{Follower}
+use Rattle.ms_runs_laws.specs.Follows.{light, bare_frame}
+use Rattle.ms_trail_moves.specs.declared.moves.Source.{Source}
+use Rattle.ms_trail_moves.specs.declared.moves.Move.{Move}
+use Rattle.ms_trail_moves.specs.Sources.{operand_source, sources, source_at, result_source}
+use Rattle.ms_trail_moves.specs.Written.{callee_written, external_written, written}
+use Rattle.ms_trail_moves.specs.Events.{Numbers, renumbered, innermost, result_move, return_move, param_moves, phi_moves, memory_moves, callee_moves, inst_moves, first_moves, frames_moves, event_moves}
+use Rattle.ms_trail_moves.specs.Traces.{Traced}
+use Rattle.ms_trail.specs.declared.traced_run.TracedRun.{TracedRun}
 use Rattle.ms_trail_bytes.specs.Logs.{IsLog}
 use Rattle.ms_trail_uses.specs.Tabled.{AreTables}
 use Rattle.ms_trail.specs.Following.{HaveShades, Went, IsFollowed}
 
 -- what no step changes of a follower
-pub record KeepsRest (old new : Follower) : Type 0 where
+pub record KeepsRest (old new : TracedRun) : Type 0 where
   pub whole : new.m.now ≡ old.m.now
   pub tables : new.tables.rows.items ≡ old.tables.rows.items
   pub printf : new.printf.calls ≡ old.printf.calls
   pub fill : new.fill.now ≡ old.fill.now
 
-pub onward : (m : Module) (u : Setup) (t : Traced) (old : Follower) (o : IsFollowed m u t old) (new : Follower) (c : ShadowState) (p : PlainState) → shadow_step by_formulas (setting_of m u) m t.state ≡ More c
+pub onward : (m : Module) (u : Setup) (t : Traced) (old : TracedRun) (o : IsFollowed m u t old) (new : TracedRun) (c : ShadowState) (p : PlainState) → shadow_step by_formulas (setting_of m u) m t.state ≡ More c
     → KeepsRest old new → IsRunning m u nothing_beside new.fiber new.world p → p.frames ≡ map bare_frame c.frames → light p.world ≡ light c.world
     → (ns : Numbers) → renumbered (length c.frames) t.numbers ≡ ns → HaveShades m ns.standing c.frames (new.shade ∷ reverse new.below.items) → new.made ≡ ns.made → new.event ≡ old.event + 1
     → IsLog new.log (t.moves ++ event_moves (setting_of m u) m t.events t.numbers ns t.state c) → Went m u t true new
@@ -118,7 +118,7 @@ memory_same s root o ps ss before v w event site e =
     ∙ ap (λ (x : World). memory_moves event site x.shadow (written s root o ps ss before x)) e
     ∙ ap (memory_moves event site w.shadow) (written_light s root o ps ss before w)
 
--- ---- frames behind an effect
+-- ---- frames after an effect
 
 same_state : (a b : ShadowState) → More a ≡ More b → a ≡ b
 same_state a b e = cc

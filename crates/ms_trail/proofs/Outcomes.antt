@@ -1,4 +1,4 @@
--- What is known of the world behind an external that went on: where its bytes are.
+-- What is known of the world after an external that went on: where its bytes are.
 use Rattle.std.proofs.Common.{◌≡◌, ◌≤◌, ◌<◌, ◌+◌, ◌%◌, ℕ, Bool, true, false, ◌&&◌, leb, eqb, min, List, [], ◌∷◌, ◌++◌, map, if◌then◌else◌, Option, Some, None, is_some, unwrap_or, refl, sym, ap, ◌∙◌, arith}
 use Rattle.std.proofs.lemmas.Bool.{le-leb, ne_eqb}
 use Rattle.ms_bits.specs.declared.traps.Trap.TheVariants as trap
@@ -13,9 +13,9 @@ use Rattle.ms_runs.specs.Externals.{malloc, reallocated, realloc, where_good, ex
 use Rattle.ms_runs.specs.Poisoned.{Poisoned}
 use Rattle.ms_runs.specs.Masks.{word_at}
 use Rattle.ms_host.specs.Answers.{resumed}
-use Rattle.ms_moves.specs.Written.{heap_place}
+use Rattle.ms_trail_moves.specs.Written.{heap_place}
 use Rattle.ms_trail_bytes.specs.Shading.{Facts}
-use Rattle.ms_good_laws.proofs.Readings.{word_number}
+use Rattle.ms_runs_good_laws.proofs.Readings.{word_number}
 
 -- ---- effects that go on
 
@@ -155,7 +155,7 @@ module _ (s : Setting) (site : ℕ) (types : List Ty) (ps : List Poisoned) (w : 
   abbrev vs : List ℕ
   vs = map (λ p. p.value) ps
 
-  -- bytes that were good are good behind it
+  -- bytes that were good are good after it
   good_still : ((a n : ℕ) → is_good x a n ≡ is_good w a n) → (i j : ℕ) → is_good w (word i vs) (word j vs) ≡ true → is_good after (word_at i ps).value (word_at j ps).value ≡ true
   good_still kept i j good =
       alike (word_at i ps).value (word_at j ps).value ∙ kept (word_at i ps).value (word_at j ps).value ∙ (λ k. is_good w (sym (word_number i ps) k) (sym (word_number j ps) k)) ∙ good

@@ -9,16 +9,16 @@ use Rattle.ms_runs.specs.Memory.{fits, heap_size, is_good, next_base}
 use Rattle.ms_runs.specs.Origins.{copy_planes, poison, unpoison}
 use Rattle.ms_runs.specs.Poisoned.{Poisoned}
 use Rattle.ms_runs.specs.Masks.{word_at}
-use Rattle.ms_good_laws.specs.GoodWorlds.{GoodWorld, FitsCell}
-use Rattle.ms_good_laws.proofs.WorldChanges.{either, set_shadow_good}
-use Rattle.ms_follow_laws.specs.Follows.{fill_shadow}
+use Rattle.ms_runs_good_laws.specs.GoodWorlds.{GoodWorld, FitsCell}
+use Rattle.ms_runs_good_laws.proofs.WorldChanges.{either, set_shadow_good}
+use Rattle.ms_runs_laws.specs.Follows.{fill_shadow}
 use Rattle.ms_host.specs.State.{WorldState, Beside}
 use Rattle.ms_host.specs.Shows.{Shows}
-use Rattle.ms_moves.specs.declared.moves.Source.{Source}
-use Rattle.ms_moves.specs.declared.moves.Move.{Move}
-use Rattle.ms_moves.specs.Sources.{source_at}
-use Rattle.ms_moves.specs.Written.{Filled, Copied, heap_place, made}
-use Rattle.ms_moves.specs.Events.{written_moves, memory_moves}
+use Rattle.ms_trail_moves.specs.declared.moves.Source.{Source}
+use Rattle.ms_trail_moves.specs.declared.moves.Move.{Move}
+use Rattle.ms_trail_moves.specs.Sources.{source_at}
+use Rattle.ms_trail_moves.specs.Written.{Filled, Copied, heap_place, made}
+use Rattle.ms_trail_moves.specs.Events.{written_moves, memory_moves}
 use Rattle.ms_trail_bytes.specs.declared.logs.Log.{Log}
 use Rattle.ms_trail_bytes.specs.Logs.{IsLog}
 use Rattle.ms_trail_bytes.specs.Shading.{ShadedAs, Done}

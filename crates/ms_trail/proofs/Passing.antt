@@ -14,10 +14,10 @@ use Rattle.ms_runs.specs.Poisoned.{Poisoned}
 use Rattle.ms_runs.specs.Masks.{word_at}
 use Rattle.ms_runs.specs.Uses as use_of
 use Rattle.ms_runs.specs.Uses.{type_at, check_uses}
-use Rattle.ms_moves.specs.declared.moves.Source.{Source}
-use Rattle.ms_moves.specs.Sources.{source_at}
-use Rattle.ms_moves.specs.Traces.{or_byte, read_by}
-use Rattle.ms_moves_laws.proofs.EndsAtUse.{found_byte, found_in}
+use Rattle.ms_trail_moves.specs.declared.moves.Source.{Source}
+use Rattle.ms_trail_moves.specs.Sources.{source_at}
+use Rattle.ms_trail_moves.specs.Traces.{or_byte, read_by}
+use Rattle.ms_trail_laws.proofs.EndsAtUse.{found_byte, found_in}
 use Rattle.ms_trail_uses.specs.declared.used.Used.{Used}
 use Rattle.ms_trail_uses.specs.declared.used.Used.TheVariants as read
 use Rattle.ms_trail_uses.specs.Used.{used_byte, or_used, first_read, source_of, Checked}

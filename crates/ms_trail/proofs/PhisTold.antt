@@ -14,15 +14,15 @@ use Rattle.ms_ir.specs.declared.syntax.Module.{Module}
 use Rattle.ms_ir.specs.Instructions.{insts_at, before, func_index, one_unmarked, roots_in, root_at, site_at, over_insts, NoMarks}
 use Rattle.ms_ir.proofs.Sizes.{drop_next}
 use Rattle.ms_runs.specs.Control.{count_phis}
-use Rattle.ms_good_laws.proofs.Frames.{unmarked_at}
-use Rattle.ms_compile.proofs.Numbers.{counted, phis_below}
-use Rattle.ms_compile.proofs.Building.{drop-zero}
-use Rattle.ms_code.specs.Encodes.{number_of}
-use Rattle.ms_moves.specs.declared.moves.Target.TheVariants.{Value}
-use Rattle.ms_moves.specs.declared.moves.Move.{Move}
-use Rattle.ms_moves.specs.Edges.{edge_source}
+use Rattle.ms_runs_good_laws.proofs.Frames.{unmarked_at}
+use Rattle.ms_machine_compile.proofs.Numbers.{counted, phis_below}
+use Rattle.ms_machine_compile.proofs.Building.{drop-zero}
+use Rattle.ms_machine_code.specs.Encodes.{number_of}
+use Rattle.ms_trail_moves.specs.declared.moves.Target.TheVariants.{Value}
+use Rattle.ms_trail_moves.specs.declared.moves.Move.{Move}
+use Rattle.ms_trail_moves.specs.Edges.{edge_source}
 use Rattle.ms_trail_bytes.specs.declared.logs.Log.{Log}
-use Rattle.ms_trail_uses.specs.declared.tables.Row.{Row}
+use Rattle.ms_trail_uses.specs.declared.tables.InstRow.{InstRow}
 use Rattle.ms_trail_bytes.specs.Logs.{IsLog}
 use Rattle.ms_trail.specs.Phis.{phis_told}
 use Rattle.ms_trail_uses.specs.Tabled.{HasRow, AreTables}
@@ -47,14 +47,14 @@ phi_at (i ∷ is) k lt = by_op i.op refl k lt (λ j. phi_at is j)
     by_op (op.Phi t edges) e (suc k) lt later = let p = later k (omega (arith, lt)) in record { inst = p.inst; stands = p.stands; ty = p.ty; edges = p.edges; is = p.is }
     by_op o e k lt later = absurd (omega (arith, lt))
 
--- ---- numbers behind some instructions
+-- ---- numbers after some instructions
 
 read_at : (insts : List Inst) (k : ℕ) (x : Inst) → slice_get insts k ≡ Some x → x ≡ get_or insts k x
 read_at insts k x e = sym (get_or_from_slice_get insts k x x e)
 
 module _ (m : Module) (f b : ℕ) where
-  pub number_behind : (k : ℕ) → k ≤ length (insts_at m f b) → number_of m f b k ≡ number_of m f b 0 + k
-  number_behind k few =
+  pub number_after : (k : ℕ) → k ≤ length (insts_at m f b) → number_of m f b k ≡ number_of m f b 0 + k
+  number_after k few =
       let many : over_insts (λ inst. 1) (take k (insts_at m f b)) ≡ k = counted (take k (insts_at m f b)) ∙ length-take-le k (insts_at m f b) few in
       omega (arith, inst_start (λ inst. 1) m f b k, many)
 
@@ -85,7 +85,7 @@ module _ (m : Module) (f b : ℕ) where
 
   -- ---- one phi more
 
-  module _ (rows : List Row) (tables : AreTables m rows) (bare : NoMarks m) (first : ℕ) (begins : first ≡ number_of m f b 0) (read : List ℕ) (many : length read ≡ count_phis (insts_at m f b)) where
+  module _ (rows : List InstRow) (tables : AreTables m rows) (bare : NoMarks m) (first : ℕ) (begins : first ≡ number_of m f b 0) (read : List ℕ) (many : length read ≡ count_phis (insts_at m f b)) where
     -- the row of a phi
     row_of : (k : ℕ) (p : PhiAt (insts_at m f b) k) → HasRow m rows f b k p.inst
     row_of k p = tables f b k p.inst p.stands
@@ -93,15 +93,15 @@ module _ (m : Module) (f b : ℕ) where
     at_row : (k : ℕ) (p : PhiAt (insts_at m f b) k) → slice_get rows (first + k) ≡ Some (row_of k p).row
     at_row k p =
         let lt : k < length (insts_at m f b) = slice_get_within (insts_at m f b) k p.inst p.stands in
-        let here : first + k ≡ number_of m f b k = omega (arith, begins, number_behind k (omega (arith, lt))) in
+        let here : first + k ≡ number_of m f b k = omega (arith, begins, number_after k (omega (arith, lt))) in
         ap (slice_get rows) here ∙ (row_of k p).stands
 
-    module _ (event frame : ℕ) (from : Name) (behind : ℕ) (sited : behind ≡ site_at m f b (length read)) where
+    module _ (event frame : ℕ) (from : Name) (after : ℕ) (sited : after ≡ site_at m f b (length read)) where
       -- the moves that are left
       abbrev pub left : ℕ → List Move
       left k = phis_told event frame (func_index m.funcs) from (drop k (insts_at m f b)) (root_at (func_index m.funcs) m f b k) (site_at m f b k) (drop k read)
 
-      pub site_here : (k : ℕ) → k < length read → behind - (length read - k) ≡ site_at m f b k
+      pub site_here : (k : ℕ) → k < length read → after - (length read - k) ≡ site_at m f b k
       site_here k lt =
           let within : length read ≤ length (insts_at m f b) = omega (arith, many, phis_below (insts_at m f b)) in
           let sum : k + (length read - k) ≡ length read = omega (arith, lt) in
@@ -109,15 +109,15 @@ module _ (m : Module) (f b : ℕ) where
           let whole : site_at m f b (length read) ≡ site_at m f b k + (length read - k) = ap (site_at m f b) (sym sum) ∙ up in
           omega (arith, sited, whole)
 
-      pub next_phi : (k : ℕ) → k < length read → (row : Row) → slice_get rows (first + k) ≡ Some row → (mask site : ℕ) → mask ≡ get_or read k 0 → site ≡ behind - (length read - k)
+      pub next_phi : (k : ℕ) → k < length read → (row : InstRow) → slice_get rows (first + k) ≡ Some row → (mask site : ℕ) → mask ≡ get_or read k 0 → site ≡ after - (length read - k)
           → (log new : Log) (told : List Move) → IsLog log told
           → ((t : Ty) (edges : List (Operand × Name)) (moves : List Move) → row.inst.now.op ≡ op.Phi t edges → IsLog log moves → IsLog new (moves ++ masked_move event site mask (edge_source frame t from edges row.roots) (Value frame (unwrap_or row.inst.now.result (Number 0)))))
           → (all : List Move) → all ≡ told ++ left k → (more : List Move) × (IsLog new more × (all ≡ more ++ left (k + 1)))
       next_phi k lt row stands mask site masked sited' log new told is tell all e =
           let p : PhiAt (insts_at m f b) k = phi_at (insts_at m f b) k (omega (arith, many, lt)) in
           let row_is : row ≡ (row_of k p).row = same_Some row (row_of k p).row (sym stands ∙ at_row k p) in
-          let inst_is : row.inst.now ≡ p.inst = ap (λ (r : Row). r.inst.now) row_is ∙ (row_of k p).is.inst_is in
-          let roots : row.roots ≡ root_at (func_index m.funcs) m f b k = ap (λ (r : Row). r.roots) row_is ∙ (row_of k p).is.roots in
+          let inst_is : row.inst.now ≡ p.inst = ap (λ (r : InstRow). r.inst.now) row_is ∙ (row_of k p).is.inst_is in
+          let roots : row.roots ≡ root_at (func_index m.funcs) m f b k = ap (λ (r : InstRow). r.roots) row_is ∙ (row_of k p).is.roots in
           let site_is : site ≡ site_at m f b k = sited' ∙ site_here k lt in
           let insts : drop k (insts_at m f b) ≡ p.inst ∷ drop (k + 1) (insts_at m f b) = drop_next (insts_at m f b) k p.inst (slice_get_within (insts_at m f b) k p.inst p.stands) (read_at (insts_at m f b) k p.inst p.stands) in
           let masks : drop k read ≡ mask ∷ drop (k + 1) read = drop_next read k mask lt (masked ∙ default read k lt mask) in
@@ -153,7 +153,7 @@ none_told event frame func from [] n site = refl
 none_told event frame func from (i ∷ is) n site = refl
 
 -- of phis with these masks the first k were told, from a log on
-pub record PhisSoFar (rows : List Row) (first : ℕ) (read : List ℕ) (event site frame : ℕ) (from : Name) (start log : Log) (k : ℕ) : Type 0 where
+pub record PhisSoFar (rows : List InstRow) (first : ℕ) (read : List ℕ) (event site frame : ℕ) (from : Name) (start log : Log) (k : ℕ) : Type 0 where
   pub told : (m : Module) (f b : ℕ) (moves : List Move) → AreTables m rows → NoMarks m → first ≡ number_of m f b 0 → length read ≡ count_phis (insts_at m f b) → site ≡ site_at m f b (length read) → IsLog start moves
       → (more : List Move)
       × (IsLog log more
@@ -161,7 +161,7 @@ pub record PhisSoFar (rows : List Row) (first : ℕ) (read : List ℕ) (event si
       ≡ more ++ phis_told event frame (func_index m.funcs) from (drop k (insts_at m f b)) (root_at (func_index m.funcs) m f b k) (site_at m f b k) (drop k read)))
   pub count : log.count ≤ start.count + k
 
-pub so_far_none : (rows : List Row) (first : ℕ) (read : List ℕ) (event site frame : ℕ) (from : Name) (log : Log) → PhisSoFar rows first read event site frame from log log 0
+pub so_far_none : (rows : List InstRow) (first : ℕ) (read : List ℕ) (event site frame : ℕ) (from : Name) (log : Log) → PhisSoFar rows first read event site frame from log log 0
 so_far_none rows first read event site frame from log = record {
   told = λ m f b moves tables bare begins many sited is. (
     moves,
@@ -173,22 +173,22 @@ so_far_none rows first read event site frame from log = record {
   count = omega arith;
 }
 
-pub so_far_more : (rows : List Row) (first : ℕ) (read : List ℕ) (event behind frame : ℕ) (from : Name) (start log new : Log) (k : ℕ) → k < length read → (row : Row) → slice_get rows (first + k) ≡ Some row
-    → (mask site : ℕ) → mask ≡ get_or read k 0 → site ≡ behind - (length read - k)
+pub so_far_more : (rows : List InstRow) (first : ℕ) (read : List ℕ) (event after frame : ℕ) (from : Name) (start log new : Log) (k : ℕ) → k < length read → (row : InstRow) → slice_get rows (first + k) ≡ Some row
+    → (mask site : ℕ) → mask ≡ get_or read k 0 → site ≡ after - (length read - k)
     → ((t : Ty) (edges : List (Operand × Name)) (moves : List Move) → row.inst.now.op ≡ op.Phi t edges → IsLog log moves → IsLog new (moves ++ masked_move event site mask (edge_source frame t from edges row.roots) (Value frame (unwrap_or row.inst.now.result (Number 0)))))
-    → new.count ≤ log.count + 1 → PhisSoFar rows first read event behind frame from start log k → PhisSoFar rows first read event behind frame from start new (k + 1)
-so_far_more rows first read event behind frame from start log new k lt row stands mask site masked sited tell few so = record {
+    → new.count ≤ log.count + 1 → PhisSoFar rows first read event after frame from start log k → PhisSoFar rows first read event after frame from start new (k + 1)
+so_far_more rows first read event after frame from start log new k lt row stands mask site masked sited tell few so = record {
   told = λ m f b moves tables bare begins many at is.
       let had = so.told m f b moves tables bare begins many at is in
-      next_phi m f b rows tables bare first begins read many event frame from behind at k lt row stands mask site masked sited log new had.0 had.1.0 tell
+      next_phi m f b rows tables bare first begins read many event frame from after at k lt row stands mask site masked sited log new had.0 had.1.0 tell
       (moves ++ phis_told event frame (func_index m.funcs) from (insts_at m f b) (root_at (func_index m.funcs) m f b 0) (site_at m f b 0) read) had.1.1;
   count = omega (arith, few, so.count);
 }
 
-pub so_far_all : (rows : List Row) (first : ℕ) (read : List ℕ) (event behind frame : ℕ) (from : Name) (start log : Log) (k : ℕ) → k ≡ length read → PhisSoFar rows first read event behind frame from start log k
-    → (m : Module) (f b : ℕ) (moves : List Move) → AreTables m rows → NoMarks m → first ≡ number_of m f b 0 → length read ≡ count_phis (insts_at m f b) → behind ≡ site_at m f b (length read) → IsLog start moves
+pub so_far_all : (rows : List InstRow) (first : ℕ) (read : List ℕ) (event after frame : ℕ) (from : Name) (start log : Log) (k : ℕ) → k ≡ length read → PhisSoFar rows first read event after frame from start log k
+    → (m : Module) (f b : ℕ) (moves : List Move) → AreTables m rows → NoMarks m → first ≡ number_of m f b 0 → length read ≡ count_phis (insts_at m f b) → after ≡ site_at m f b (length read) → IsLog start moves
     → IsLog log (moves ++ phis_told event frame (func_index m.funcs) from (insts_at m f b) (root_at (func_index m.funcs) m f b 0) (site_at m f b 0) read)
-so_far_all rows first read event behind frame from start log k end so m f b moves tables bare begins many at is =
+so_far_all rows first read event after frame from start log k end so m f b moves tables bare begins many at is =
     let had = so.told m f b moves tables bare begins many at is in
     let over : drop k read ≡ [] = drop_all k read (omega (arith, end)) in
     let none : phis_told event frame (func_index m.funcs) from (drop k (insts_at m f b)) (root_at (func_index m.funcs) m f b k) (site_at m f b k) (drop k read) ≡ [] =

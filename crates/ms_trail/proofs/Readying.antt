@@ -7,18 +7,18 @@ use Rattle.ms_ir.specs.declared.syntax.Func.{Func}
 use Rattle.ms_ir.specs.declared.syntax.Inst.{Inst}
 use Rattle.ms_ir.specs.declared.syntax.Module.{Module}
 use Rattle.ms_ir.specs.Instructions.{func_at, func_index, insts_at, operands, count_undefs, is_root, roots_in, root_at, count_roots, NoMarks}
-use Rattle.ms_good_laws.proofs.Frames.{unmarked_at}
-use Rattle.ms_good_laws.proofs.Counted.{counted_within}
-use Rattle.ms_code.specs.declared.code.Code.{Code}
-use Rattle.ms_code.specs.declared.code.Code.TheVariants as code
-use Rattle.ms_code.specs.declared.code.Routine.{Routine}
-use Rattle.ms_code.specs.Fits.{Fits, IsSource, IsPut}
-use Rattle.ms_code.specs.declared.code.Source.{Source}
+use Rattle.ms_runs_good_laws.proofs.Frames.{unmarked_at}
+use Rattle.ms_runs_good_laws.proofs.Counted.{counted_within}
+use Rattle.ms_machine_code.specs.declared.code.Code.{Code}
+use Rattle.ms_machine_code.specs.declared.code.Code.TheVariants as code
+use Rattle.ms_machine_code.specs.declared.code.Routine.{Routine}
+use Rattle.ms_machine_code.specs.Fits.{Fits, IsSource, IsPut}
+use Rattle.ms_machine_code.specs.declared.code.WordSource.{WordSource}
 use Rattle.ms_host.specs.State.{nothing_beside}
 use Rattle.ms_machine_frames.specs.Meaning.{phis_in, put_of}
 use Rattle.ms_machine.specs.Running.{Runs}
-use Rattle.ms_trail.specs.declared.follower.Follower.{Follower}
-use Rattle.ms_trail_uses.specs.declared.tables.Row.{Row}
+use Rattle.ms_trail.specs.declared.traced_run.TracedRun.{TracedRun}
+use Rattle.ms_trail_uses.specs.declared.tables.InstRow.{InstRow}
 use Rattle.ms_trail_uses.specs.Tabled.{HasRow}
 use Rattle.ms_trail_uses.specs.Due.{sets_at}
 use Rattle.ms_trail.specs.Ready.{IsReady}
@@ -35,7 +35,7 @@ place_fits n phis rs (code.Gep base offset strides d) to sets (x, y, z) = subst 
 place_fits n phis rs k to sets fits = absurd (none-some to sets)
 
 -- it stands for a state of the machine's run
-pub runs_of : (f : Follower) (k : Code) → IsReady f k → Runs f.m.now f.fiber f.world
+pub runs_of : (f : TracedRun) (k : Code) → IsReady f k → Runs f.m.now f.fiber f.world
 runs_of f k r = (r.setup, nothing_beside, r.is.state, r.is.running)
 
 -- an instruction of a module without marks has its roots among the module's
@@ -48,7 +48,7 @@ root_within m bare n f b p i at due =
     in
     omega (arith, all)
 
-module _ (f : Follower) (k : Code) (r : IsReady f k) where
+module _ (f : TracedRun) (k : Code) (r : IsReady f k) where
   pub now : DueNow f.m.now r.setup r.run f r.is k
   now = due_now f.m.now r.setup r.run f r.is k r.passes r.due
 
@@ -62,14 +62,14 @@ module _ (f : Follower) (k : Code) (r : IsReady f k) where
   pub row_within : f.fiber.frame.at < length f.tables.rows.items
   row_within = slice_get_within f.tables.rows.items f.fiber.frame.at listed.row row_there
 
-  module _ (row : Row) (found : slice_get f.tables.rows.items f.fiber.frame.at ≡ Some row) where
+  module _ (row : InstRow) (found : slice_get f.tables.rows.items f.fiber.frame.at ≡ Some row) where
     row_is : row ≡ listed.row
     row_is = same_Some row listed.row (sym found ∙ row_there)
 
     pub few_roots : row.roots + count_undefs (operands row.inst.now.op) + 1 < 2 ^ 32
     few_roots =
-        let inst_is : row.inst.now ≡ now.coded.inst = ap (λ (q : Row). q.inst.now) row_is ∙ listed.is.inst_is in
-        let roots : row.roots ≡ root_at (func_index f.m.now.funcs) f.m.now now.frame.func now.frame.block now.frame.place = ap (λ (q : Row). q.roots) row_is ∙ listed.is.roots in
+        let inst_is : row.inst.now ≡ now.coded.inst = ap (λ (q : InstRow). q.inst.now) row_is ∙ listed.is.inst_is in
+        let roots : row.roots ≡ root_at (func_index f.m.now.funcs) f.m.now now.frame.func now.frame.block now.frame.place = ap (λ (q : InstRow). q.roots) row_is ∙ listed.is.roots in
         let undefs : count_undefs (operands row.inst.now.op) ≡ count_undefs (operands now.coded.inst.op) = ap (λ (i : Inst). count_undefs (operands i.op)) inst_is in
         omega (arith, roots, undefs, root_within f.m.now r.is.bare now.frame.func now.coded.func now.frame.block now.frame.place now.coded.inst now.coded.is now.coded.item, r.is.few)
 
@@ -93,7 +93,7 @@ module _ (f : Follower) (k : Code) (r : IsReady f k) where
   pub place_within : (to : ℕ) → sets_at k ≡ Some to → to < length f.shade.masks.items
   place_within to sets = subst (λ (n : ℕ). to < n) (sym same_count) (place_fits (length f.fiber.frame.values.items) (phis_in r.fits.routines) r.fits.routines k to sets r.fits.fits)
 
-  module _ (size cut : ℕ) (addr : Source) (to : ℕ) (is : k ≡ code.Load size cut addr to) where
+  module _ (size cut : ℕ) (addr : WordSource) (to : ℕ) (is : k ≡ code.Load size cut addr to) where
     load_fits : (size ≤ 8) × IsSource (length f.fiber.frame.values.items) 64 addr × (to < length f.fiber.frame.values.items)
     load_fits = subst (λ (x : Code). Fits (length f.fiber.frame.values.items) (phis_in r.fits.routines) r.fits.routines x) is r.fits.fits
 
@@ -106,7 +106,7 @@ module _ (f : Follower) (k : Code) (r : IsReady f k) where
     pub load_within : to < length f.shade.masks.items
     load_within = subst (λ (n : ℕ). to < n) (sym same_count) load_fits.2
 
-  module _ (size : ℕ) (count : Source) (to : ℕ) (is : k ≡ code.Alloca size count to) where
+  module _ (size : ℕ) (count : WordSource) (to : ℕ) (is : k ≡ code.Alloca size count to) where
     alloca_fits : IsSource (length f.fiber.frame.values.items) 64 count × (to < length f.fiber.frame.values.items)
     alloca_fits = subst (λ (x : Code). Fits (length f.fiber.frame.values.items) (phis_in r.fits.routines) r.fits.routines x) is r.fits.fits
 
@@ -116,7 +116,7 @@ module _ (f : Follower) (k : Code) (r : IsReady f k) where
     pub alloca_within : to < length f.shade.masks.items
     alloca_within = subst (λ (n : ℕ). to < n) (sym same_count) alloca_fits.1
 
-  module _ (size : ℕ) (value addr : Source) (is : k ≡ code.Store size value addr) where
+  module _ (size : ℕ) (value addr : WordSource) (is : k ≡ code.Store size value addr) where
     store_fits : (size ≤ 8) × IsSource (length f.fiber.frame.values.items) 64 value × IsSource (length f.fiber.frame.values.items) 64 addr
     store_fits = subst (λ (x : Code). Fits (length f.fiber.frame.values.items) (phis_in r.fits.routines) r.fits.routines x) is r.fits.fits
 
@@ -129,15 +129,15 @@ module _ (f : Follower) (k : Code) (r : IsReady f k) where
     pub store_source : IsSource (length f.fiber.frame.values.items) 64 addr
     store_source = store_fits.2
 
-  module _ (func : ℕ) (args : List Source) (to : Option ℕ) (is : k ≡ code.Call func args to) where
+  module _ (func : ℕ) (args : List WordSource) (to : Option ℕ) (is : k ≡ code.Call func args to) where
     pub call_sources : All (IsSource (length f.fiber.frame.values.items) 64) args
     call_sources = (subst (λ (x : Code). Fits (length f.fiber.frame.values.items) (phis_in r.fits.routines) r.fits.routines x) is r.fits.fits).1
 
-  module _ (value : Source) (is : k ≡ code.Return value) where
+  module _ (value : WordSource) (is : k ≡ code.Return value) where
     pub return_source : IsSource (length f.fiber.frame.values.items) 64 value
     return_source = subst (λ (x : Code). Fits (length f.fiber.frame.values.items) (phis_in r.fits.routines) r.fits.routines x) is r.fits.fits
 
-  module _ (e : External) (args : List Source) (to : Option ℕ) (is : k ≡ code.External e args to) where
+  module _ (e : External) (args : List WordSource) (to : Option ℕ) (is : k ≡ code.External e args to) where
     external_fits : All (IsSource (length f.fiber.frame.values.items) 64) args × IsPut (length f.fiber.frame.values.items) to
     external_fits = subst (λ (x : Code). Fits (length f.fiber.frame.values.items) (phis_in r.fits.routines) r.fits.routines x) is r.fits.fits
 

@@ -1,4 +1,4 @@
--- A follower behind an instruction that sets its result.
+-- A follower after an instruction that sets its result.
 use Rattle.std.proofs.Common.{◌≡◌, ◌+◌, ℕ, suc, Bool, true, false, eqb, List, [], ◌∷◌, ◌++◌, map, length, reverse, if◌then◌else◌, Some, refl, sym, ap, ◌∙◌, subst}
 use Rattle.std.specs.Prelude.{set}
 use Rattle.std.proofs.lemmas.Bool.{eqb-false}
@@ -16,23 +16,23 @@ use Rattle.ms_runs.specs.Poisoned.{Poisoned}
 use Rattle.ms_runs.specs.Masks.{by_formulas, union, result_mask}
 use Rattle.ms_runs.specs.Uses.{uses, check_uses, blinded}
 use Rattle.ms_runs.specs.Shadow.{ShadowState, read_poisoned, poisoned_result, shadow_step}
-use Rattle.ms_code.specs.Reads.{Holds, IsPlace}
+use Rattle.ms_machine_code.specs.Reads.{Holds, IsPlace}
 use Rattle.ms_host.specs.State.{nothing_beside}
 use Rattle.ms_printf.specs.CallSites.{AreCallSites}
 use Rattle.ms_machine_steps.specs.Advances.{step_of}
-use Rattle.ms_good_laws.specs.GoodStates.{IsMain}
-use Rattle.ms_good_laws.proofs.Bottoms.{StateBottom, shadow_bottom}
+use Rattle.ms_runs_good_laws.specs.GoodStates.{IsMain}
+use Rattle.ms_runs_good_laws.proofs.Bottoms.{StateBottom, shadow_bottom}
 use Rattle.ms_machine.specs.Running.{IsRunning}
-use Rattle.ms_follow_laws.specs.Follows.{light}
-use Rattle.ms_moves.specs.declared.moves.Source.{Source}
-use Rattle.ms_moves.specs.declared.moves.Target.{Target}
-use Rattle.ms_moves.specs.declared.moves.Target.TheVariants.{Value}
-use Rattle.ms_moves.specs.declared.moves.Move.{Move}
-use Rattle.ms_moves.specs.Sources.{sources, result_source}
-use Rattle.ms_moves.specs.Events.{Numbers, renumbered, innermost, moved, event_moves}
-use Rattle.ms_moves.specs.Traces.{Traced, traced_on}
-use Rattle.ms_trail.specs.declared.follower.Follower.{Follower}
-use Rattle.ms_trail_uses.specs.declared.shades.Shade.{Shade}
+use Rattle.ms_runs_laws.specs.Follows.{light}
+use Rattle.ms_trail_moves.specs.declared.moves.Source.{Source}
+use Rattle.ms_trail_moves.specs.declared.moves.Target.{Target}
+use Rattle.ms_trail_moves.specs.declared.moves.Target.TheVariants.{Value}
+use Rattle.ms_trail_moves.specs.declared.moves.Move.{Move}
+use Rattle.ms_trail_moves.specs.Sources.{sources, result_source}
+use Rattle.ms_trail_moves.specs.Events.{Numbers, renumbered, innermost, moved, event_moves}
+use Rattle.ms_trail_moves.specs.Traces.{Traced, traced_on}
+use Rattle.ms_trail.specs.declared.traced_run.TracedRun.{TracedRun}
+use Rattle.ms_trail_uses.specs.declared.frame_masks.FrameMasks.{FrameMasks}
 use Rattle.ms_trail_bytes.specs.Logs.{IsLog}
 use Rattle.ms_trail_uses.specs.Tabled.{AreTables}
 use Rattle.ms_trail.specs.Telling.{masked_move}
@@ -43,18 +43,18 @@ use Rattle.ms_trail.proofs.Valued.{IsValued, Sets, same_numbers, shadow_same, se
 -- ---- masks of frames
 
 -- the masks of the innermost frame
-pub record TopShade (m : Module) (ns : List ℕ) (fr : Frame Poisoned) (below : List (Frame Poisoned)) (shade : Shade) (rest : List Shade) : Type 0 where
+pub record TopShade (m : Module) (ns : List ℕ) (fr : Frame Poisoned) (below : List (Frame Poisoned)) (shade : FrameMasks) (rest : List FrameMasks) : Type 0 where
   pub number : ℕ
   pub numbers : List ℕ
   pub is : ns ≡ number ∷ numbers
   pub shade_is : HasShade m number fr shade
   pub lower : HaveShades m numbers below rest
 
-pub top_shade : (m : Module) (ns : List ℕ) (fr : Frame Poisoned) (below : List (Frame Poisoned)) (shade : Shade) (rest : List Shade) → HaveShades m ns (fr ∷ below) (shade ∷ rest) → TopShade m ns fr below shade rest
+pub top_shade : (m : Module) (ns : List ℕ) (fr : Frame Poisoned) (below : List (Frame Poisoned)) (shade : FrameMasks) (rest : List FrameMasks) → HaveShades m ns (fr ∷ below) (shade ∷ rest) → TopShade m ns fr below shade rest
 top_shade m [] fr below shade rest h = absurd h
 top_shade m (n ∷ ns) fr below shade rest h = record { number = n; numbers = ns; is = refl; shade_is = h.0; lower = h.1 }
 
-pub shades_count : (m : Module) (ns : List ℕ) (fs : List (Frame Poisoned)) (ss : List Shade) → HaveShades m ns fs ss → length fs ≡ length ns
+pub shades_count : (m : Module) (ns : List ℕ) (fs : List (Frame Poisoned)) (ss : List FrameMasks) → HaveShades m ns fs ss → length fs ≡ length ns
 shades_count m [] [] [] h = refl
 shades_count m [] [] (s ∷ ss) h = absurd h
 shades_count m [] (f ∷ fs) ss h = absurd h
@@ -75,7 +75,7 @@ masked_same e e' site k k' from from' to to' events masks sources places = (λ i
 -- ---- what stays
 
 -- what no step changes of a follower, and its frames but for the innermost
-pub record KeepsCalls (old new : Follower) : Type 0 where
+pub record KeepsCalls (old new : TracedRun) : Type 0 where
   pub whole : new.m.now ≡ old.m.now
   pub below : new.below.items ≡ old.below.items
   pub made : new.made ≡ old.made
@@ -92,7 +92,7 @@ blind_shadow mask w = by_test (eqb mask 0)
     by_test true = refl
     by_test false = refl
 
-module _ (m : Module) (u : Setup) (t : Traced) (old : Follower) (o : IsFollowed m u t old) (fr : Frame Poisoned) (below : List (Frame Poisoned)) (first : t.state.frames ≡ fr ∷ below) (i : Inst) (is : List Inst) (due : rest_of m fr ≡ i ∷ is) where
+module _ (m : Module) (u : Setup) (t : Traced) (old : TracedRun) (o : IsFollowed m u t old) (fr : Frame Poisoned) (below : List (Frame Poisoned)) (first : t.state.frames ≡ fr ∷ below) (i : Inst) (is : List Inst) (due : rest_of m fr ≡ i ∷ is) where
   abbrev s : Setting
   s = setting_of m u
 
@@ -109,7 +109,7 @@ module _ (m : Module) (u : Setup) (t : Traced) (old : Follower) (o : IsFollowed 
   number_is : innermost t.numbers.standing ≡ old.shade.number
   number_is = ap innermost top.is ∙ sym top.shade_is.numbered
 
-  module _ (passes : check_uses s at.site (operands i.op) ps (uses s.func at.main i.op) t.state.world ≡ Does t.state.world) (valued : IsValued i.op) (next : PlainState) (took : step_of m u o.state ≡ More next) (new : Follower)
+  module _ (passes : check_uses s at.site (operands i.op) ps (uses s.func at.main i.op) t.state.world ≡ Does t.state.world) (valued : IsValued i.op) (next : PlainState) (took : step_of m u o.state ≡ More next) (new : TracedRun)
       (running : IsRunning m u nothing_beside new.fiber new.world next) (keeps : KeepsCalls old new) (event : new.event ≡ old.event + 1)
       (x : Name) (named : i.result ≡ Some x) (k mask : ℕ) (place : IsPlace (locals top.shade_is.func) k x) (masks : new.shade.masks.items ≡ set old.shade.masks.items k mask) (number : new.shade.number ≡ old.shade.number)
       (mask_is : (w : World) → w.shadow ≡ t.state.world.shadow → mask ≡ result_mask by_formulas i.op ps w) (from : Source) (from_is : (mask ≡ 0 → ⊥) → from ≡ result_source i.op ps (sources old.shade.number (operands i.op) at.root) t.state.world)
@@ -136,7 +136,7 @@ module _ (m : Module) (u : Setup) (t : Traced) (old : Follower) (o : IsFollowed 
         } in
         let all : HaveShades m (top.number ∷ top.numbers) c.frames (new.shade ∷ reverse new.below.items) =
         subst (λ (fs : List (Frame Poisoned)). HaveShades m (top.number ∷ top.numbers) fs (new.shade ∷ reverse new.below.items)) (sym frames)
-        (its, subst (λ (bs : List Shade). HaveShades m top.numbers below (reverse bs)) (sym keeps.below) top.lower)
+        (its, subst (λ (bs : List FrameMasks). HaveShades m top.numbers below (reverse bs)) (sym keeps.below) top.lower)
         in
         let moves = masked_same old.event t.events at.site mask word.mask from (result_source i.op ps (sources (innermost t.numbers.standing) (operands i.op) at.root) t.state.world) (Value old.shade.number x) (Value (innermost t.numbers.standing) x)
         o.event (mask_is set_to.world shaded) (λ some. from_is some ∙ ap (λ n. result_source i.op ps (sources n (operands i.op) at.root) t.state.world) (sym number_is)) (ap (λ n. Value n x) (sym number_is))

@@ -18,13 +18,13 @@ use Rattle.ms_runs.specs.Poisoned.{Poisoned}
 use Rattle.ms_runs.specs.Masks.{by_formulas, union}
 use Rattle.ms_runs.specs.Uses.{blinded}
 use Rattle.ms_runs.specs.Shadow.{read_poisoned, shadow_reading, planes, shadow_moved, poisoned_result, shadow_step}
-use Rattle.ms_good_laws.proofs.Frames.{unmarked_at}
-use Rattle.ms_code.specs.declared.code.Code.{Code}
-use Rattle.ms_code.specs.declared.code.Code.TheVariants as code
-use Rattle.ms_code.specs.Encodes.{Encodes}
-use Rattle.ms_code.specs.Compiled.{where_is}
-use Rattle.ms_moves.specs.Traces.{Traced}
-use Rattle.ms_trail.specs.declared.follower.Follower.{Follower}
+use Rattle.ms_runs_good_laws.proofs.Frames.{unmarked_at}
+use Rattle.ms_machine_code.specs.declared.code.Code.{Code}
+use Rattle.ms_machine_code.specs.declared.code.Code.TheVariants as code
+use Rattle.ms_machine_code.specs.Encodes.{Encodes}
+use Rattle.ms_machine_code.specs.Compiled.{where_is}
+use Rattle.ms_trail_moves.specs.Traces.{Traced}
+use Rattle.ms_trail.specs.declared.traced_run.TracedRun.{TracedRun}
 use Rattle.ms_trail_uses.specs.Due.{IsDue, sets_at}
 use Rattle.ms_trail.specs.Following.{Passes, Went, IsFollowed}
 use Rattle.ms_trail.proofs.Going.{acts, not_reported}
@@ -40,7 +40,7 @@ IsStopping code.Unreachable = Unit {0}
 IsStopping code.Phi = Unit {0}
 IsStopping k = ⊥
 
-module _ (m : Module) (u : Setup) (t : Traced) (f : Follower) (o : IsFollowed m u t f) (k : Code) (passes : Passes m u t) (due : IsDue m f.fiber f.world k) where
+module _ (m : Module) (u : Setup) (t : Traced) (f : TracedRun) (o : IsFollowed m u t f) (k : Code) (passes : Passes m u t) (due : IsDue m f.fiber f.world k) where
   now : DueNow m u t f o k
   now = due_now m u t f o k passes due
 

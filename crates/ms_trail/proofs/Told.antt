@@ -1,10 +1,10 @@
 -- Logs of moves of words.
 use Rattle.std.proofs.Common.{◌≡◌, ℕ, Bool, List, [], ◌∷◌, ◌++◌, if◌then◌else◌, sym, ap, ◌∙◌, subst, append-nil, eq-eqb}
 use Rattle.std.proofs.lemmas.Bool.{ne_eqb}
-use Rattle.ms_moves.specs.declared.moves.Source.{Source}
-use Rattle.ms_moves.specs.declared.moves.Target.{Target}
-use Rattle.ms_moves.specs.declared.moves.Move.{Move}
-use Rattle.ms_moves.specs.Events.{moved}
+use Rattle.ms_trail_moves.specs.declared.moves.Source.{Source}
+use Rattle.ms_trail_moves.specs.declared.moves.Target.{Target}
+use Rattle.ms_trail_moves.specs.declared.moves.Move.{Move}
+use Rattle.ms_trail_moves.specs.Events.{moved}
 use Rattle.ms_trail_bytes.specs.declared.logs.Log.{Log}
 use Rattle.ms_trail_bytes.specs.Logs.{IsLog}
 use Rattle.ms_trail.specs.Telling.{masked_move}

@@ -11,12 +11,12 @@ use Rattle.ms_runs.specs.Masks.{by_completions, by_formulas}
 use Rattle.ms_runs.specs.Shadow.{ShadowState, shadow_step}
 use Rattle.ms_runs_laws.proofs.ExactRules.{formulas_exact}
 use Rattle.ms_runs_laws.proofs.SameRuns.{same_step}
-use Rattle.ms_moves.specs.declared.moves.Source.{Source}
-use Rattle.ms_moves.specs.declared.moves.Move.{Move}
-use Rattle.ms_moves.specs.Traces.{Traced, traced_start, traced_on, use_of, Trace, NoReport, Found, ended, stepped, trace_from, one_report, trace}
-use Rattle.ms_trail.specs.declared.follower.Follower.{Follower}
-use Rattle.ms_trail.specs.declared.follower.Turn.{Turn}
-use Rattle.ms_trail.specs.declared.follower.Turn.TheVariants as turn
+use Rattle.ms_trail_moves.specs.declared.moves.Source.{Source}
+use Rattle.ms_trail_moves.specs.declared.moves.Move.{Move}
+use Rattle.ms_trail_moves.specs.Traces.{Traced, traced_start, traced_on, use_of, Trace, NoReport, Found, ended, stepped, trace_from, one_report, trace}
+use Rattle.ms_trail.specs.declared.traced_run.TracedRun.{TracedRun}
+use Rattle.ms_trail.specs.declared.traced_run.StepEnd.{StepEnd}
+use Rattle.ms_trail.specs.declared.traced_run.StepEnd.TheVariants as turn
 use Rattle.ms_trail.specs.declared.found.Trace.TheVariants as found
 use Rattle.ms_trail_bytes.specs.declared.logs.Log.{Log}
 use Rattle.ms_trail_bytes.specs.Logs.{move_limit, IsLog}
@@ -24,7 +24,7 @@ use Rattle.ms_trail.specs.Following.{IsFollowed, Turned}
 use Rattle.ms_trail.specs.Ready.{HasRoom, Grew, IsGoing}
 use Rattle.ms_trail.specs.Tracing.{limited}
 
--- ---- the trace behind a step
+-- ---- the trace after a step
 
 at_step : (m : Module) (u : Setup) (t : Traced) (n : ℕ) (x : Stepped ShadowState) → shadow_step by_formulas (setting_of m u) m t.state ≡ x
     → trace_from by_completions (setting_of m u) m (suc n) t ≡ stepped x (λ c. trace_from by_completions (setting_of m u) m n (traced_on (setting_of m u) m t c)) (Found t.moves (use_of (setting_of m u) m t.numbers t.state))
@@ -40,8 +40,8 @@ never «end».Spent f h = refl
 
 -- ---- turns
 
--- a follower has come to a step behind which so many are left, and the trace from there is that of the whole run
-pub record Following (m : Module) (setup : Setup) (left : ℕ) (f : Follower) : Type 0 where
+-- a follower has come to a step after which so many are left, and the trace from there is that of the whole run
+pub record Following (m : Module) (setup : Setup) (left : ℕ) (f : TracedRun) : Type 0 where
   pub run : Traced
   pub is : IsFollowed m (one_report setup) run f
   pub same : trace_from by_completions (setting_of m (one_report setup)) m left run ≡ trace m setup
@@ -50,7 +50,7 @@ pub record Following (m : Module) (setup : Setup) (left : ℕ) (f : Follower) : 
   pub calls : f.made + left ≤ 2 ^ 62
   pub events : f.event + left ≤ 2 ^ 62
 
-pub following_start : (m : Module) (setup : Setup) (f : Follower) → IsFollowed m (one_report setup) (traced_start m setup) f → f.world.made ≡ 0 → setup.steps ≤ 1000000000 → Following m setup setup.steps f
+pub following_start : (m : Module) (setup : Setup) (f : TracedRun) → IsFollowed m (one_report setup) (traced_start m setup) f → f.world.made ≡ 0 → setup.steps ≤ 1000000000 → Following m setup setup.steps f
 following_start m setup f is none few = record {
   run = traced_start m setup;
   is = is;
@@ -61,7 +61,7 @@ following_start m setup f is none few = record {
   events = omega (arith, is.event, few);
 }
 
-module _ (m : Module) (setup : Setup) (left : ℕ) (n : ℕ) (is : left ≡ suc n) (f : Follower) (g : Following m setup left f) where
+module _ (m : Module) (setup : Setup) (left : ℕ) (n : ℕ) (is : left ≡ suc n) (f : TracedRun) (g : Following m setup left f) where
   room : HasRoom f
   room = record {
     steps = omega (arith, is, g.events);
@@ -79,13 +79,13 @@ module _ (m : Module) (setup : Setup) (left : ℕ) (n : ℕ) (is : left ≡ suc 
   here : trace_from by_completions (setting_of m (one_report setup)) m (suc n) g.run ≡ trace m setup
   here = ap (λ k. trace_from by_completions (setting_of m (one_report setup)) m k g.run) (sym is) ∙ g.same
 
-  module _ (x : Turn) (new : Follower) (turned : Turned f.m.now (one_report setup) g.run x new) where
+  module _ (x : StepEnd) (new : TracedRun) (turned : Turned f.m.now (one_report setup) g.run x new) where
     pub turned_here : Turned m (one_report setup) g.run x new
     turned_here = subst (λ (y : Module). Turned y (one_report setup) g.run x new) g.is.whole turned
 
-  pub following_on : (x : Turn) (new : Follower) → x ≡ turn.On → Turned f.m.now (one_report setup) g.run x new → Grew f new → Following m setup n new
+  pub following_on : (x : StepEnd) (new : TracedRun) → x ≡ turn.On → Turned f.m.now (one_report setup) g.run x new → Grew f new → Following m setup n new
   following_on x new on turned grew =
-      let next : Turned m (one_report setup) g.run turn.On new = subst (λ (y : Turn). Turned m (one_report setup) g.run y new) on (turned_here x new turned) in
+      let next : Turned m (one_report setup) g.run turn.On new = subst (λ (y : StepEnd). Turned m (one_report setup) g.run y new) on (turned_here x new turned) in
       record {
         run = traced_on (setting_of m (one_report setup)) m g.run next.0;
         is = next.1.1;
@@ -96,21 +96,21 @@ module _ (m : Module) (setup : Setup) (left : ℕ) (n : ℕ) (is : left ≡ suc 
         events = omega (arith, is, g.events, g.is.event, next.1.1.event);
       }
 
-  pub following_over : (x : Turn) (new : Follower) → x ≡ turn.Over → Turned f.m.now (one_report setup) g.run x new → found.NoReport ≡ limited (trace m setup)
+  pub following_over : (x : StepEnd) (new : TracedRun) → x ≡ turn.Over → Turned f.m.now (one_report setup) g.run x new → found.NoReport ≡ limited (trace m setup)
   following_over x new over turned =
-      let last : Turned m (one_report setup) g.run turn.Over new = subst (λ (y : Turn). Turned m (one_report setup) g.run y new) over (turned_here x new turned) in
+      let last : Turned m (one_report setup) g.run turn.Over new = subst (λ (y : StepEnd). Turned m (one_report setup) g.run y new) over (turned_here x new turned) in
       ap limited (sym (never last.0 (Found g.run.moves (use_of (setting_of m (one_report setup)) m g.run.numbers g.run.state)) last.2.1) ∙ sym (at_step m (one_report setup) g.run n (Stop last.0 last.1) last.2.0) ∙ here)
 
-  pub following_log : (x : Turn) (at : Source) (new : Follower) → x ≡ turn.Reported at → Turned f.m.now (one_report setup) g.run x new → IsLog new.log g.run.moves
-  following_log x at new reported turned = (subst (λ (y : Turn). Turned m (one_report setup) g.run y new) reported (turned_here x new turned)).1.2
+  pub following_log : (x : StepEnd) (at : Source) (new : TracedRun) → x ≡ turn.Reported at → Turned f.m.now (one_report setup) g.run x new → IsLog new.log g.run.moves
+  following_log x at new reported turned = (subst (λ (y : StepEnd). Turned m (one_report setup) g.run y new) reported (turned_here x new turned)).1.2
 
-  pub following_reported : (x : Turn) (at : Source) (new : Follower) → x ≡ turn.Reported at → Turned f.m.now (one_report setup) g.run x new → limited (Found g.run.moves at) ≡ limited (trace m setup)
+  pub following_reported : (x : StepEnd) (at : Source) (new : TracedRun) → x ≡ turn.Reported at → Turned f.m.now (one_report setup) g.run x new → limited (Found g.run.moves at) ≡ limited (trace m setup)
   following_reported x at new reported turned =
-      let last : Turned m (one_report setup) g.run (turn.Reported at) new = subst (λ (y : Turn). Turned m (one_report setup) g.run y new) reported (turned_here x new turned) in
+      let last : Turned m (one_report setup) g.run (turn.Reported at) new = subst (λ (y : StepEnd). Turned m (one_report setup) g.run y new) reported (turned_here x new turned) in
       ap limited (ap (Found g.run.moves) last.1.1 ∙ sym (at_step m (one_report setup) g.run n (Stop «end».Reported last.0) last.1.0) ∙ here)
 
 -- where no step is left there is no report
-pub following_spent : (m : Module) (setup : Setup) (left : ℕ) (f : Follower) → Following m setup left f → left ≡ 0 → found.NoReport ≡ limited (trace m setup)
+pub following_spent : (m : Module) (setup : Setup) (left : ℕ) (f : TracedRun) → Following m setup left f → left ≡ 0 → found.NoReport ≡ limited (trace m setup)
 following_spent m setup left f g none = ap limited (ap (λ k. trace_from by_completions (setting_of m (one_report setup)) m k g.run) (sym none) ∙ g.same)
 
 -- ---- logs

@@ -1,4 +1,4 @@
--- A step by an instruction that sets its result, and nothing else: the frames, the shadow and the moves behind it.
+-- A step by an instruction that sets its result, and nothing else: the frames, the shadow and the moves after it.
 use Rattle.std.proofs.Common.{◌≡◌, ◌+◌, ◌-◌, ℕ, Bool, true, false, List, [], ◌∷◌, map, drop, length, if◌then◌else◌, Some, None, Result, Ok, Err, refl, sym, ap, ◌∙◌, arith}
 use Rattle.std.specs.Prelude.{set}
 use Rattle.ms_bits.specs.declared.traps.Trap.{Trap}
@@ -19,18 +19,18 @@ use Rattle.ms_runs.specs.Plain.{More}
 use Rattle.ms_runs.specs.Poisoned.{Poisoned}
 use Rattle.ms_runs.specs.Masks.{by_formulas, word_at}
 use Rattle.ms_runs.specs.Shadow.{ShadowState, read_poisoned, shadow_reading, planes, shadow_moved, poisoned_result, shadow_act}
-use Rattle.ms_valid.proofs.NameTests.{name_same}
-use Rattle.ms_code.specs.Reads.{Holds, IsPlace}
+use Rattle.ms_check_valid.proofs.NameTests.{name_same}
+use Rattle.ms_machine_code.specs.Reads.{Holds, IsPlace}
 use Rattle.ms_machine_steps.proofs.Dense.{set_holds}
-use Rattle.ms_follow_laws.specs.Follows.{shadow_left, leave_shadow, first_shadow, step_shadow, frames_shadow}
-use Rattle.ms_moves.specs.declared.moves.Source.{Source}
-use Rattle.ms_moves.specs.declared.moves.Target.TheVariants.{Value}
-use Rattle.ms_moves.specs.declared.moves.Move.{Move}
-use Rattle.ms_moves.specs.Sources.{operand_source, sources, source_at, result_source}
-use Rattle.ms_moves.specs.Written.{written}
-use Rattle.ms_moves.specs.Events.{Numbers, renumbered, innermost, word_move, result_move, return_move, param_moves, phi_moves, memory_moves, callee_moves, inst_moves, first_moves, frames_moves, event_moves}
+use Rattle.ms_runs_laws.specs.Follows.{shadow_left, leave_shadow, first_shadow, step_shadow, frames_shadow}
+use Rattle.ms_trail_moves.specs.declared.moves.Source.{Source}
+use Rattle.ms_trail_moves.specs.declared.moves.Target.TheVariants.{Value}
+use Rattle.ms_trail_moves.specs.declared.moves.Move.{Move}
+use Rattle.ms_trail_moves.specs.Sources.{operand_source, sources, source_at, result_source}
+use Rattle.ms_trail_moves.specs.Written.{written}
+use Rattle.ms_trail_moves.specs.Events.{Numbers, renumbered, innermost, word_move, result_move, return_move, param_moves, phi_moves, memory_moves, callee_moves, inst_moves, first_moves, frames_moves, event_moves}
 use Rattle.ms_trail.specs.Telling.{masked_move}
-use Rattle.ms_moves_laws.proofs.StepMoves.{less_itself}
+use Rattle.ms_trail_laws.proofs.StepMoves.{less_itself}
 
 -- ---- which operations these are
 
@@ -204,7 +204,7 @@ module _ (s : Setting) (m : Module) (c : ShadowState) (fr : Frame Poisoned) (bel
       ∙ ap (λ o. result_move event at.site (innermost n.standing) o (put fr o p).values from) named
       ∙ ap (λ b. word_move event at.site (if b then p else fr.values x) from (Value (innermost n.standing) x)) (name_same x)
 
--- ---- the masks behind it
+-- ---- the masks after it
 
 -- a mask is set at the place of a name, where the name's word gets it
 pub masks_set : (names : List Name) (ms : List ℕ) (values : Name → Poisoned) (k : ℕ) (x : Name) (p : Poisoned) → IsPlace names k x → Holds names ms (λ y. (values y).mask)

@@ -1,4 +1,4 @@
--- A follower behind an 'alloca' or a store.
+-- A follower after an 'alloca' or a store.
 use Rattle.std.proofs.Common.{eqb, ◌≡◌, ◌≤◌, ◌<◌, ◌+◌, ◌*◌, ◌^◌, ℕ, Bool, true, false, List, [], ◌∷◌, ◌++◌, map, length, reverse, get_or, if◌then◌else◌, Some, refl, sym, ap, ◌∙◌, subst, arith, append-nil}
 use Rattle.std.specs.Prelude.{set, slice_get}
 use Rattle.std.proofs.lemmas.Option.{same_Some}
@@ -25,36 +25,36 @@ use Rattle.ms_runs.specs.Poisoned.{Poisoned}
 use Rattle.ms_runs.specs.Masks.{by_formulas, union, word_at, result_mask}
 use Rattle.ms_runs.specs.Uses.{blinded}
 use Rattle.ms_runs.specs.Shadow.{ShadowState, read_poisoned, planes, shadow_moved, poisoned_result, shadow_act, shadow_step}
-use Rattle.ms_good_laws.specs.GoodWorlds.{FitsCell}
-use Rattle.ms_good_laws.proofs.WorldChanges.{set_shadow_good}
-use Rattle.ms_good_laws.proofs.ExternalEffects.{fits_small}
-use Rattle.ms_good_laws.proofs.Readings.{word_number}
-use Rattle.ms_valid.proofs.NameTests.{name_same}
-use Rattle.ms_code.specs.declared.code.Source.{Source as Operand}
-use Rattle.ms_code.specs.declared.code.Code.{Code}
-use Rattle.ms_code.specs.declared.code.Code.TheVariants as code
-use Rattle.ms_code.specs.Words.{word_of}
-use Rattle.ms_code.specs.Reads.{Holds, IsPlace, IsResult}
-use Rattle.ms_code.specs.Encodes.{Where, Encodes}
-use Rattle.ms_code.specs.Compiled.{where_is}
+use Rattle.ms_runs_good_laws.specs.GoodWorlds.{FitsCell}
+use Rattle.ms_runs_good_laws.proofs.WorldChanges.{set_shadow_good}
+use Rattle.ms_runs_good_laws.proofs.ExternalEffects.{fits_small}
+use Rattle.ms_runs_good_laws.proofs.Readings.{word_number}
+use Rattle.ms_check_valid.proofs.NameTests.{name_same}
+use Rattle.ms_machine_code.specs.declared.code.WordSource.{WordSource as Operand}
+use Rattle.ms_machine_code.specs.declared.code.Code.{Code}
+use Rattle.ms_machine_code.specs.declared.code.Code.TheVariants as code
+use Rattle.ms_machine_code.specs.Words.{word_of}
+use Rattle.ms_machine_code.specs.Reads.{Holds, IsPlace, IsResult}
+use Rattle.ms_machine_code.specs.Encodes.{Where, Encodes}
+use Rattle.ms_machine_code.specs.Compiled.{where_is}
 use Rattle.ms_host.specs.State.{WorldState, Beside, Keeps, nothing_beside}
 use Rattle.ms_host.specs.Shows.{Shows}
 use Rattle.ms_machine_frames.specs.declared.fibers.Fiber.{Fiber}
 use Rattle.ms_machine_frames.specs.Standing.{frames_of}
 use Rattle.ms_machine_steps.specs.Advances.{step_of}
 use Rattle.ms_machine.specs.Running.{StandsFor, AllStandFor, IsRunning}
-use Rattle.ms_follow_laws.specs.Follows.{light, bare_frame, shadow_left, leave_shadow, first_shadow, frames_shadow, step_shadow}
-use Rattle.ms_follow_laws.proofs.Planes.{planes_light}
-use Rattle.ms_moves.specs.declared.moves.Source.{Source}
-use Rattle.ms_moves.specs.declared.moves.Move.{Move}
-use Rattle.ms_moves.specs.Sources.{sources, source_at}
-use Rattle.ms_moves.specs.Written.{Filled, made, written}
-use Rattle.ms_moves.specs.Events.{innermost, written_moves, memory_moves, event_moves}
-use Rattle.ms_moves.specs.Traces.{Traced}
-use Rattle.ms_shades.specs.Shades.{mask_of}
-use Rattle.ms_trail.specs.declared.follower.Follower.{Follower}
-use Rattle.ms_trail_uses.specs.declared.shades.Shade.{Shade}
-use Rattle.ms_trail_uses.specs.declared.tables.Row.{Row}
+use Rattle.ms_runs_laws.specs.Follows.{light, bare_frame, shadow_left, leave_shadow, first_shadow, frames_shadow, step_shadow}
+use Rattle.ms_runs_laws.proofs.FollowedPlanes.{planes_light}
+use Rattle.ms_trail_moves.specs.declared.moves.Source.{Source}
+use Rattle.ms_trail_moves.specs.declared.moves.Move.{Move}
+use Rattle.ms_trail_moves.specs.Sources.{sources, source_at}
+use Rattle.ms_trail_moves.specs.Written.{Filled, made, written}
+use Rattle.ms_trail_moves.specs.Events.{innermost, written_moves, memory_moves, event_moves}
+use Rattle.ms_trail_moves.specs.Traces.{Traced}
+use Rattle.ms_trail_masks.specs.Shades.{mask_of}
+use Rattle.ms_trail.specs.declared.traced_run.TracedRun.{TracedRun}
+use Rattle.ms_trail_uses.specs.declared.frame_masks.FrameMasks.{FrameMasks}
+use Rattle.ms_trail_uses.specs.declared.tables.InstRow.{InstRow}
 use Rattle.ms_trail_bytes.specs.Logs.{IsLog}
 use Rattle.ms_trail_uses.specs.Tabled.{HasRow}
 use Rattle.ms_trail_uses.specs.Due.{IsDue}
@@ -69,7 +69,7 @@ use Rattle.ms_trail.proofs.Onward.{onward, shaded_running, memory_same, gives_st
 use Rattle.ms_trail_bytes.proofs.Filling.{good_poison}
 use Rattle.ms_bits_laws.proofs.MapLemmas.{byte_of-lt}
 
-module _ (m : Module) (u : Setup) (t : Traced) (old : Follower) (o : IsFollowed m u t old) (k : Code) (passes : Passes m u t) (due : IsDue m old.fiber old.world k) (next : PlainState) (took : step_of m u o.state ≡ More next) where
+module _ (m : Module) (u : Setup) (t : Traced) (old : TracedRun) (o : IsFollowed m u t old) (k : Code) (passes : Passes m u t) (due : IsDue m old.fiber old.world k) (next : PlainState) (took : step_of m u o.state ≡ More next) where
   abbrev pub now : DueNow m u t old o k
   now = due_now m u t old o k passes due
 
@@ -106,15 +106,15 @@ module _ (m : Module) (u : Setup) (t : Traced) (old : Follower) (o : IsFollowed 
   pub listed : HasRow m old.tables.rows.items now.frame.func now.frame.block now.frame.place i
   listed = o.tables now.frame.func now.frame.block now.frame.place i now.coded.item
 
-  module _ (row : Row) (stands : slice_get old.tables.rows.items old.fiber.frame.at ≡ Some row) where
+  module _ (row : InstRow) (stands : slice_get old.tables.rows.items old.fiber.frame.at ≡ Some row) where
     pub row_is : row ≡ listed.row
     row_is = same_Some row listed.row (sym stands ∙ ap (slice_get old.tables.rows.items) now.stands.at ∙ listed.stands)
 
     pub inst_is : row.inst.now ≡ i
-    inst_is = ap (λ (r : Row). r.inst.now) row_is ∙ listed.is.inst_is
+    inst_is = ap (λ (r : InstRow). r.inst.now) row_is ∙ listed.is.inst_is
 
     pub roots_are : row.roots ≡ h.root
-    roots_are = ap (λ (r : Row). r.roots) row_is ∙ listed.is.roots
+    roots_are = ap (λ (r : InstRow). r.roots) row_is ∙ listed.is.roots
 
   -- the shadow that the step leaves
   pub shade_is : (x : Effect) → act s h i.op (map (λ p. p.value) ps) t.state.world ≡ x → (w : World) → step_shadow s m t.state w ≡ leave_shadow x (shadow_left s i.op ps t.state.world) w
@@ -136,8 +136,8 @@ module _ (m : Module) (u : Setup) (t : Traced) (old : Follower) (o : IsFollowed 
         not_ended s m h.site i.result ps (poisoned_result by_formulas i.op ps) (planes s h.site own i.op ps t.state.world) (keeping i.op (act s h i.op (map (λ p. p.value) ps) t.state.world) now.frame) now.below gone.0
         (act s h i.op (map (λ p. p.value) ps) t.state.world) on (subst IsEnd (sym e) ends)
 
-  -- a follower behind a step that wrote memory, and nothing but its result's mask
-  module _ (writes : IsWriting i.op) (head : Frame Poisoned) (frames : gone.0.frames ≡ head ∷ now.below) (v : World) (left : v ≡ step_shadow s m t.state next.world) (new : Follower)
+  -- a follower after a step that wrote memory, and nothing but its result's mask
+  module _ (writes : IsWriting i.op) (head : Frame Poisoned) (frames : gone.0.frames ≡ head ∷ now.below) (v : World) (left : v ≡ step_shadow s m t.state next.world) (new : TracedRun)
       (running : IsRunning m u nothing_beside new.fiber new.world (record next { world = v })) (keeps : KeepsCalls old new) (event : new.event ≡ old.event + 1) (shade : HasShade m its.number head new.shade) (site : ℕ) (sited : site ≡ h.site)
       (told : IsLog new.log (t.moves ++ memory_moves old.event site v.shadow (written s own i.op ps (sources old.shade.number (operands i.op) h.root) t.state.world v))) where
     wrote : Went m u t true new
@@ -149,7 +149,7 @@ module _ (m : Module) (u : Setup) (t : Traced) (old : Follower) (o : IsFollowed 
         in
         let all : HaveShades m (its.number ∷ its.numbers) c.frames (new.shade ∷ reverse new.below.items) =
         subst (λ (fs : List (Frame Poisoned)). HaveShades m (its.number ∷ its.numbers) fs (new.shade ∷ reverse new.below.items)) (sym frames)
-        (shade, subst (λ (bs : List Shade). HaveShades m its.numbers now.below (reverse bs)) (sym keeps.below) its.lower)
+        (shade, subst (λ (bs : List FrameMasks). HaveShades m its.numbers now.below (reverse bs)) (sym keeps.below) its.lower)
         in
         let moves : memory_moves old.event site v.shadow (written s own i.op ps (sources old.shade.number (operands i.op) h.root) t.state.world v) ≡ event_moves s m t.events t.numbers t.numbers t.state c =
         (λ j. memory_moves (o.event j) (sited j) v.shadow (written s own i.op ps (sources (sym number_is j) (operands i.op) h.root) t.state.world v))
@@ -249,7 +249,7 @@ module _ (m : Module) (u : Setup) (t : Traced) (old : Follower) (o : IsFollowed 
         let place : IsPlace (locals stands.func) to a_named.0 = subst (λ (g : Func). IsPlace (locals g) to a_named.0) (sym same) a_named.1.1 in
         omega (arith, place.is, place.known, stands.holds.count)
 
-    module _ (new : Follower) (w : WorldState) (running : IsRunning m u nothing_beside new.fiber w next) (base root many site : ℕ) (row : Row) (stands : slice_get old.tables.rows.items old.fiber.frame.at ≡ Some row)
+    module _ (new : TracedRun) (w : WorldState) (running : IsRunning m u nothing_beside new.fiber w next) (base root many site : ℕ) (row : InstRow) (stands : slice_get old.tables.rows.items old.fiber.frame.at ≡ Some row)
         (based : base ≡ get_or new.fiber.frame.values.items to 0) (counted : many ≡ word_of old.fill.now old.fiber.frame.values.items count) (rooted : root ≡ row.roots + count_undefs (operands row.inst.now.op) + 1)
         (site_is : (v : Setup) (beside : Beside) (state : PlainState) (frame : Frame ℕ) (below : List (Frame ℕ)) → IsRunning m v beside old.fiber old.world state → state.frames ≡ frame ∷ below → site ≡ site_at m frame.func frame.block frame.place)
         (keeps : KeepsCalls old new) (event : new.event ≡ old.event + 1) (masks : new.shade.masks.items ≡ set old.shade.masks.items to 0) (number : new.shade.number ≡ old.shade.number) (slots : Keeps w new.world)
@@ -327,7 +327,7 @@ module _ (m : Module) (u : Setup) (t : Traced) (old : Follower) (o : IsFollowed 
     s_shade : (w : World) → step_shadow s m t.state w ≡ set_shadow (word_at 1 ps).value (stored_size ty) (byte_of (word_at 0 ps).mask) w
     s_shade w = shade_is (Does after) s_does w ∙ ap (λ (x : Op). shadow_left s x ps t.state.world 0 w) s_is
 
-    -- the bytes are good in the machine's world behind the step
+    -- the bytes are good in the machine's world after the step
     good_after : is_good next.world (word_at 1 ps).value (stored_size ty) ≡ true
     good_after =
         ap (λ (w : World). is_good w (word_at 1 ps).value (stored_size ty)) (sym (s_shade next.world))
@@ -341,7 +341,7 @@ module _ (m : Module) (u : Setup) (t : Traced) (old : Follower) (o : IsFollowed 
       pub good_stored : is_good next.world first size ≡ true
       good_stored = (λ j. is_good next.world ((first_is ∙ address) j) (sym s_code.3.1 j)) ∙ good_after
 
-      module _ (new : Follower) (w : WorldState) (running : IsRunning m u nothing_beside new.fiber w next) (mask site : ℕ) (from : Source) (row : Row) (stands : slice_get old.tables.rows.items old.fiber.frame.at ≡ Some row)
+      module _ (new : TracedRun) (w : WorldState) (running : IsRunning m u nothing_beside new.fiber w next) (mask site : ℕ) (from : Source) (row : InstRow) (stands : slice_get old.tables.rows.items old.fiber.frame.at ≡ Some row)
           (masked : mask ≡ mask_of old.shade.masks.items value) (from_is : from ≡ source_at 0 (sources old.shade.number (operands row.inst.now.op) row.roots))
           (site_is : (v : Setup) (beside : Beside) (state : PlainState) (frame : Frame ℕ) (below : List (Frame ℕ)) → IsRunning m v beside old.fiber old.world state → state.frames ≡ frame ∷ below → site ≡ site_at m frame.func frame.block frame.place)
           (keeps : KeepsCalls old new) (event : new.event ≡ old.event + 1) (shade_same : new.shade ≡ old.shade) (slots : Keeps w new.world)
@@ -355,7 +355,7 @@ module _ (m : Module) (u : Setup) (t : Traced) (old : Follower) (o : IsFollowed 
             let same_from : from ≡ source_at 0 (sources old.shade.number (operands i.op) h.root) = from_is ∙ (λ j. source_at 0 (sources old.shade.number (operands (inst_is row stands j).op) (roots_are row stands j))) in
             let v : World = set_shadow first size (byte_of mask) next.world in
             let v_is : v ≡ set_shadow (word_at 1 ps).value (stored_size ty) (byte_of (word_at 0 ps).mask) next.world = (λ j. set_shadow (same_first j) (same_size j) (byte_of (same_mask j)) next.world) in
-            let shade : HasShade m its.number (one_on now.frame) new.shade = subst (λ (x : Shade). HasShade m its.number (one_on now.frame) x) (sym shade_same) (record {
+            let shade : HasShade m its.number (one_on now.frame) new.shade = subst (λ (x : FrameMasks). HasShade m its.number (one_on now.frame) x) (sym shade_same) (record {
               func = its.shade_is.func;
               is = its.shade_is.is;
               numbered = its.shade_is.numbered;

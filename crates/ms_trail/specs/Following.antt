@@ -17,34 +17,34 @@ use Rattle.ms_runs.specs.Poisoned.{Poisoned}
 use Rattle.ms_runs.specs.Masks.{by_formulas}
 use Rattle.ms_runs.specs.Uses.{uses, check_uses}
 use Rattle.ms_runs.specs.Shadow.{ShadowState, read_poisoned, shadow_step}
-use Rattle.ms_code.specs.Reads.{Holds}
+use Rattle.ms_machine_code.specs.Reads.{Holds}
 use Rattle.ms_host.specs.State.{nothing_beside}
 use Rattle.ms_printf.specs.CallSites.{AreCallSites}
-use Rattle.ms_good_laws.specs.GoodStates.{IsMain, Bottom}
+use Rattle.ms_runs_good_laws.specs.GoodStates.{IsMain, Bottom}
 use Rattle.ms_machine.specs.Running.{IsRunning}
-use Rattle.ms_follow_laws.specs.Follows.{Follows}
-use Rattle.ms_moves.specs.Traces.{Traced, traced_on, use_of}
-use Rattle.ms_trail.specs.declared.follower.Follower.{Follower}
-use Rattle.ms_trail.specs.declared.follower.Turn.{Turn}
-use Rattle.ms_trail.specs.declared.follower.Turn.TheVariants as turn
-use Rattle.ms_trail_uses.specs.declared.shades.Shade.{Shade}
+use Rattle.ms_runs_laws.specs.Follows.{Follows}
+use Rattle.ms_trail_moves.specs.Traces.{Traced, traced_on, use_of}
+use Rattle.ms_trail.specs.declared.traced_run.TracedRun.{TracedRun}
+use Rattle.ms_trail.specs.declared.traced_run.StepEnd.{StepEnd}
+use Rattle.ms_trail.specs.declared.traced_run.StepEnd.TheVariants as turn
+use Rattle.ms_trail_uses.specs.declared.frame_masks.FrameMasks.{FrameMasks}
 use Rattle.ms_trail_bytes.specs.Logs.{IsLog}
 use Rattle.ms_trail_uses.specs.Tabled.{AreTables}
 
 -- a call's masks, under its number, are those of a frame's values
-pub record HasShade (m : Module) (number : ℕ) (frame : Frame Poisoned) (shade : Shade) : Type 0 where
+pub record HasShade (m : Module) (number : ℕ) (frame : Frame Poisoned) (shade : FrameMasks) : Type 0 where
   pub func : Func
   pub is : func_at m frame.func ≡ Some func
   pub numbered : shade.number ≡ number
   pub masks : Holds (locals func) shade.masks.items (λ x. (frame.values x).mask)
 
 -- those of all frames that stand, innermost first
-abbrev pub HaveShades : Module → List ℕ → List (Frame Poisoned) → List Shade → Type 0
+abbrev pub HaveShades : Module → List ℕ → List (Frame Poisoned) → List FrameMasks → Type 0
 HaveShades m [] [] [] = Unit {0}
 HaveShades m (n ∷ ns) (f ∷ fs) (s ∷ ss) = HasShade m n f s × HaveShades m ns fs ss
 HaveShades m _ _ _ = ⊥
 
-pub record IsFollowed (m : Module) (u : Setup) (t : Traced) (f : Follower) : Type 0 where
+pub record IsFollowed (m : Module) (u : Setup) (t : Traced) (f : TracedRun) : Type 0 where
   pub whole : f.m.now ≡ m
   pub bare : NoMarks m
   pub calm : is_threaded m ≡ false
@@ -63,7 +63,7 @@ pub record IsFollowed (m : Module) (u : Setup) (t : Traced) (f : Follower) : Typ
   pub filled : 0 < length u.fill
 
 -- a turn took the run's next step: it goes on, or it ended, at a report or otherwise
-abbrev pub Turned : Module → Setup → Traced → Turn → Follower → Type 0
+abbrev pub Turned : Module → Setup → Traced → StepEnd → TracedRun → Type 0
 Turned m u t turn.On f = (c : ShadowState) × ((shadow_step by_formulas (setting_of m u) m t.state ≡ More c) × IsFollowed m u (traced_on (setting_of m u) m t c) f)
 Turned m u t turn.Over f = (e : End) × (w : World) × ((shadow_step by_formulas (setting_of m u) m t.state ≡ Stop e w) × (e ≢ «end».Reported))
 Turned m u t (turn.Reported at) f = (w : World) × ((shadow_step by_formulas (setting_of m u) m t.state ≡ Stop «end».Reported w) × (at ≡ use_of (setting_of m u) m t.numbers t.state) × IsLog f.log t.moves)
@@ -82,6 +82,6 @@ abbrev pub Passes : Module → Setup → Traced → Type 0
 Passes m u t = FramesPass (setting_of m u) m t.state.frames t.state.world
 
 -- a step was taken after checks that pass: the run goes on, or it ended without a report
-abbrev pub Went : Module → Setup → Traced → Bool → Follower → Type 0
+abbrev pub Went : Module → Setup → Traced → Bool → TracedRun → Type 0
 Went m u t true f = (c : ShadowState) × ((shadow_step by_formulas (setting_of m u) m t.state ≡ More c) × IsFollowed m u (traced_on (setting_of m u) m t c) f)
 Went m u t false f = (e : End) × (w : World) × ((shadow_step by_formulas (setting_of m u) m t.state ≡ Stop e w) × (e ≢ «end».Reported))

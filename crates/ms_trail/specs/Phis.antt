@@ -5,10 +5,10 @@ use Rattle.ms_ir.specs.declared.syntax.Name.TheVariants.{Number}
 use Rattle.ms_ir.specs.declared.syntax.Op.TheVariants as op
 use Rattle.ms_ir.specs.declared.syntax.Inst.{Inst}
 use Rattle.ms_ir.specs.Instructions.{operands, count_undefs, one_unmarked, roots_in}
-use Rattle.ms_moves.specs.declared.moves.Target.TheVariants.{Value}
-use Rattle.ms_moves.specs.declared.moves.Move.{Move}
-use Rattle.ms_moves.specs.Edges.{edge_source}
-use Rattle.ms_trail_uses.specs.declared.tables.Row.{Row}
+use Rattle.ms_trail_moves.specs.declared.moves.Target.TheVariants.{Value}
+use Rattle.ms_trail_moves.specs.declared.moves.Move.{Move}
+use Rattle.ms_trail_moves.specs.Edges.{edge_source}
+use Rattle.ms_trail_uses.specs.declared.tables.InstRow.{InstRow}
 use Rattle.ms_trail.specs.Telling.{masked_move}
 
 -- the moves of the phis that instructions begin with, whose masks are given; n roots and a site come before
@@ -23,7 +23,7 @@ phis_told event frame func from (i ∷ is) n site (mask ∷ masks) =
 phis_told event frame func from _ n site _ = []
 
 -- the rows of phis with these masks are there, with few roots, and there are sites before the one after them
-pub record TellsPhis (rows : List Row) (first : ℕ) (masks : List ℕ) (behind : ℕ) : Type 0 where
+pub record TellsPhis (rows : List InstRow) (first : ℕ) (masks : List ℕ) (after : ℕ) : Type 0 where
   pub there : (k : ℕ) → k < length masks → first + k < length rows
-  pub few : (k : ℕ) (row : Row) → k < length masks → slice_get rows (first + k) ≡ Some row → row.roots + count_undefs (operands row.inst.now.op) < 2 ^ 32
-  pub sites : length masks ≤ behind
+  pub few : (k : ℕ) (row : InstRow) → k < length masks → slice_get rows (first + k) ≡ Some row → row.roots + count_undefs (operands row.inst.now.op) < 2 ^ 32
+  pub sites : length masks ≤ after

@@ -1,13 +1,13 @@
 -- Followers that may take one more step, and what a step adds to them (own).
 use Rattle.std.specs.Prelude.{◌≡◌, ◌≤◌, ◌<◌, ◌+◌, ◌^◌, List, length}
 use Rattle.ms_runs.specs.declared.runs.Setup.{Setup}
-use Rattle.ms_code.specs.declared.code.Code.{Code}
-use Rattle.ms_code.specs.declared.code.Routine.{Routine}
-use Rattle.ms_code.specs.Fits.{Fits}
+use Rattle.ms_machine_code.specs.declared.code.Code.{Code}
+use Rattle.ms_machine_code.specs.declared.code.Routine.{Routine}
+use Rattle.ms_machine_code.specs.Fits.{Fits}
 use Rattle.ms_machine_frames.specs.declared.fibers.Fiber.{Fiber}
 use Rattle.ms_machine_frames.specs.Meaning.{phis_in}
-use Rattle.ms_moves.specs.Traces.{Traced}
-use Rattle.ms_trail.specs.declared.follower.Follower.{Follower}
+use Rattle.ms_trail_moves.specs.Traces.{Traced}
+use Rattle.ms_trail.specs.declared.traced_run.TracedRun.{TracedRun}
 use Rattle.ms_trail_uses.specs.Due.{IsDue}
 use Rattle.ms_trail.specs.Following.{IsFollowed, Passes}
 
@@ -17,14 +17,14 @@ pub record FitsHere (fiber : Fiber) (k : Code) : Type 0 where
   pub fits : Fits (length fiber.frame.values.items) (phis_in routines) routines k
 
 -- the numbers of one step more are numbers
-pub record HasRoom (f : Follower) : Type 0 where
+pub record HasRoom (f : TracedRun) : Type 0 where
   pub steps : f.event + 1 < 2 ^ 64
   pub few : f.log.count + 2 ^ 33 < 2 ^ 64
   pub made : f.world.made + 2 ^ 26 < 2 ^ 64
   pub calls : f.made + 1 < 2 ^ 64
 
 -- a follower stands for a run of which the instruction that is due has this code and passes its checks
-pub record IsReady (f : Follower) (k : Code) : Type 0 where
+pub record IsReady (f : TracedRun) (k : Code) : Type 0 where
   pub setup : Setup
   pub run : Traced
   pub one : setup.reports ≡ 1
@@ -35,11 +35,11 @@ pub record IsReady (f : Follower) (k : Code) : Type 0 where
   pub room : HasRoom f
 
 -- what a step adds at most
-pub record Grew (old new : Follower) : Type 0 where
+pub record Grew (old new : TracedRun) : Type 0 where
   pub count : new.log.count ≤ old.log.count + 2 ^ 33
   pub world : new.world.made ≤ old.world.made + 2 ^ 26
   pub calls : new.made ≤ old.made + 1
 
 -- a follower stands for a run that ends at its first report
-abbrev pub IsGoing : Follower → Type 0
+abbrev pub IsGoing : TracedRun → Type 0
 IsGoing f = (u : Setup) × (t : Traced) × ((u.reports ≡ 1) × IsFollowed f.m.now u t f × HasRoom f)

@@ -1,6 +1,6 @@
 -- What following a run comes to (own).
 use Rattle.std.specs.Prelude.{leb, length, if◌then◌else◌}
-use Rattle.ms_moves.specs.Traces as moves_of
+use Rattle.ms_trail_moves.specs.Traces as moves_of
 use Rattle.ms_trail.specs.declared.found.Trace.{Trace}
 use Rattle.ms_trail.specs.declared.found.Trace.TheVariants as found
 use Rattle.ms_trail_bytes.specs.Logs.{move_limit}

@@ -11,10 +11,10 @@ use Rattle.ms_runs.specs.Plain.{Stop, setting_of}
 use Rattle.ms_runs.specs.Poisoned.{Poisoned}
 use Rattle.ms_runs.specs.Masks.{by_formulas}
 use Rattle.ms_runs.specs.Shadow.{shadow_step}
-use Rattle.ms_moves.specs.declared.moves.Source.{Source}
-use Rattle.ms_moves.specs.Sources.{sources}
-use Rattle.ms_moves.specs.Events.{Numbers, innermost}
-use Rattle.ms_moves.specs.Traces.{Traced, use_of}
+use Rattle.ms_trail_moves.specs.declared.moves.Source.{Source}
+use Rattle.ms_trail_moves.specs.Sources.{sources}
+use Rattle.ms_trail_moves.specs.Events.{Numbers, innermost}
+use Rattle.ms_trail_moves.specs.Traces.{Traced, use_of}
 use Rattle.ms_trail_uses.specs.declared.used.Used.{Used}
 use Rattle.ms_trail_uses.specs.Used.{source_of}
 use Rattle.ms_trail.specs.Following.{Passes}

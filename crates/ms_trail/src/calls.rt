@@ -2,29 +2,29 @@
 ghost use Rattle.std.specs.Prelude.{◌≡◌, ◌≤◌, ◌<◌, ◌+◌, ◌-◌, ◌^◌, ◌++◌, List, length, replicate, slice_get, Some, All, IfOk, OnOk};
 ghost use Rattle.ms_ir.specs.Instructions.{operands, count_undefs};
 ghost use Rattle.ms_runs.specs.declared.runs.Setup.{Setup};
-ghost use Rattle.ms_code.specs.Fits.{IsSource, IsPut};
+ghost use Rattle.ms_machine_code.specs.Fits.{IsSource, IsPut};
 ghost use Rattle.ms_machine_frames.specs.Meaning.{put_of, put_value};
-ghost use Rattle.ms_moves.specs.{declared.moves.Move.{Move as MoveOf}, Sources.{sources, source_at as source_in}};
-ghost use Rattle.ms_moves.specs.Traces.{Traced};
-ghost use Rattle.ms_shades.specs.{Shades.{masks_of}, Views.{IsView}};
+ghost use Rattle.ms_trail_moves.specs.{declared.moves.Move.{Move as MoveOf}, Sources.{sources, source_at as source_in}};
+ghost use Rattle.ms_trail_moves.specs.Traces.{Traced};
+ghost use Rattle.ms_trail_masks.specs.{Shades.{masks_of}, Views.{IsView}};
 ghost use Rattle.ms_trail.specs.{Calling.{params_told, returned_told}, Following.{IsFollowed, Passes, Went}};
 ghost use Rattle.ms_trail.specs.Ready.{Grew, IsReady};
 ghost use Rattle.ms_trail_bytes.specs.Logs.{IsLog};
 
 use crate::due::{code_at, due_site};
-use crate::follower::Follower;
 use crate::results::put_mask;
+use crate::traced_run::TracedRun;
 use crate::words::{tell_param, tell_return};
 use ms_bits::NoMemory;
-use ms_code::{Code, Source as Operand};
 use ms_ir::{Func, Inst, Module, Name, Ty};
+use ms_machine_code::{Code, WordSource};
 use ms_machine_frames::{Frame, place_of_result};
-use ms_shades::{View, mask_of};
 use ms_trail_bytes::logs::Log;
 use ms_trail_bytes::spans::Stamp;
-use ms_trail_uses::shades::Shade;
+use ms_trail_masks::{View, mask_of};
+use ms_trail_uses::frame_masks::FrameMasks;
 use ms_trail_uses::steps::step;
-use ms_trail_uses::tables::Row;
+use ms_trail_uses::tables::InstRow;
 use std::alloc::Global;
 use std::mem::replace;
 
@@ -32,7 +32,7 @@ use std::mem::replace;
 pub(crate) fn argument_masks(
     alloc: Global,
     view: &View<'_>,
-    args: &[Operand],
+    args: &[WordSource],
 ) -> Result<Vec<u64>, NoMemory>
     requires view { IsView view.now }
     requires args { All (IsSource (length view.now.values.now) 64) args.now }
@@ -46,7 +46,7 @@ pub(crate) fn argument_masks(
 }
 
 /// The masks of a call's values: those of its arguments, and none after.
-fn clean_behind(masks: &mut Vec<u64>, values: usize) -> Result<(), NoMemory>
+fn clean_after(masks: &mut Vec<u64>, values: usize) -> Result<(), NoMemory>
     requires { length masks.old.items ≤ values }
     ensures { OnOk result (masks.new.items ≡ masks.old.items ++ replicate (values - length masks.old.items) 0) }
 {
@@ -62,14 +62,14 @@ fn function_at(m: &Module, func: usize) -> &Func
     &m.funcs.as_slice()[func]
 }
 
-/// The moves of the arguments of a call in the call with a number, whose masks these begin with, to the parameters of the call
-/// that was entered. The one error is running out of memory.
+/// The moves of the arguments of a call in the call with a number, whose masks these begin with, to the parameters of the
+/// call that was entered.
 fn tell_params(
     alloc: Global,
     log: &mut Log,
     stamp: Stamp,
     caller: u64,
-    row: Row<'_>,
+    row: InstRow<'_>,
     number: u64,
     params: &[(Ty, Name)],
     masks: &[u64],
@@ -107,14 +107,14 @@ pub(crate) fn put_result(masks: &mut Vec<u64>, code: &Code, mask: u64)
     }
 }
 
-/// The move of a word with a mask from a return, in the call that was left, to the result of the call that it goes back to, if that
-/// has one. The one error is running out of memory.
+/// The move of a word with a mask from a return, in the call that was left, to the result of the call that it goes back to,
+/// if that has one.
 fn tell_back(
     alloc: Global,
     log: &mut Log,
     stamp: Stamp,
     inner: u64,
-    row: Row<'_>,
+    row: InstRow<'_>,
     frame: u64,
     call: &Inst,
     mask: u64,
@@ -130,14 +130,14 @@ fn tell_back(
     }
 }
 
-impl Follower<'_> {
-    /// A call of a function of the module. Returns whether the run goes on. The one error is running out of memory.
+impl TracedRun<'_> {
+    /// A call of a function of the module. Returns whether the run goes on.
     pub(crate) fn call(
         &mut self,
         alloc: Global,
         code: &Code,
         func: usize,
-        args: &[Operand],
+        args: &[WordSource],
         to: Option<usize>,
     ) -> Result<bool, NoMemory>
         requires ready { IsReady self.old code.now }
@@ -145,16 +145,16 @@ impl Follower<'_> {
         ensures went { (u : Setup) (t : Traced) → IsFollowed self.old.m.now u t self.old → Passes self.old.m.now u t → IfOk result (λ on. Went self.old.m.now u t on self.new) }
         ensures grew { IfOk result (λ on. Grew self.old self.new) }
     {
-        self.m.is_valid();
+        self.m.law_valid();
         let row = self.tables.row(self.fiber.frame.at);
         let site = due_site(self.m, &self.fiber, &self.world);
         let view = self.view();
         let mut masks = argument_masks(alloc, &view, args)?;
         let on = step(alloc, self.m, &mut self.fiber, &mut self.world)?;
         if on {
-            clean_behind(&mut masks, self.fiber.frame.values.len())?;
+            clean_after(&mut masks, self.fiber.frame.values.len())?;
             let number = self.made;
-            let caller = replace(&mut self.shade, Shade { number, masks });
+            let caller = replace(&mut self.shade, FrameMasks { number, masks });
             let callee = function_at(self.m.module(), func);
             let params = callee.params.as_slice();
             let own = self.shade.masks.as_slice();
@@ -181,19 +181,19 @@ impl Follower<'_> {
         }
     }
 
-    /// A return. Returns whether the run goes on. The one error is running out of memory.
+    /// A return. Returns whether the run goes on.
     pub(crate) fn leave(
         &mut self,
         alloc: Global,
         code: &Code,
-        value: Operand,
+        value: WordSource,
     ) -> Result<bool, NoMemory>
         requires ready { IsReady self.old code.now }
         requires is { code.now ≡ Code.Return value }
         ensures went { (u : Setup) (t : Traced) → IsFollowed self.old.m.now u t self.old → Passes self.old.m.now u t → IfOk result (λ on. Went self.old.m.now u t on self.new) }
         ensures grew { IfOk result (λ on. Grew self.old self.new) }
     {
-        self.m.is_valid();
+        self.m.law_valid();
         let row = self.tables.row(self.fiber.frame.at);
         let site = due_site(self.m, &self.fiber, &self.world);
         let mask = self.mask(value);

@@ -8,8 +8,8 @@ ghost use Rattle.ms_trail_uses.specs.Due.{IsDue};
 ghost use Rattle.ms_trail.specs.Ready.{FitsHere};
 
 use ms_check::CheckedModule;
-use ms_code::{Code, Site};
 use ms_host::World;
+use ms_machine_code::{Code, Site};
 use ms_machine_frames::Fiber;
 
 /// The code with a number.
@@ -34,7 +34,7 @@ pub fn due_code<'a>(m: &'a CheckedModule, fiber: &Fiber, world: &World) -> &'a C
     ensures due { IsDue m.now fiber.now world.now result.now }
     ensures fits { FitsHere fiber.now result.now }
 {
-    m.is_valid();
+    m.law_valid();
     let program = m.program();
     code_at(program.code.as_slice(), fiber.frame.at)
 }
@@ -44,7 +44,7 @@ pub fn due_site(m: &CheckedModule, fiber: &Fiber, world: &World) -> u32
     requires { Runs m.now fiber.now world.now }
     ensures { (u : Setup) (beside : Beside) (state : PlainState) (frame : FrameOf ℕ) (below : List (FrameOf ℕ)) → IsRunning m.now u beside fiber.now world.now state → state.frames ≡ frame ∷ below → result ≡ site_at m.now frame.func frame.block frame.place }
 {
-    m.is_valid();
+    m.law_valid();
     let program = m.program();
     let site = site_at_number(program.sites.as_slice(), fiber.frame.at);
     site.number

@@ -1,9 +1,9 @@
-//! What following a run comes to.
+//! What a traced run finds.
 
 use ms_bits::List;
-use ms_moves::moves::{Move, Source};
+use ms_trail_moves::moves::{Move, Source};
 
-/// What following a run up to its first report comes to.
+/// What a run traced up to its first report finds.
 #[derive(Debug, PartialEq, Eq, Drop)]
 pub enum Trace {
     /// The run has no report.

@@ -1,31 +1,31 @@
-//! Jumps.
+//! Jumps of a traced run: the moves of its phis.
 ghost use Rattle.std.specs.Prelude.{◌≡◌, ◌≤◌, ◌<◌, ◌+◌, ◌^◌, ◌++◌, ℕ, List, length, All, IfOk, OnOk};
 ghost use Rattle.ms_ir.specs.declared.syntax.Module.{Module};
 ghost use Rattle.ms_ir.specs.Instructions.{func_index, insts_at, root_at, site_at, count_roots, NoMarks};
 ghost use Rattle.ms_runs.specs.{declared.runs.Setup.{Setup}, Control.{count_phis}};
-ghost use Rattle.ms_code.specs.{Fits.{IsMove}, Words.{put_all}, Encodes.{number_of}};
+ghost use Rattle.ms_machine_code.specs.{Fits.{IsMove}, Words.{put_all}, Encodes.{number_of}};
 ghost use Rattle.ms_machine_frames.specs.Meaning.{IsJump};
-ghost use Rattle.ms_moves.specs.{Traces.{Traced}, declared.moves.Move.{Move as MoveOf}};
+ghost use Rattle.ms_trail_moves.specs.{Traces.{Traced}, declared.moves.Move.{Move as MoveOf}};
 ghost use Rattle.ms_trail.specs.{Following.{IsFollowed, Passes, Went}, Phis.{TellsPhis, phis_told}};
 ghost use Rattle.ms_trail.specs.Ready.{Grew, IsReady};
 ghost use Rattle.ms_trail_bytes.specs.Logs.{IsLog};
 ghost use Rattle.ms_trail_uses.specs.{Tabled.{AreTables}, Taken.{IsTaken}};
 
 use crate::due::due_site;
-use crate::follower::Follower;
+use crate::traced_run::TracedRun;
 use crate::words::tell_phi;
 use ms_bits::NoMemory;
-use ms_code::{Code, Edge, Move};
 use ms_ir::Name;
-use ms_shades::read_masks;
+use ms_machine_code::{Code, Edge, PhiMove};
 use ms_trail_bytes::logs::Log;
 use ms_trail_bytes::spans::Stamp;
+use ms_trail_masks::read_masks;
 use ms_trail_uses::steps::step;
-use ms_trail_uses::tables::Tables;
+use ms_trail_uses::tables::InstRows;
 use std::alloc::Global;
 
 /// Puts masks at the places of phis, one after the other.
-fn put_masks(masks: &mut Vec<u64>, moves: &[Move], read: &[u64])
+fn put_masks(masks: &mut Vec<u64>, moves: &[PhiMove], read: &[u64])
     requires moves { All (IsMove (length masks.old.items)) moves.now }
     requires room { length moves.now ≤ length read.now }
     ensures masks { masks.new.items ≡ put_all masks.old.items moves.now read.now }
@@ -37,27 +37,27 @@ fn put_masks(masks: &mut Vec<u64>, moves: &[Move], read: &[u64])
 }
 
 /// The moves of phis with these masks, the first of which has a number, in a jump from the block with a name; the instruction
-/// after them has a site. The one error is running out of memory.
+/// after them has a site.
 fn tell_phis(
     alloc: Global,
     log: &mut Log,
-    behind: Stamp,
+    after: Stamp,
     frame: u64,
-    tables: &Tables<'_>,
+    tables: &InstRows<'_>,
     first: usize,
     from: &Name,
     read: &[u64],
 ) -> Result<(), NoMemory>
-    requires phis { TellsPhis tables.now.rows.items first read.now behind.site }
+    requires phis { TellsPhis tables.now.rows.items first read.now after.site }
     requires few { log.old.count + length read.now < 2 ^ 64 }
-    ensures told { (m : Module) (f b : ℕ) (moves : List MoveOf) → AreTables m tables.now.rows.items → NoMarks m → first ≡ number_of m f b 0 → length read.now ≡ count_phis (insts_at m f b) → behind.site ≡ site_at m f b (length read.now)
-        → IsLog log.old moves → OnOk result (IsLog log.new (moves ++ phis_told behind.event frame (func_index m.funcs) from.now (insts_at m f b) (root_at (func_index m.funcs) m f b 0) (site_at m f b 0) read.now)) }
+    ensures told { (m : Module) (f b : ℕ) (moves : List MoveOf) → AreTables m tables.now.rows.items → NoMarks m → first ≡ number_of m f b 0 → length read.now ≡ count_phis (insts_at m f b) → after.site ≡ site_at m f b (length read.now)
+        → IsLog log.old moves → OnOk result (IsLog log.new (moves ++ phis_told after.event frame (func_index m.funcs) from.now (insts_at m f b) (root_at (func_index m.funcs) m f b 0) (site_at m f b 0) read.now)) }
     ensures count { log.new.count ≤ log.old.count + length read.now }
 {
     for k in 0..read.len() {
         let stamp = Stamp {
-            event: behind.event,
-            site: behind.site - (read.len() - k) as u32,
+            event: after.event,
+            site: after.site - (read.len() - k) as u32,
         };
         tell_phi(
             alloc,
@@ -72,8 +72,8 @@ fn tell_phis(
     Ok(())
 }
 
-impl Follower<'_> {
-    /// A jump: its phis all read the masks before it. Returns whether the run goes on. The one error is running out of memory.
+impl TracedRun<'_> {
+    /// A jump: its phis all read the masks before it. Returns whether the run goes on.
     pub(crate) fn jump(&mut self, alloc: Global, code: &Code, edge: &Edge) -> Result<bool, NoMemory>
         requires ready { IsReady self.old code.now }
         requires jumps { IsJump code.now }
@@ -92,7 +92,7 @@ impl Follower<'_> {
             let masks = read.as_slice();
             put_masks(&mut self.shade.masks, moves, masks);
             let site = due_site(self.m, &self.fiber, &self.world);
-            let behind = Stamp {
+            let after = Stamp {
                 event: self.event,
                 site,
             };
@@ -100,7 +100,7 @@ impl Follower<'_> {
             tell_phis(
                 alloc,
                 &mut self.log,
-                behind,
+                after,
                 self.shade.number,
                 &self.tables,
                 first,

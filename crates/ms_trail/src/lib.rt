@@ -1,16 +1,16 @@
-//! The way of the poisoned bits that a run reports: the follower, which runs a module and computes masks beside it, and the
-//! list of moves that it makes.
+//! What `explain` follows: a traced run, which runs a module, computes the mask of each value beside it and logs each move of
+//! poisoned bits, up to the first report.
 #![tactic(auto)]
 
 mod calls;
 pub mod due;
-mod follower;
+mod externals;
 pub mod found;
 mod jumps;
 pub mod laws;
 mod memory;
-mod outside;
 mod results;
+mod steps;
+mod traced_run;
 pub mod traces;
-mod turns;
 pub mod words;

@@ -1,14 +1,14 @@
 //! Instructions that write memory.
 ghost use Rattle.std.specs.Prelude.{◌≡◌, ◌<◌, length, get_or, IfOk};
 ghost use Rattle.ms_runs.specs.declared.runs.Setup.{Setup};
-ghost use Rattle.ms_moves.specs.Traces.{Traced};
+ghost use Rattle.ms_trail_moves.specs.Traces.{Traced};
 ghost use Rattle.ms_trail.specs.{Following.{IsFollowed, Passes, Went}, Ready.{Grew, IsReady}};
 
 use crate::due::due_site;
-use crate::follower::Follower;
 use crate::results::put_mask;
+use crate::traced_run::TracedRun;
 use ms_bits::NoMemory;
-use ms_code::{Code, Source as Operand};
+use ms_machine_code::{Code, WordSource};
 use ms_trail_bytes::fills::{shade_stored, unset};
 use ms_trail_bytes::sources::{own_root, stored_source};
 use ms_trail_bytes::spans::Stamp;
@@ -23,14 +23,14 @@ fn value_at(values: &Vec<u64>, place: usize) -> u64
     values[place]
 }
 
-impl Follower<'_> {
-    /// An `alloca` of `count` elements of `size` bytes. Returns whether the run goes on. The one error is running out of memory.
+impl TracedRun<'_> {
+    /// An `alloca` of `count` elements of `size` bytes. Returns whether the run goes on.
     pub(crate) fn alloca(
         &mut self,
         alloc: Global,
         code: &Code,
         size: u64,
-        count: Operand,
+        count: WordSource,
         to: usize,
     ) -> Result<bool, NoMemory>
         requires ready { IsReady self.old code.now }
@@ -68,14 +68,14 @@ impl Follower<'_> {
         }
     }
 
-    /// A store of `size` bytes. Returns whether the run goes on. The one error is running out of memory.
+    /// A store of `size` bytes. Returns whether the run goes on.
     pub(crate) fn store(
         &mut self,
         alloc: Global,
         code: &Code,
         size: u8,
-        value: Operand,
-        addr: Operand,
+        value: WordSource,
+        addr: WordSource,
     ) -> Result<bool, NoMemory>
         requires ready { IsReady self.old code.now }
         requires is { code.now ≡ Code.Store size value addr }

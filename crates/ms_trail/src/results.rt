@@ -1,19 +1,19 @@
 //! Instructions that set a value.
 ghost use Rattle.std.specs.Prelude.{◌≡◌, ◌≢◌, ◌<◌, length, IfOk, Some, set};
 ghost use Rattle.ms_runs.specs.declared.runs.Setup.{Setup};
-ghost use Rattle.ms_moves.specs.Traces.{Traced};
-ghost use Rattle.ms_shades.specs.Results.{IsComputed, IsMask};
+ghost use Rattle.ms_trail_moves.specs.Traces.{Traced};
+ghost use Rattle.ms_trail_masks.specs.Results.{IsComputed, IsMask};
 ghost use Rattle.ms_trail_uses.specs.{Due.{sets_at}, Origins.{place_read}};
 ghost use Rattle.ms_trail.specs.{Following.{Passes, Went, IsFollowed}, Ready.{Grew, IsReady}};
 
 use crate::due::due_site;
-use crate::follower::Follower;
+use crate::traced_run::TracedRun;
 use crate::words::{tell_loaded, tell_result};
 use ms_bits::NoMemory;
-use ms_code::{Code, Source as Operand};
 use ms_ir::Op;
-use ms_shades::computed;
+use ms_machine_code::{Code, WordSource};
 use ms_trail_bytes::spans::Stamp;
+use ms_trail_masks::computed;
 use ms_trail_uses::loads::{loaded_mask, loaded_source};
 use ms_trail_uses::places::result_place;
 use ms_trail_uses::steps::step;
@@ -27,7 +27,7 @@ pub(crate) fn put_mask(masks: &mut Vec<u64>, to: usize, mask: u64)
     masks[to] = mask;
 }
 
-impl Follower<'_> {
+impl TracedRun<'_> {
     /// The mask of a result, and where it isn't 0 the place of the operand that it comes from.
     fn result_of(&self, code: &Code, op: &Op) -> (u64, usize)
         requires same { length self.now.shade.masks.items ≡ length self.now.fiber.frame.values.items }
@@ -45,7 +45,7 @@ impl Follower<'_> {
         (mask, place)
     }
 
-    /// An instruction that sets a value by its operands alone. Returns whether the run goes on. The one error is running out of memory.
+    /// An instruction that sets a value by its operands alone. Returns whether the run goes on.
     pub(crate) fn compute(
         &mut self,
         alloc: Global,
@@ -84,14 +84,14 @@ impl Follower<'_> {
         }
     }
 
-    /// A load of `size` bytes, which keeps the bits of `cut`. Returns whether the run goes on. The one error is running out of memory.
+    /// A load of `size` bytes, which keeps the bits of `cut`. Returns whether the run goes on.
     pub(crate) fn load(
         &mut self,
         alloc: Global,
         code: &Code,
         size: u8,
         cut: u64,
-        addr: Operand,
+        addr: WordSource,
         to: usize,
     ) -> Result<bool, NoMemory>
         requires ready { IsReady self.old code.now }

@@ -2,18 +2,18 @@
 ghost use Rattle.std.specs.Prelude.{◌≡◌, List, IfOk, false};
 ghost use Rattle.ms_ir.specs.ThreadCalls.{is_threaded};
 ghost use Rattle.ms_runs.specs.Limits.{WithinLimits};
-ghost use Rattle.ms_valid.specs.Uninstrumented.{CanInstrument};
-ghost use Rattle.ms_moves.specs.{declared.moves.Move.{Move as MoveOf}, Traces.{trace as moves_of, Found}};
+ghost use Rattle.ms_check_valid.specs.Uninstrumented.{CanInstrument};
+ghost use Rattle.ms_trail_moves.specs.{declared.moves.Move.{Move as MoveOf}, Traces.{trace as moves_of, Found}};
 ghost use Rattle.ms_trail_bytes.specs.Logs.{IsLog};
 ghost use Rattle.ms_trail.specs.Tracing.{limited};
 
-use crate::follower::{Follower, Turn};
 use crate::found::Trace;
+use crate::traced_run::{StepEnd, TracedRun};
 use ms_bits::{List, NoMemory};
 use ms_check::CheckedModule;
-use ms_moves::moves::Source;
 use ms_runs::Setup;
 use ms_trail_bytes::logs::{Log, MOVE_LIMIT};
+use ms_trail_moves::moves::Source;
 use std::alloc::Global;
 
 /// What following a run comes to that is reported, with the moves before that and what the report's use reads.
@@ -30,8 +30,8 @@ fn reported(log: Log, at: Source) -> Trace
     }
 }
 
-/// Follows a run of a checked module up to its first report, whatever limit of reports the setup has. Ok is the moves of poisoned
-/// bits that come before it, with what the report's use reads, or why there is no such list; the one error is running out of memory.
+/// Follows a run of a checked module up to its first report, whatever limit of reports the setup has. Ok is the moves of
+/// poisoned bits that come before it, with what the report's use reads, or why there is no such list.
 ///
 /// The run is that of the machine, one step at a time, and the masks of its values are computed beside it. A step takes as long
 /// in a large module as in a small one, but for a phi, which takes the time of a walk over its edges.
@@ -41,14 +41,14 @@ pub fn trace(alloc: Global, m: &CheckedModule, setup: &Setup) -> Result<Trace, N
     requires alone { is_threaded m.now ≡ false }
     ensures { IfOk result (λ found. found ≡ limited (moves_of m.now setup.now)) }
 {
-    let mut run = Follower::new(alloc, m, setup)?;
+    let mut run = TracedRun::new(alloc, m, setup)?;
     let mut left = setup.steps;
     while 0 < left {
         left -= 1;
-        match run.turn(alloc)? {
-            Turn::On => {}
-            Turn::Over => return Ok(Trace::NoReport),
-            Turn::Reported(at) => {
+        match run.step(alloc)? {
+            StepEnd::On => {}
+            StepEnd::Over => return Ok(Trace::NoReport),
+            StepEnd::Reported(at) => {
                 let log = run.log;
                 return Ok(reported(log, at));
             }

@@ -3,20 +3,20 @@ ghost use Rattle.std.specs.Prelude.{◌≡◌, ◌≤◌, ◌<◌, ◌+◌, ◌^
 ghost use Rattle.ms_ir.specs.{declared.syntax.Name.{Name as NameOf}, declared.syntax.Ty.{Ty as TyOf}};
 ghost use Rattle.ms_ir.specs.{declared.syntax.Operand.{Operand as OperandOf}, Instructions.{operands, count_undefs}};
 ghost use Rattle.ms_ir.specs.declared.syntax.Op.TheVariants as op;
-ghost use Rattle.ms_moves.specs.{declared.moves.Move.{Move as MoveOf}, Sources.{sources, source_at as source_in}};
-ghost use Rattle.ms_moves.specs.Edges.{edge_source};
-ghost use Rattle.ms_moves.specs.declared.moves.Target.TheVariants as place;
+ghost use Rattle.ms_trail_moves.specs.{declared.moves.Move.{Move as MoveOf}, Sources.{sources, source_at as source_in}};
+ghost use Rattle.ms_trail_moves.specs.Edges.{edge_source};
+ghost use Rattle.ms_trail_moves.specs.declared.moves.Target.TheVariants as place;
 ghost use Rattle.ms_trail_bytes.specs.Logs.{IsLog};
 ghost use Rattle.ms_trail.specs.Telling.{masked_move};
 
 use ms_bits::{Duplicate, NoMemory};
 use ms_ir::{Inst, Name};
-use ms_moves::moves::{Move, Source, Target};
-use ms_moves::sources::source_at;
 use ms_trail_bytes::logs::Log;
 use ms_trail_bytes::sources::{phi_source, result_target};
 use ms_trail_bytes::spans::Stamp;
-use ms_trail_uses::tables::Row;
+use ms_trail_moves::moves::{Move, Source, Target};
+use ms_trail_moves::sources::source_at;
+use ms_trail_uses::tables::InstRow;
 use std::alloc::Global;
 
 /// A word moves from a source to a place.
@@ -39,7 +39,7 @@ pub fn tell_result(
     log: &mut Log,
     stamp: Stamp,
     frame: u64,
-    row: Row<'_>,
+    row: InstRow<'_>,
     mask: u64,
     from: usize,
 ) -> Result<(), NoMemory>
@@ -83,7 +83,7 @@ pub fn tell_phi(
     log: &mut Log,
     stamp: Stamp,
     frame: u64,
-    row: Row<'_>,
+    row: InstRow<'_>,
     block: &Name,
     mask: u64,
 ) -> Result<(), NoMemory>
@@ -107,7 +107,7 @@ pub fn tell_param(
     log: &mut Log,
     stamp: Stamp,
     caller: u64,
-    row: Row<'_>,
+    row: InstRow<'_>,
     k: usize,
     frame: u64,
     param: &Name,
@@ -133,7 +133,7 @@ pub fn tell_return(
     log: &mut Log,
     stamp: Stamp,
     inner: u64,
-    row: Row<'_>,
+    row: InstRow<'_>,
     frame: u64,
     call: &Inst,
     mask: u64,

@@ -6,18 +6,18 @@ use Rattle.ms_runs.specs.World.{World}
 use Rattle.ms_runs.specs.Memory.{is_good}
 use Rattle.ms_runs.specs.Origins.{copy_planes, poison}
 use Rattle.ms_runs.specs.Memory.{copy_shadow, set_cells, set_shadow}
-use Rattle.ms_good_laws.specs.GoodWorlds.{GoodWorld, FitsCell}
-use Rattle.ms_good_laws.proofs.WorldChanges.{either, copy_shadow_good, set_shadow_good, set_cells_good}
+use Rattle.ms_runs_good_laws.specs.GoodWorlds.{GoodWorld, FitsCell}
+use Rattle.ms_runs_good_laws.proofs.WorldChanges.{either, copy_shadow_good, set_shadow_good, set_cells_good}
 use Rattle.ms_ir.specs.declared.syntax.Ty.{Ty}
 use Rattle.ms_ir.specs.declared.syntax.Operand.{Operand}
 use Rattle.ms_ir.specs.declared.syntax.Operand.TheVariants as operand
 use Rattle.ms_ir.specs.Instructions.{one_undef}
-use Rattle.ms_moves.specs.Sources.{operand_source, sources, source_at}
-use Rattle.ms_moves.specs.declared.moves.Source.{Source}
-use Rattle.ms_moves.specs.declared.moves.Source.TheVariants.{Root, Value, Byte}
-use Rattle.ms_moves.specs.declared.moves.Move.{Move}
-use Rattle.ms_moves.specs.Written.{Filled, made}
-use Rattle.ms_moves.specs.Events.{written_moves, memory_moves}
+use Rattle.ms_trail_moves.specs.Sources.{operand_source, sources, source_at}
+use Rattle.ms_trail_moves.specs.declared.moves.Source.{Source}
+use Rattle.ms_trail_moves.specs.declared.moves.Source.TheVariants.{Root, Value, Byte}
+use Rattle.ms_trail_moves.specs.declared.moves.Move.{Move}
+use Rattle.ms_trail_moves.specs.Written.{Filled, made}
+use Rattle.ms_trail_moves.specs.Events.{written_moves, memory_moves}
 use Rattle.ms_trail_bytes.specs.declared.logs.Log.{Log}
 use Rattle.ms_trail_bytes.specs.Logs.{IsLog}
 use Rattle.ms_trail_bytes.specs.Spans.{span_moves}

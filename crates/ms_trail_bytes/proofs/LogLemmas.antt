@@ -1,7 +1,7 @@
 -- Lists that are kept up to a limit.
 use Rattle.std.proofs.Common.{◌≡◌, ◌≤◌, ◌<◌, ◌+◌, ℕ, List, [], ◌∷◌, ◌++◌, length, take, sym, ap, ◌∙◌, arith, length-append}
 use Rattle.std.proofs.lemmas.List.{take_all, take-append-le}
-use Rattle.ms_moves.specs.declared.moves.Move.{Move}
+use Rattle.ms_trail_moves.specs.declared.moves.Move.{Move}
 
 pub counted_more : (moves : List Move) (told : Move) (n k : ℕ) → n ≡ length moves → k ≡ n + 1 → k ≡ length (moves ++ told ∷ [])
 counted_more moves told n k e f = omega (arith, e, f, length-append moves (told ∷ []))

@@ -6,7 +6,7 @@ use Rattle.ms_ir.specs.declared.syntax.Operand.{Operand}
 use Rattle.ms_ir.specs.declared.syntax.Op.{Op}
 use Rattle.ms_ir.specs.declared.syntax.Op.TheVariants as op
 use Rattle.ms_ir.specs.Instructions.{operands, one_undef, count_undefs}
-use Rattle.ms_moves.specs.Edges.{count_edges}
+use Rattle.ms_trail_moves.specs.Edges.{count_edges}
 
 pub same_edges : (o : Op) (t u : Ty) (es fs : List (Operand × Name)) → o ≡ op.Phi t es → o ≡ op.Phi u fs → es ≡ fs
 same_edges o t u es fs e f = cc

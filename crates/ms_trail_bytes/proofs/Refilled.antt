@@ -5,20 +5,20 @@ use Rattle.ms_bits.specs.Maps.{byte_of, within}
 use Rattle.ms_runs.specs.World.{World}
 use Rattle.ms_runs.specs.Memory.{is_good, set_cells, set_shadow}
 use Rattle.ms_runs.specs.Origins.{unpoison}
-use Rattle.ms_good_laws.specs.GoodWorlds.{GoodWorld, FitsCell}
-use Rattle.ms_good_laws.proofs.WorldChanges.{either, set_shadow_good, set_cells_good}
-use Rattle.ms_follow_laws.specs.Follows.{light, fill_shadow}
+use Rattle.ms_runs_good_laws.specs.GoodWorlds.{GoodWorld, FitsCell}
+use Rattle.ms_runs_good_laws.proofs.WorldChanges.{either, set_shadow_good, set_cells_good}
+use Rattle.ms_runs_laws.specs.Follows.{light, fill_shadow}
 use Rattle.ms_host.specs.State.{WorldState, Beside}
 use Rattle.ms_host.specs.Shows.{Shows}
-use Rattle.ms_moves.specs.declared.moves.Source.{Source}
-use Rattle.ms_moves.specs.declared.moves.Target.TheVariants.{Bytes}
-use Rattle.ms_moves.specs.declared.moves.Move.{Move}
-use Rattle.ms_moves.specs.Written.{Filled}
-use Rattle.ms_moves.specs.Events.{moved, joined, runs, written_moves}
+use Rattle.ms_trail_moves.specs.declared.moves.Source.{Source}
+use Rattle.ms_trail_moves.specs.declared.moves.Target.TheVariants.{Bytes}
+use Rattle.ms_trail_moves.specs.declared.moves.Move.{Move}
+use Rattle.ms_trail_moves.specs.Written.{Filled}
+use Rattle.ms_trail_moves.specs.Events.{moved, joined, runs, written_moves}
 use Rattle.ms_trail_bytes.specs.declared.logs.Log.{Log}
 use Rattle.ms_trail_bytes.specs.Logs.{IsLog}
 use Rattle.ms_trail_bytes.specs.Shading.{ShadedAs}
-use Rattle.ms_moves_laws.proofs.MemoryMoves.{byte_of_zero}
+use Rattle.ms_trail_laws.proofs.MemoryMoves.{byte_of_zero}
 
 -- no run where no byte is poisoned
 pub clean_runs : (T : ℕ → ℕ) (a n : ℕ) → ((k : ℕ) → k < n → T (a + k) ≡ 0) → runs T a n ≡ []

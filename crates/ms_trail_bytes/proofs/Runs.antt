@@ -7,41 +7,41 @@ use Rattle.ms_bits.specs.Maps.{first_nonzero, number_at}
 use Rattle.ms_runs.specs.World.{World}
 use Rattle.ms_host.specs.declared.shadows.PoisonedByte.{PoisonedByte}
 use Rattle.ms_host.specs.Poisonings.{IsFound}
-use Rattle.ms_moves.specs.declared.moves.Source.{Source}
-use Rattle.ms_moves.specs.declared.moves.Target.TheVariants.{Bytes}
-use Rattle.ms_moves.specs.declared.moves.Move.{Move}
-use Rattle.ms_moves.specs.Events.{moved, joined, runs}
+use Rattle.ms_trail_moves.specs.declared.moves.Source.{Source}
+use Rattle.ms_trail_moves.specs.declared.moves.Target.TheVariants.{Bytes}
+use Rattle.ms_trail_moves.specs.declared.moves.Move.{Move}
+use Rattle.ms_trail_moves.specs.Events.{moved, joined, runs}
 use Rattle.ms_trail_bytes.specs.declared.logs.Log.{Log}
 use Rattle.ms_trail_bytes.specs.Logs.{IsLog}
 use Rattle.ms_trail_bytes.specs.Spans.{source_in, span_move, span_moves, Telling}
 
 -- no run begins before its bytes do
-abbrev BeginsBehind : ℕ → List (ℕ × ℕ) → Type 0
-BeginsBehind a [] = Unit {0}
-BeginsBehind a (r ∷ rs) = a ≤ r.0
+abbrev BeginsAfter : ℕ → List (ℕ × ℕ) → Type 0
+BeginsAfter a [] = Unit {0}
+BeginsAfter a (r ∷ rs) = a ≤ r.0
 
-behind_joined : (a : ℕ) (rs : List (ℕ × ℕ)) → BeginsBehind a (joined a rs)
-behind_joined a [] = let h : a ≤ a = omega arith in h
-behind_joined a (r ∷ rs) = by_test (eqb r.0 (a + 1))
+after_joined : (a : ℕ) (rs : List (ℕ × ℕ)) → BeginsAfter a (joined a rs)
+after_joined a [] = let h : a ≤ a = omega arith in h
+after_joined a (r ∷ rs) = by_test (eqb r.0 (a + 1))
   where
-    by_test : (b : Bool) → BeginsBehind a (if b then (a, r.1 + 1) ∷ rs else (a, 1) ∷ r ∷ rs)
+    by_test : (b : Bool) → BeginsAfter a (if b then (a, r.1 + 1) ∷ rs else (a, 1) ∷ r ∷ rs)
     by_test true = let h : a ≤ a = omega arith in h
     by_test false = let h : a ≤ a = omega arith in h
 
-further : (a b : ℕ) (rs : List (ℕ × ℕ)) → a ≤ b → BeginsBehind b rs → BeginsBehind a rs
+further : (a b : ℕ) (rs : List (ℕ × ℕ)) → a ≤ b → BeginsAfter b rs → BeginsAfter a rs
 further a b [] le h = tt
 further a b (r ∷ rs) le h = omega (arith, le, h)
 
-runs_behind : (T : ℕ → ℕ) (n a : ℕ) → BeginsBehind a (runs T a n)
-runs_behind T zero a = tt
-runs_behind T (suc n) a = by_test (eqb (T a) 0) (runs_behind T n (a + 1))
+runs_after : (T : ℕ → ℕ) (n a : ℕ) → BeginsAfter a (runs T a n)
+runs_after T zero a = tt
+runs_after T (suc n) a = by_test (eqb (T a) 0) (runs_after T n (a + 1))
   where
-    by_test : (b : Bool) → BeginsBehind (a + 1) (runs T (a + 1) n) → BeginsBehind a (if b then runs T (a + 1) n else joined a (runs T (a + 1) n))
+    by_test : (b : Bool) → BeginsAfter (a + 1) (runs T (a + 1) n) → BeginsAfter a (if b then runs T (a + 1) n else joined a (runs T (a + 1) n))
     by_test true later = further a (a + 1) (runs T (a + 1) n) (let h : a ≤ a + 1 = omega arith in h) later
-    by_test false later = behind_joined a (runs T (a + 1) n)
+    by_test false later = after_joined a (runs T (a + 1) n)
 
 -- a run that doesn't follow at once is one of its own
-apart : (a : ℕ) (rs : List (ℕ × ℕ)) → BeginsBehind (a + 2) rs → joined a rs ≡ (a, 1) ∷ rs
+apart : (a : ℕ) (rs : List (ℕ × ℕ)) → BeginsAfter (a + 2) rs → joined a rs ≡ (a, 1) ∷ rs
 apart a [] h = refl
 apart a (r ∷ rs) h = ap (λ b. if b then (a, r.1 + 1) ∷ rs else (a, 1) ∷ r ∷ rs) (ne_eqb r.0 (a + 1) (λ e. absurd (omega (arith, h, e))))
 
@@ -54,12 +54,12 @@ clean_on T a n e = ap (λ b. if b then runs T (a + 1) n else joined a (runs T (a
 poisoned_on : (T : ℕ → ℕ) (a n : ℕ) → T a ≢ 0 → runs T a (suc n) ≡ joined a (runs T (a + 1) n)
 poisoned_on T a n e = ap (λ b. if b then runs T (a + 1) n else joined a (runs T (a + 1) n)) (ne_eqb (T a) 0 e)
 
--- what follows a run is none, or begins behind a clean byte
-last_of : (T : ℕ → ℕ) (a n : ℕ) → (0 < n → T (a + 1) ≡ 0) → BeginsBehind (a + 2) (runs T (a + 1) n)
+-- what follows a run is none, or begins after a clean byte
+last_of : (T : ℕ → ℕ) (a n : ℕ) → (0 < n → T (a + 1) ≡ 0) → BeginsAfter (a + 2) (runs T (a + 1) n)
 last_of T a zero clean = tt
 last_of T a (suc n) clean =
-    subst (λ (rs : List (ℕ × ℕ)). BeginsBehind (a + 2) rs) (sym (clean_on T (a + 1) n (clean (omega arith))))
-    (further (a + 2) (a + 1 + 1) (runs T (a + 1 + 1) n) (omega arith) (runs_behind T n (a + 1 + 1)))
+    subst (λ (rs : List (ℕ × ℕ)). BeginsAfter (a + 2) rs) (sym (clean_on T (a + 1) n (clean (omega arith))))
+    (further (a + 2) (a + 1 + 1) (runs T (a + 1 + 1) n) (omega arith) (runs_after T n (a + 1 + 1)))
 
 -- the first run has the poisoned bytes up to a clean one
 leading : (T : ℕ → ℕ) (p a n : ℕ) → ((k : ℕ) → k < suc p → T (a + k) ≢ 0) → (0 < n → T (a + suc p) ≡ 0) → runs T a (suc p + n) ≡ (a, suc p) ∷ runs T (a + suc p) n

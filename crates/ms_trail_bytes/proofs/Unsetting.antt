@@ -4,13 +4,13 @@ use Rattle.ms_ir.specs.Areas.{Heap}
 use Rattle.ms_runs.specs.World.{World}
 use Rattle.ms_runs.specs.Memory.{fits, is_good, next_base, set_cells, set_shadow}
 use Rattle.ms_runs.specs.Origins.{copy_planes, poison}
-use Rattle.ms_good_laws.specs.GoodWorlds.{GoodWorld, FitsCell}
-use Rattle.ms_good_laws.proofs.WorldChanges.{either, copy_shadow_good}
+use Rattle.ms_runs_good_laws.specs.GoodWorlds.{GoodWorld, FitsCell}
+use Rattle.ms_runs_good_laws.proofs.WorldChanges.{either, copy_shadow_good}
 use Rattle.ms_host.specs.State.{WorldState, Beside}
 use Rattle.ms_host.specs.Shows.{Shows}
-use Rattle.ms_moves.specs.declared.moves.Move.{Move}
-use Rattle.ms_moves.specs.Written.{Written, Copied, heap_place}
-use Rattle.ms_moves.specs.Events.{written_moves, memory_moves}
+use Rattle.ms_trail_moves.specs.declared.moves.Move.{Move}
+use Rattle.ms_trail_moves.specs.Written.{Written, Copied, heap_place}
+use Rattle.ms_trail_moves.specs.Events.{written_moves, memory_moves}
 use Rattle.ms_trail_bytes.specs.declared.logs.Log.{Log}
 use Rattle.ms_trail_bytes.specs.Logs.{IsLog}
 use Rattle.ms_trail_bytes.specs.Shading.{ShadedAs}
@@ -70,7 +70,7 @@ module _ (log : Log) (moves : List Move) (event site : ℕ) (T : ℕ → ℕ) (g
       subst (λ (b : Bool). IsLog log (moves ++ memory_moves event site T (come b))) (sym (fits_there some))
       (subst (λ (ms : List Move). IsLog log (moves ++ ms)) (ap (λ k. written_moves event site T (Copied k kept block)) at ∙ sym (append-nil (written_moves event site T (Copied (next_base Heap before) kept block)))) is)
 
--- moves of what was written, one part behind the other
+-- moves of what was written, one part after the other
 pub moves_both : (event site : ℕ) (T : ℕ → ℕ) (xs ys : List Written) → memory_moves event site T (xs ++ ys) ≡ memory_moves event site T xs ++ memory_moves event site T ys
 moves_both event site T [] ys = refl
 moves_both event site T (x ∷ xs) ys = ap (λ ms. written_moves event site T x ++ ms) (moves_both event site T xs ys) ∙ sym (append_assoc (written_moves event site T x) (memory_moves event site T xs) (memory_moves event site T ys))

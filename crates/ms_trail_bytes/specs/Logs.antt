@@ -1,6 +1,6 @@
 -- Moves as they are told, up to a limit (own).
 use Rattle.std.specs.Prelude.{◌≡◌, ℕ, List, length, take}
-use Rattle.ms_moves.specs.declared.moves.Move.{Move}
+use Rattle.ms_trail_moves.specs.declared.moves.Move.{Move}
 use Rattle.ms_trail_bytes.specs.declared.logs.Log.{Log}
 
 -- how many moves are kept

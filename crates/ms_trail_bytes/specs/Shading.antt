@@ -7,14 +7,14 @@ use Rattle.ms_runs.specs.World.{World}
 use Rattle.ms_runs.specs.Memory.{fits, heap_size, is_good}
 use Rattle.ms_runs.specs.Poisoned.{Poisoned}
 use Rattle.ms_runs.specs.Masks.{word_at}
-use Rattle.ms_good_laws.specs.GoodWorlds.{GoodWorld, FitsCell}
+use Rattle.ms_runs_good_laws.specs.GoodWorlds.{GoodWorld, FitsCell}
 use Rattle.ms_host.specs.State.{WorldState, Beside}
 use Rattle.ms_host.specs.Shows.{Shows}
-use Rattle.ms_follow_laws.specs.Follows.{light, external_shadow}
-use Rattle.ms_moves.specs.declared.moves.Source.{Source}
-use Rattle.ms_moves.specs.declared.moves.Move.{Move}
-use Rattle.ms_moves.specs.Written.{heap_place, external_written}
-use Rattle.ms_moves.specs.Events.{memory_moves}
+use Rattle.ms_runs_laws.specs.Follows.{light, external_shadow}
+use Rattle.ms_trail_moves.specs.declared.moves.Source.{Source}
+use Rattle.ms_trail_moves.specs.declared.moves.Move.{Move}
+use Rattle.ms_trail_moves.specs.Written.{heap_place, external_written}
+use Rattle.ms_trail_moves.specs.Events.{memory_moves}
 use Rattle.ms_trail_bytes.specs.declared.logs.Log.{Log}
 use Rattle.ms_trail_bytes.specs.Logs.{IsLog}
 

@@ -1,10 +1,10 @@
 -- Bytes that were written, and the moves of those that are poisoned (own).
 use Rattle.std.specs.Prelude.{◌≡◌, ℕ, ◌+◌, ◌-◌, Bool, true, List, ◌++◌, map}
-use Rattle.ms_moves.specs.declared.moves.Source.{Source}
-use Rattle.ms_moves.specs.declared.moves.Source.TheVariants.{Byte}
-use Rattle.ms_moves.specs.declared.moves.Target.TheVariants.{Bytes}
-use Rattle.ms_moves.specs.declared.moves.Move.{Move}
-use Rattle.ms_moves.specs.Events.{moved, runs}
+use Rattle.ms_trail_moves.specs.declared.moves.Source.{Source}
+use Rattle.ms_trail_moves.specs.declared.moves.Source.TheVariants.{Byte}
+use Rattle.ms_trail_moves.specs.declared.moves.Target.TheVariants.{Bytes}
+use Rattle.ms_trail_moves.specs.declared.moves.Move.{Move}
+use Rattle.ms_trail_moves.specs.Events.{moved, runs}
 use Rattle.ms_trail_bytes.specs.declared.logs.Log.{Log}
 use Rattle.ms_trail_bytes.specs.Logs.{IsLog}
 

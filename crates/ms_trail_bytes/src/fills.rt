@@ -4,17 +4,17 @@ ghost use Rattle.ms_alloc.specs.Allocations.{is_good as is_live};
 ghost use Rattle.ms_bits.specs.Maps.{byte_of};
 ghost use Rattle.ms_runs.specs.{World.{World as Meant}, Memory.{is_good, set_cells, set_shadow}};
 ghost use Rattle.ms_runs.specs.Origins.{copy_planes, poison};
-ghost use Rattle.ms_good_laws.specs.GoodWorlds.{GoodWorld, FitsCell};
+ghost use Rattle.ms_runs_good_laws.specs.GoodWorlds.{GoodWorld, FitsCell};
 ghost use Rattle.ms_host.specs.{State.{Beside, Keeps}, Shows.{Shows}};
-ghost use Rattle.ms_moves.specs.{declared.moves.Source.{Source as SourceOf}, declared.moves.Move.{Move as MoveOf}};
-ghost use Rattle.ms_moves.specs.{Written.{Copied, Filled, made}, Events.{written_moves, memory_moves}};
+ghost use Rattle.ms_trail_moves.specs.{declared.moves.Source.{Source as SourceOf}, declared.moves.Move.{Move as MoveOf}};
+ghost use Rattle.ms_trail_moves.specs.{Written.{Copied, Filled, made}, Events.{written_moves, memory_moves}};
 ghost use Rattle.ms_trail_bytes.specs.Logs.{IsLog};
 
 use crate::logs::Log;
 use crate::spans::{Stamp, tell_bytes};
 use ms_bits::NoMemory;
 use ms_host::World;
-use ms_moves::moves::Source;
+use ms_trail_moves::moves::Source;
 use std::alloc::Global;
 
 /// The moves of `n` bytes that come from a root, where they are good.
@@ -41,8 +41,8 @@ fn tell_unset(
     }
 }
 
-/// Makes the bytes with the numbers from `from` to before `to`, counted from an address, uninitialised, where they are good: they
-/// come from a root. The one error is running out of memory.
+/// Makes the bytes with the numbers from `from` to before `to`, counted from an address, uninitialised, where they are good:
+/// they come from a root.
 pub fn unset(
     alloc: Global,
     world: &mut World,
@@ -70,8 +70,7 @@ pub fn unset(
     }
 }
 
-/// Gives `size` good bytes the bytes of a mask as shadow, the least first: where it isn't 0, they come from a source. The one
-/// error is running out of memory.
+/// Gives `size` good bytes the bytes of a mask as shadow, the least first: where it isn't 0, they come from a source.
 pub fn shade_stored(
     alloc: Global,
     world: &mut World,
@@ -104,7 +103,7 @@ pub fn shade_stored(
 }
 
 /// Copies the shadow and the origins of `n` bytes to good ones, and notes in the list that each came from the byte at its
-/// distance. The one error is running out of memory.
+/// distance.
 pub fn shade_copied(
     alloc: Global,
     world: &mut World,
@@ -132,8 +131,8 @@ pub fn shade_copied(
     }
 }
 
-/// The moves of `n` bytes that were copied with their shadow, where they are good: each one comes from the byte at its distance. The
-/// one error is running out of memory.
+/// The moves of `n` bytes that were copied with their shadow, where they are good: each one comes from the byte at its
+/// distance.
 pub fn tell_copied(
     alloc: Global,
     world: &World,
@@ -158,7 +157,7 @@ pub fn tell_copied(
     }
 }
 
-/// Gives `n` good bytes a mask that isn't 0 as shadow: they come from a source. The one error is running out of memory.
+/// Gives `n` good bytes a mask that isn't 0 as shadow: they come from a source.
 pub fn shade_filled(
     alloc: Global,
     world: &mut World,

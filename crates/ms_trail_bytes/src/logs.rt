@@ -1,10 +1,10 @@
 //! Moves as they are told, up to a limit.
 ghost use Rattle.std.specs.Prelude.{◌≤◌, ◌<◌, ◌+◌, ◌^◌, ◌++◌, [], ◌∷◌, List, IsTrue, ◌↔◌, OnOk};
-ghost use Rattle.ms_moves.specs.declared.moves.Move.{Move as MoveOf};
+ghost use Rattle.ms_trail_moves.specs.declared.moves.Move.{Move as MoveOf};
 ghost use Rattle.ms_trail_bytes.specs.Logs.{move_limit, IsLog};
 
 use ms_bits::NoMemory;
-use ms_moves::moves::Move;
+use ms_trail_moves::moves::Move;
 use std::alloc::Global;
 
 /// How many moves are kept.
@@ -36,7 +36,7 @@ impl Log {
         self.count < MOVE_LIMIT
     }
 
-    /// One move more, which is kept. The one error is running out of memory.
+    /// One move more, which is kept.
     pub fn push(&mut self, told: Move) -> Result<(), NoMemory>
         requires room { self.old.count < move_limit }
         requires few { self.old.count + 1 < 2 ^ 64 }
@@ -58,7 +58,7 @@ impl Log {
         self.count += 1;
     }
 
-    /// One move more, which is kept where there is room. The one error is running out of memory.
+    /// One move more, which is kept where there is room.
     #[tactic(auto, unfolding(crate::specs::Logs::move_limit))]
     pub fn add(&mut self, told: Move) -> Result<(), NoMemory>
         requires { self.old.count + 1 < 2 ^ 64 }

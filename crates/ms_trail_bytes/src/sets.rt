@@ -1,19 +1,19 @@
 //! Bytes that are filled with one byte.
 ghost use Rattle.std.specs.Prelude.{◌≡◌, ◌≤◌, ◌<◌, ◌+◌, ◌^◌, ◌++◌, ◌||◌, ℕ, List, true, eqb, OnOk};
 ghost use Rattle.ms_runs.specs.{World.{World as Meant}, Memory.{is_good}};
-ghost use Rattle.ms_good_laws.specs.GoodWorlds.{GoodWorld, FitsCell};
+ghost use Rattle.ms_runs_good_laws.specs.GoodWorlds.{GoodWorld, FitsCell};
 ghost use Rattle.ms_host.specs.{State.{Beside, Keeps}, Shows.{Shows}};
-ghost use Rattle.ms_follow_laws.specs.Follows.{fill_shadow};
-ghost use Rattle.ms_moves.specs.{declared.moves.Move.{Move as MoveOf}, Written.{Filled}, Events.{written_moves}};
+ghost use Rattle.ms_runs_laws.specs.Follows.{fill_shadow};
+ghost use Rattle.ms_trail_moves.specs.{declared.moves.Move.{Move as MoveOf}, Written.{Filled}, Events.{written_moves}};
 ghost use Rattle.ms_trail_bytes.specs.{Logs.{IsLog}, Shading.{ShadedAs}};
 
 use crate::fills::shade_filled;
 use crate::logs::Log;
 use crate::spans::Stamp;
-use crate::unsets::is_range;
+use crate::unsets::law_range;
 use ms_bits::NoMemory;
 use ms_host::World;
-use ms_moves::moves::Source;
+use ms_trail_moves::moves::Source;
 use std::alloc::Global;
 
 /// Whether no byte is poisoned of so many that get a byte of a mask.
@@ -23,7 +23,7 @@ fn is_clean(mask: u8, n: u64) -> bool
     mask == 0 || n == 0
 }
 
-/// Gives `n` good bytes a byte of a mask as shadow: where it isn't 0, they come from a source. The one error is running out of memory.
+/// Gives `n` good bytes a byte of a mask as shadow: where it isn't 0, they come from a source.
 pub fn shade_set(
     alloc: Global,
     world: &mut World,
@@ -50,7 +50,7 @@ pub fn shade_set(
     }
     let good = world.covers(addr, n);
     if good {
-        is_range(world, addr, n);
+        law_range(world, addr, n);
         shade_filled(alloc, world, log, stamp, from, addr, n, mask)
     } else {
         Ok(())

@@ -2,18 +2,17 @@
 ghost use Rattle.std.specs.Prelude.{◌≡◌, ◌≢◌, ◌<◌, ◌+◌, ◌^◌, ℕ, List, unwrap_or, IfOk};
 ghost use Rattle.ms_ir.specs.{declared.syntax.Ty.{Ty as TyOf}, declared.syntax.Name.{Name as NameOf}};
 ghost use Rattle.ms_ir.specs.{declared.syntax.Operand.{Operand as OperandOf}, Instructions.{operands, count_undefs}};
-ghost use Rattle.ms_moves.specs.declared.moves.Target.TheVariants as place;
-ghost use Rattle.ms_moves.specs.{Edges.{edge_source as source_of_edges}, Sources.{sources, source_at as source_in}};
+ghost use Rattle.ms_trail_moves.specs.declared.moves.Target.TheVariants as place;
+ghost use Rattle.ms_trail_moves.specs.{Edges.{edge_source as source_of_edges}, Sources.{sources, source_at as source_in}};
 
 use ms_bits::{Duplicate, NoMemory};
 use ms_ir::{Inst, Name, Op};
-use ms_moves::edges::edge_source;
-use ms_moves::moves::{Source, Target};
-use ms_moves::sources::{roots_before, source_at};
+use ms_trail_moves::edges::edge_source;
+use ms_trail_moves::moves::{Source, Target};
+use ms_trail_moves::sources::{roots_before, source_at};
 use std::alloc::Global;
 
-/// What a phi is read from in the call with a number, in a jump from the block with a name; so many roots stand before it. The
-/// one error is running out of memory.
+/// What a phi is read from in the call with a number, in a jump from the block with a name; so many roots stand before it.
 pub fn phi_source(
     alloc: Global,
     frame: u64,
@@ -30,8 +29,8 @@ pub fn phi_source(
     }
 }
 
-/// What the operand that is stored is read from, in the call with a number; so many roots stand before the instruction. Root 0 where
-/// its mask is 0. The one error is running out of memory.
+/// What the operand that is stored is read from, in the call with a number; so many roots stand before the instruction. Root
+/// 0 where its mask is 0.
 pub fn stored_source(
     alloc: Global,
     frame: u64,
@@ -58,8 +57,7 @@ pub fn own_root(before: u32, op: &Op) -> u32
     before + roots_before(op, op.operand_count()) + 1
 }
 
-/// The result of an instruction of the call with a number, as a place that is written; `%0` where it has no name. The one
-/// error is running out of memory.
+/// The result of an instruction of the call with a number, as a place that is written; `%0` where it has no name.
 pub fn result_target(alloc: Global, frame: u64, inst: &Inst) -> Result<Target, NoMemory>
     ensures { IfOk result (λ t. t ≡ place.Value frame (unwrap_or inst.now.result (Name.Number 0))) }
 {

@@ -2,16 +2,16 @@
 ghost use Rattle.std.specs.Prelude.{◌≡◌, ◌≢◌, ◌≤◌, ◌<◌, ◌+◌, ◌^◌, ◌++◌, ℕ, List, IsTrue, IfOk, OnOk};
 ghost use Rattle.ms_alloc.specs.Allocations.{is_good as is_live};
 ghost use Rattle.ms_runs.specs.World.{World as Meant};
-ghost use Rattle.ms_good_laws.specs.GoodWorlds.{GoodWorld, FitsCell};
+ghost use Rattle.ms_runs_good_laws.specs.GoodWorlds.{GoodWorld, FitsCell};
 ghost use Rattle.ms_host.specs.{State.{Beside}, Shows.{Shows}};
-ghost use Rattle.ms_moves.specs.declared.moves.Move.{Move as MoveOf};
+ghost use Rattle.ms_trail_moves.specs.declared.moves.Move.{Move as MoveOf};
 ghost use Rattle.ms_trail_bytes.specs.{Logs.{IsLog}, Spans.{source_in, span_moves, Telling}};
 
 use crate::logs::Log;
 use ms_bits::{Duplicate, NoMemory};
 use ms_host::World;
 use ms_ir::Name;
-use ms_moves::moves::{Move, Source, Target};
+use ms_trail_moves::moves::{Move, Source, Target};
 use std::alloc::Global;
 
 /// The shadow byte of the byte with a number among `n` live ones.
@@ -20,7 +20,7 @@ fn shadow_at(world: &World, addr: u64, n: u64, k: u64) -> u64
     requires within { k < n }
     ensures { (beside : Beside) (meant : Meant) → Shows world.now beside meant → result ≡ meant.shadow (addr + k) }
 {
-    world.is_laid_out();
+    world.law_laid_out();
     let here = addr + k;
     match world.load_shadow(here, 1) {
         Some(shadow) => shadow,
@@ -46,7 +46,7 @@ fn past_clean(world: &World, addr: u64, n: u64, first: u64) -> u64
     ensures end { result ≤ n }
     ensures clean { (beside : Beside) (meant : Meant) → Shows world.now beside meant → (k : ℕ) → first ≤ k → k < result → meant.shadow (addr + k) ≡ 0 }
 {
-    world.is_laid_out();
+    world.law_laid_out();
     let here = addr + first;
     match world.first_poisoned(here, n - first) {
         Some(byte) => at_most(n, first, byte.part as u64),
@@ -60,7 +60,7 @@ fn is_full(world: &World, addr: u64, n: u64, k: u64) -> bool
     requires within { k + 8 ≤ n }
     ensures { (beside : Beside) (meant : Meant) → Shows world.now beside meant → GoodWorld FitsCell meant → IsTrue result → (j : ℕ) → k ≤ j → j < k + 8 → meant.shadow (addr + j) ≢ 0 }
 {
-    world.is_laid_out();
+    world.law_laid_out();
     let here = addr + k;
     match world.load_shadow(here, 8) {
         Some(shadow) => shadow == u64::MAX,
@@ -172,7 +172,7 @@ fn tell_run(
     ensures told { (beside : Beside) (meant : Meant) (moves : List MoveOf) → Shows world.now beside meant → GoodWorld FitsCell meant → Telling stamp.event stamp.site from.now copied addr n meant.shadow moves log.old k → IfOk result (λ next. Telling stamp.event stamp.site from.now copied addr n meant.shadow moves log.new next) }
     ensures count { log.new.count ≤ log.old.count + 1 }
 {
-    world.is_laid_out();
+    world.law_laid_out();
     let end = past_poisoned(world, addr, n, k);
     if k < end {
         let source = run_source(alloc, from, copied, k)?;
@@ -221,8 +221,7 @@ fn tell_next(
     }
 }
 
-/// The moves of `n` live bytes that were written: one for each of the longest runs of poisoned ones. The one error is running out of
-/// memory.
+/// The moves of `n` live bytes that were written: one for each of the longest runs of poisoned ones.
 pub fn tell_bytes(
     alloc: Global,
     world: &World,

@@ -4,10 +4,10 @@ ghost use Rattle.ms_alloc.specs.Allocations.{heap_size as block_size, is_good as
 ghost use Rattle.ms_ir.specs.Areas.{Heap};
 ghost use Rattle.ms_runs.specs.{World.{World as Meant}, Memory.{fits, heap_size, is_good, next_base}};
 ghost use Rattle.ms_runs.specs.Origins.{copy_planes, poison};
-ghost use Rattle.ms_good_laws.specs.GoodWorlds.{GoodWorld, FitsCell};
+ghost use Rattle.ms_runs_good_laws.specs.GoodWorlds.{GoodWorld, FitsCell};
 ghost use Rattle.ms_host.specs.{State.{Beside, Keeps}, Shows.{Shows}};
-ghost use Rattle.ms_moves.specs.{declared.moves.Move.{Move as MoveOf}, Written.{Copied, Filled, heap_place, made}};
-ghost use Rattle.ms_moves.specs.Events.{memory_moves, written_moves};
+ghost use Rattle.ms_trail_moves.specs.{declared.moves.Move.{Move as MoveOf}, Written.{Copied, Filled, heap_place, made}};
+ghost use Rattle.ms_trail_moves.specs.Events.{memory_moves, written_moves};
 ghost use Rattle.ms_trail_bytes.specs.{Logs.{IsLog}, Shading.{IsRange, ShadedAs}};
 
 use crate::fills::{shade_copied, tell_copied};
@@ -15,26 +15,26 @@ use crate::logs::Log;
 use crate::spans::{Stamp, tell_bytes};
 use ms_bits::NoMemory;
 use ms_host::World;
-use ms_moves::moves::Source;
+use ms_trail_moves::moves::Source;
 use std::alloc::Global;
 
 /// A law: a live range lies within an area.
-pub fn is_range(world: &World, addr: u64, n: u64)
+pub fn law_range(world: &World, addr: u64, n: u64)
     requires live { IsTrue (is_live addr n world.now.planes.table) }
     requires some { 0 < n }
     ensures { IsRange addr n }
 {
-    world.is_laid_out();
+    world.law_laid_out();
 }
 
 /// A law: a heap block lies within an area, below the next one.
-fn is_block(world: &World, base: u64, size: u64)
+fn law_block(world: &World, base: u64, size: u64)
     requires { block_size base world.now.planes.table ≡ Some size }
     ensures low { 0 < size → base + size < 2 ^ 64 }
     ensures small { size ≤ 2 ^ 26 }
     ensures below { (beside : Beside) (meant : Meant) → Shows world.now beside meant → base < next_base Heap meant }
 {
-    world.is_laid_out();
+    world.law_laid_out();
 }
 
 /// The size of the heap block that an address is the base of; 0 where there is none.
@@ -47,7 +47,7 @@ pub fn size_of(world: &World, base: u64) -> u64
     let found = world.heap_size(base);
     match found {
         Some(size) => {
-            is_block(world, base, size);
+            law_block(world, base, size);
             size
         }
         None => 0,
@@ -72,7 +72,7 @@ fn tell_good(
 {
     let good = world.covers(first, n);
     if good {
-        is_range(world, first, n);
+        law_range(world, first, n);
         let from = Source::Root { number: root };
         tell_bytes(alloc, world, log, stamp, &from, false, first, n)
     } else {
@@ -80,8 +80,8 @@ fn tell_good(
     }
 }
 
-/// The moves of the bytes with the numbers from `from` to before `to`, counted from an address, where they are good: they come from
-/// a root. The one error is running out of memory.
+/// The moves of the bytes with the numbers from `from` to before `to`, counted from an address, where they are good: they
+/// come from a root.
 fn tell_made(
     alloc: Global,
     world: &World,
@@ -106,8 +106,8 @@ fn tell_made(
     }
 }
 
-/// Makes the bytes with the numbers from `from` to before `to`, counted from an address, uninitialised, where they are good: they
-/// come from a root. The one error is running out of memory.
+/// Makes the bytes with the numbers from `from` to before `to`, counted from an address, uninitialised, where they are good:
+/// they come from a root.
 pub fn shade_unset(
     alloc: Global,
     world: &mut World,
@@ -129,8 +129,7 @@ pub fn shade_unset(
     tell_made(alloc, world, log, stamp, root, addr, from, to)
 }
 
-/// Copies the shadow of `n` bytes from one good range to another: each byte comes from the one at its distance. The one error is
-/// running out of memory.
+/// Copies the shadow of `n` bytes from one good range to another: each byte comes from the one at its distance.
 pub fn shade_copy(
     alloc: Global,
     world: &mut World,
@@ -153,7 +152,7 @@ pub fn shade_copy(
     }
     let good = world.covers(from, n);
     if good {
-        is_range(world, from, n);
+        law_range(world, from, n);
         shade_copied(alloc, world, log, stamp, to, from, n)
     } else {
         Ok(())
@@ -185,7 +184,7 @@ fn tell_block(
     }
 }
 
-/// A block was reallocated to `n` bytes: what it had came along, and the rest is uninitialised. The one error is running out of memory.
+/// A block was reallocated to `n` bytes: its bytes were copied, and the rest is uninitialised.
 pub fn shade_moved(
     alloc: Global,
     world: &mut World,

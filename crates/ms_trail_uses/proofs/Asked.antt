@@ -4,14 +4,14 @@ use Rattle.std.proofs.lemmas.List.{drop_all}
 use Rattle.ms_runs.specs.World.{World, Effect, Gives, Does}
 use Rattle.ms_runs.specs.Poisoned.{Poisoned}
 use Rattle.ms_runs.specs.Masks.{last_origin}
-use Rattle.ms_moves.specs.Sources.{placed}
+use Rattle.ms_trail_moves.specs.Sources.{placed}
 use Rattle.ms_host.specs.declared.calls.Answer.TheVariants as answer
 use Rattle.ms_host.specs.Answers.{Answered, resumed}
 use Rattle.ms_host.specs.State.{WorldState, Beside}
 use Rattle.ms_host.specs.Shows.{Shows}
 use Rattle.ms_trail_uses.specs.Origins.{last_masked}
 use Rattle.ms_ir.proofs.Sizes.{drop_next}
-use Rattle.ms_compile.proofs.Building.{drop-zero}
+use Rattle.ms_machine_compile.proofs.Building.{drop-zero}
 
 -- ---- the last poisoned argument
 
@@ -34,7 +34,7 @@ last_placed (p ∷ ps) k best =
 
 -- ---- answers
 
--- what a run that goes on behind a call was answered
+-- what a run that goes on after a call was answered
 pub resumed_is : (beside : Beside) (x : Effect) (value : Option ℕ) (w : WorldState) → Answered beside x (answer.Resumed value) w → (after : World) × ((x ≡ resumed value after) × Shows w beside after)
 resumed_is beside (Gives v world) (Some n) w h = (world, (ap (λ k. Gives k world) (sym h.0), h.1))
 resumed_is beside (Does world) None w h = (world, (refl, h))

@@ -29,15 +29,15 @@ use Rattle.ms_runs.specs.Masks.{word_at}
 use Rattle.ms_runs.specs.Shadow.{operand_mask, read_poisoned}
 use Rattle.ms_runs.specs.Uses as use_of
 use Rattle.ms_runs.specs.Uses.{uses, value_uses, string_uses, external_uses, binary_uses, callee_uses}
-use Rattle.ms_code.specs.declared.code.Source.{Source}
-use Rattle.ms_code.specs.declared.code.Code.{Code}
-use Rattle.ms_code.specs.declared.code.Code.TheVariants as code
-use Rattle.ms_code.specs.Words.{word_of}
-use Rattle.ms_code.specs.Reads.{Reads, ReadsAll}
-use Rattle.ms_code.specs.Encodes.{Where, Encodes, in_main}
-use Rattle.ms_shades.specs.Shades.{mask_of, HoldsShades}
-use Rattle.ms_shades.specs.Results.{bare}
-use Rattle.ms_shades.proofs.Reading.{reads_mask, source_difference}
+use Rattle.ms_machine_code.specs.declared.code.WordSource.{WordSource}
+use Rattle.ms_machine_code.specs.declared.code.Code.{Code}
+use Rattle.ms_machine_code.specs.declared.code.Code.TheVariants as code
+use Rattle.ms_machine_code.specs.Words.{word_of}
+use Rattle.ms_machine_code.specs.Reads.{Reads, ReadsAll}
+use Rattle.ms_machine_code.specs.Encodes.{Where, Encodes, in_main}
+use Rattle.ms_trail_masks.specs.Shades.{mask_of, HoldsShades}
+use Rattle.ms_trail_masks.specs.Results.{bare}
+use Rattle.ms_trail_masks.proofs.Reading.{reads_mask, source_difference}
 use Rattle.ms_trail_uses.specs.declared.used.Used.{Used}
 use Rattle.ms_trail_uses.specs.declared.used.Used.TheVariants as read
 use Rattle.ms_trail_uses.specs.Used.{word_read, range_read, string_read, asked_read, use_read, or_used, first_read, words_read, strings_read, seen, operand_read, arguments_read, divides, code_read}
@@ -149,23 +149,23 @@ arguments_first w ps Printf ret callee os n count =
 -- ---- words that code reads
 
 module _ (fill xs ms : List ℕ) (at : Where) (u : Setup) (values : Name → Poisoned) (filled : u.fill ≡ fill) (holds : HoldsShades at.names xs ms values) where
-  pub source_word : (w : ℕ) (s : Source) (o : Operand) → Reads at.whole at.names w s o → word_of fill xs s ≡ operand_word (setting_of at.whole u) (λ x. (values x).value) w o
+  pub source_word : (w : ℕ) (s : WordSource) (o : Operand) → Reads at.whole at.names w s o → word_of fill xs s ≡ operand_word (setting_of at.whole u) (λ x. (values x).value) w o
   source_word w s o reads = ap (λ f. word_of f xs s) (sym filled) ∙ reads u xs (λ x. (values x).value) holds.words
 
-  pub source_mask : (w : ℕ) (s : Source) (o : Operand) → Reads at.whole at.names w s o → mask_of ms s ≡ operand_mask values w o
+  pub source_mask : (w : ℕ) (s : WordSource) (o : Operand) → Reads at.whole at.names w s o → mask_of ms s ≡ operand_mask values w o
   source_mask w s o reads = reads_mask at.whole at.names w s o reads ms values holds.masks
 
-  pub seen_all : (ss : List Source) (os : List (Ty × Operand)) → ReadsAll at.whole at.names ss os → (root : ℕ) → seen fill xs ms ss ≡ bare_all (read_all (read_poisoned (setting_of at.whole u) values) os root)
+  pub seen_all : (ss : List WordSource) (os : List (Ty × Operand)) → ReadsAll at.whole at.names ss os → (root : ℕ) → seen fill xs ms ss ≡ bare_all (read_all (read_poisoned (setting_of at.whole u) values) os root)
   seen_all [] [] reads root = refl
   seen_all [] (o ∷ os) reads root = absurd reads
   seen_all (s ∷ ss) [] reads root = absurd reads
   seen_all (s ∷ ss) (o ∷ os) reads root =
       ap₂ (λ p ps. p ∷ ps) (ap₂ bare (source_word (width_of o.0) s o.1 reads.0) (source_mask (width_of o.0) s o.1 reads.0)) (seen_all ss os reads.1 (root + one_undef o.1))
 
-  operand_same : (k w : ℕ) (s : Source) (o : Operand) → Reads at.whole at.names w s o → operand_read ms k s ≡ (if eqb (operand_mask values w o) 0 then None else Some (read.Operand k))
+  operand_same : (k w : ℕ) (s : WordSource) (o : Operand) → Reads at.whole at.names w s o → operand_read ms k s ≡ (if eqb (operand_mask values w o) 0 then None else Some (read.Operand k))
   operand_same k w s o reads = ap (λ (m : ℕ). if eqb m 0 then None else Some (read.Operand k)) (source_mask w s o reads)
 
-as_many : (m : Module) (names : List Name) (ss : List Source) (os : List (Ty × Operand)) → ReadsAll m names ss os → length ss ≡ length os
+as_many : (m : Module) (names : List Name) (ss : List WordSource) (os : List (Ty × Operand)) → ReadsAll m names ss os → length ss ≡ length os
 as_many m names [] [] reads = refl
 as_many m names [] (o ∷ os) reads = absurd reads
 as_many m names (s ∷ ss) [] reads = absurd reads
@@ -179,7 +179,7 @@ divided_first w ps Urem x e = e ∙ sym (or_none (word_read ps 1))
 divided_first w ps Srem x e = e ∙ sym (or_none (word_read ps 1))
 divided_first w ps _ x e = refl
 
-only_one : (ms : List ℕ) (s : Source) (b : BinOp) → option_and_then (λ k. operand_read ms k s) (divides b) ≡ option_and_then (λ k. operand_read ms 1 s) (divides b)
+only_one : (ms : List ℕ) (s : WordSource) (b : BinOp) → option_and_then (λ k. operand_read ms k s) (divides b) ≡ option_and_then (λ k. operand_read ms 1 s) (divides b)
 only_one ms s Udiv = refl
 only_one ms s Sdiv = refl
 only_one ms s Urem = refl
@@ -192,7 +192,7 @@ inst_read at u values root world o = first_read world (read_all (read_poisoned (
 
 module _ (fill xs ms : List ℕ) (at : Where) (u : Setup) (values : Name → Poisoned) (root : ℕ) (world : World) (filled : u.fill ≡ fill) (holds : HoldsShades at.names xs ms values) where
   -- the word of an operand alone is checked
-  word_first : (k w : ℕ) (s : Source) (p : Operand) (rest : Op) → Reads at.whole at.names w s p
+  word_first : (k w : ℕ) (s : WordSource) (p : Operand) (rest : Op) → Reads at.whole at.names w s p
       → inst_read at u values root world rest ≡ or_used (if eqb (operand_mask values w p) 0 then None else Some (read.Operand k)) None → (o : Op) → o ≡ rest → operand_read ms k s ≡ inst_read at u values root world o
   word_first k w s p rest reads is o same =
       operand_same fill xs ms at u values filled holds k w s p reads ∙ sym (or_none (if eqb (operand_mask values w p) 0 then None else Some (read.Operand k))) ∙ sym is ∙ sym (ap (inst_read at u values root world) same)

@@ -4,30 +4,30 @@ use Rattle.std.specs.Prelude.{All}
 use Rattle.std.proofs.lemmas.Option.{none-some}
 use Rattle.std.proofs.lemmas.Bool.{eq-eqb, ne_eqb}
 use Rattle.ms_runs.specs.World.{World}
-use Rattle.ms_code.specs.declared.code.Source.{Source}
-use Rattle.ms_code.specs.declared.code.Edge.{Edge}
-use Rattle.ms_code.specs.declared.code.Code.{Code}
-use Rattle.ms_code.specs.declared.code.Code.TheVariants as code
-use Rattle.ms_code.specs.Words.{word_of, edge_of}
-use Rattle.ms_code.specs.declared.code.Routine.{Routine}
-use Rattle.ms_code.specs.Fits.{Fits, IsEdge}
+use Rattle.ms_machine_code.specs.declared.code.WordSource.{WordSource}
+use Rattle.ms_machine_code.specs.declared.code.Edge.{Edge}
+use Rattle.ms_machine_code.specs.declared.code.Code.{Code}
+use Rattle.ms_machine_code.specs.declared.code.Code.TheVariants as code
+use Rattle.ms_machine_code.specs.Words.{word_of, edge_of}
+use Rattle.ms_machine_code.specs.declared.code.Routine.{Routine}
+use Rattle.ms_machine_code.specs.Fits.{Fits, IsEdge}
 use Rattle.ms_machine_frames.specs.Meaning.{Jumps, IsJump, doing}
-use Rattle.ms_shades.specs.Results.{IsComputed}
+use Rattle.ms_trail_masks.specs.Results.{IsComputed}
 use Rattle.ms_trail_uses.specs.Due.{sets_at}
 use Rattle.ms_trail_uses.specs.Taken.{HasCondition, IsTaken}
 
 pub jump_taken : (fill xs : List ℕ) (k : Code) (e : Edge) → k ≡ code.Jump e → IsTaken fill xs k e
 jump_taken fill xs k e is = λ site cells world. ap (λ z. doing fill site cells z xs world) is
 
-pub other_taken : (fill xs : List ℕ) (k : Code) (c : Source) (taken other : Edge) (v : ℕ) → k ≡ code.Branch c taken other → v ≡ word_of fill xs c → v ≡ 0 → IsTaken fill xs k other
+pub other_taken : (fill xs : List ℕ) (k : Code) (c : WordSource) (taken other : Edge) (v : ℕ) → k ≡ code.Branch c taken other → v ≡ word_of fill xs c → v ≡ 0 → IsTaken fill xs k other
 other_taken fill xs k c taken other v is word none = λ site cells world.
     ap (λ z. doing fill site cells z xs world) is ∙ ap (λ b. Jumps (if b then other else taken) world) (eq-eqb (word_of fill xs c) 0 (sym word ∙ none))
 
-pub first_taken : (fill xs : List ℕ) (k : Code) (c : Source) (taken other : Edge) (v : ℕ) → k ≡ code.Branch c taken other → v ≡ word_of fill xs c → v ≢ 0 → IsTaken fill xs k taken
+pub first_taken : (fill xs : List ℕ) (k : Code) (c : WordSource) (taken other : Edge) (v : ℕ) → k ≡ code.Branch c taken other → v ≡ word_of fill xs c → v ≢ 0 → IsTaken fill xs k taken
 first_taken fill xs k c taken other v is word some = λ site cells world.
     ap (λ z. doing fill site cells z xs world) is ∙ ap (λ b. Jumps (if b then other else taken) world) (ne_eqb (word_of fill xs c) 0 (λ z. some (word ∙ z)))
 
-pub case_taken : (fill xs : List ℕ) (k : Code) (s : Source) (cases read : List (ℕ × Edge)) (other e : Edge) (v : ℕ) → k ≡ code.Switch s cases other → v ≡ word_of fill xs s → read ≡ cases → e ≡ edge_of read v other
+pub case_taken : (fill xs : List ℕ) (k : Code) (s : WordSource) (cases read : List (ℕ × Edge)) (other e : Edge) (v : ℕ) → k ≡ code.Switch s cases other → v ≡ word_of fill xs s → read ≡ cases → e ≡ edge_of read v other
     → IsTaken fill xs k e
 case_taken fill xs k s cases read other e v is word same found = λ site cells world.
     ap (λ z. doing fill site cells z xs world) is ∙ ap (λ z. Jumps z world) (sym (found ∙ (λ i. edge_of (same i) (word i) other)))

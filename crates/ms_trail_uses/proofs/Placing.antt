@@ -21,17 +21,17 @@ use Rattle.ms_runs.specs.Plain.{setting_of}
 use Rattle.ms_runs.specs.Poisoned.{Poisoned}
 use Rattle.ms_runs.specs.Masks.{last_origin, result_origin}
 use Rattle.ms_runs.specs.Shadow.{operand_mask, read_poisoned}
-use Rattle.ms_moves.specs.Sources.{placed}
-use Rattle.ms_code.specs.declared.code.Source.{Source}
-use Rattle.ms_code.specs.declared.code.Stride.{Stride}
-use Rattle.ms_code.specs.declared.code.Code.{Code}
-use Rattle.ms_code.specs.declared.code.Code.TheVariants as code
-use Rattle.ms_code.specs.Reads.{ReadIndices, is_integer, strided}
-use Rattle.ms_code.specs.Encodes.{Where, Encodes}
-use Rattle.ms_shades.specs.Shades.{mask_of, HoldsShades}
-use Rattle.ms_shades.specs.Results.{IsComputed}
-use Rattle.ms_shades.proofs.Reading.{reads_mask}
-use Rattle.ms_shades.proofs.Indices.{integer_clean}
+use Rattle.ms_trail_moves.specs.Sources.{placed}
+use Rattle.ms_machine_code.specs.declared.code.WordSource.{WordSource}
+use Rattle.ms_machine_code.specs.declared.code.Stride.{Stride}
+use Rattle.ms_machine_code.specs.declared.code.Code.{Code}
+use Rattle.ms_machine_code.specs.declared.code.Code.TheVariants as code
+use Rattle.ms_machine_code.specs.Reads.{ReadIndices, is_integer, strided}
+use Rattle.ms_machine_code.specs.Encodes.{Where, Encodes}
+use Rattle.ms_trail_masks.specs.Shades.{mask_of, HoldsShades}
+use Rattle.ms_trail_masks.specs.Results.{IsComputed}
+use Rattle.ms_trail_masks.proofs.Reading.{reads_mask}
+use Rattle.ms_trail_masks.proofs.Indices.{integer_clean}
 use Rattle.ms_trail_uses.specs.Origins.{head_mask, last_stride, index_read, place_read}
 use Rattle.ms_trail_uses.proofs.CodeUses.{source_word, source_mask}
 
@@ -40,14 +40,14 @@ use Rattle.ms_trail_uses.proofs.CodeUses.{source_word, source_mask}
 pub stride_more : (ms : List ℕ) (typed : List (Ty × Operand)) (ss : List Stride) (k next best mask now after : ℕ) (integer : Bool) (pair : Ty × Operand) → k < length typed → pair ≡ get_or typed k pair
     → integer ≡ is_integer pair.1 → mask ≡ head_mask ms (drop next ss) → now ≡ (if integer then best else (if eqb mask 0 then best else k + 1)) → after ≡ (if integer then next else next + 1)
     → last_stride ms (drop k typed) (drop next ss) (k + 1) best ≡ last_stride ms (drop (k + 1) typed) (drop after ss) (k + 1 + 1) now
-stride_more ms typed ss k next best mask now after integer pair lt is test read better behind =
+stride_more ms typed ss k next best mask now after integer pair lt is test read better beyond =
     let bs : List (Ty × Operand) = drop (k + 1) typed in
     let this : is_integer pair.1 ≡ integer = sym test in
     let its : head_mask ms (drop next ss) ≡ mask = sym read in
     ap (λ is'. last_stride ms is' (drop next ss) (k + 1) best) (drop_next typed k pair lt is)
     ∙ (λ i. last_stride ms bs (if this i then drop next ss else drop 1 (drop next ss)) (k + 1 + 1) (if this i then best else (if eqb (its i) 0 then best else k + 1)))
     ∙ ap (λ ts. last_stride ms bs ts (k + 1 + 1) (if integer then best else (if eqb mask 0 then best else k + 1))) (by_test integer)
-    ∙ (λ i. last_stride ms bs (drop (sym behind i) ss) (k + 1 + 1) (sym better i))
+    ∙ (λ i. last_stride ms bs (drop (sym beyond i) ss) (k + 1 + 1) (sym better i))
   where
     by_test : (b : Bool) → (if b then drop next ss else drop 1 (drop next ss)) ≡ drop (if b then next else next + 1) ss
     by_test true = refl
@@ -67,9 +67,9 @@ no_indices ms ss (op.Gep t base is) h = absurd (h t base is refl)
 no_indices ms ss _ h = refl
 
 -- code of another kind has its first operand's
-pub other_place : (fill xs ms : List ℕ) (o : Op) (k : Code) → ((b : BinOp) (f : Flags) (w : ℕ) (p q : Source) (to : ℕ) → k ≡ code.Binary b f w p q to → ⊥)
-    → ((c : Pred) (f : Flags) (w : ℕ) (p q : Source) (to : ℕ) → k ≡ code.Icmp c f w p q to → ⊥) → ((c p q : Source) (to : ℕ) → k ≡ code.Select c p q to → ⊥)
-    → ((base : Source) (offset : ℕ) (ss : List Stride) (to : ℕ) → k ≡ code.Gep base offset ss to → ⊥) → 0 ≡ place_read fill xs ms o k
+pub other_place : (fill xs ms : List ℕ) (o : Op) (k : Code) → ((b : BinOp) (f : Flags) (w : ℕ) (p q : WordSource) (to : ℕ) → k ≡ code.Binary b f w p q to → ⊥)
+    → ((c : Pred) (f : Flags) (w : ℕ) (p q : WordSource) (to : ℕ) → k ≡ code.Icmp c f w p q to → ⊥) → ((c p q : WordSource) (to : ℕ) → k ≡ code.Select c p q to → ⊥)
+    → ((base : WordSource) (offset : ℕ) (ss : List Stride) (to : ℕ) → k ≡ code.Gep base offset ss to → ⊥) → 0 ≡ place_read fill xs ms o k
 other_place fill xs ms o (code.Binary b f w p q to) binary icmp select gep = absurd (binary b f w p q to refl)
 other_place fill xs ms o (code.Icmp c f w p q to) binary icmp select gep = absurd (icmp c f w p q to refl)
 other_place fill xs ms o (code.Select c p q to) binary icmp select gep = absurd (select c p q to refl)

@@ -11,14 +11,14 @@ use Rattle.ms_ir.specs.declared.syntax.Module.{Module}
 use Rattle.ms_ir.specs.Instructions.{insts_at, blocks_at, root_at, roots_in, func_index, over_insts, over_blocks, over_funcs}
 use Rattle.ms_ir.specs.Locals.{function_names}
 use Rattle.ms_runs.specs.Control.{block_name}
-use Rattle.ms_tables.specs.FirstPlace.{first_place}
-use Rattle.ms_tables.proofs.Tied.{func_index_is}
-use Rattle.ms_code.specs.Encodes.{number_of}
-use Rattle.ms_compile.specs.Flat.{EachInst, EachBlock, EachFunc, Pushed}
-use Rattle.ms_compile.proofs.FlatCode.{in_funcs}
-use Rattle.ms_compile.proofs.Numbers.{blocks_are, insts_are}
-use Rattle.ms_compile.proofs.Pushes.{inst_more, block_more, func_more, Pushing}
-use Rattle.ms_trail_uses.specs.declared.tables.Row.{Row}
+use Rattle.ms_check_tables.specs.FirstPlace.{first_place}
+use Rattle.ms_check_tables.proofs.Tied.{func_index_is}
+use Rattle.ms_machine_code.specs.Encodes.{number_of}
+use Rattle.ms_machine_compile.specs.Flat.{EachInst, EachBlock, EachFunc, Pushed}
+use Rattle.ms_machine_compile.proofs.FlatCode.{in_funcs}
+use Rattle.ms_machine_compile.proofs.Numbers.{blocks_are, insts_are}
+use Rattle.ms_machine_compile.proofs.Pushes.{inst_more, block_more, func_more, Pushing}
+use Rattle.ms_trail_uses.specs.declared.tables.InstRow.{InstRow}
 use Rattle.ms_trail_uses.specs.Tabled.{IsRow, AreTables}
 use Rattle.ms_trail_uses.proofs.Sums.{inst_start, block_start, func_start}
 
@@ -27,7 +27,7 @@ pub functions_found : (m : Module) (functions : List Name) → functions ≡ fun
 functions_found m functions e = λ j x. (ap (λ ns. first_place ns x) e ∙ sym (func_index_is m.funcs x)) j
 
 -- one instruction more
-pub rows_more : (m : Module) (n b i first : ℕ) (func : Name → Option ℕ) (before now after : List Row) (insts : List Inst) (block : Name) (x : Inst) (row : Row) → i < length insts → x ≡ get_or insts i x
+pub rows_more : (m : Module) (n b i first : ℕ) (func : Name → Option ℕ) (before now after : List InstRow) (insts : List Inst) (block : Name) (x : Inst) (row : InstRow) → i < length insts → x ≡ get_or insts i x
     → func ≡ func_index m.funcs → insts ≡ insts_at m n b → block ≡ block_name m n b → first ≡ root_at (func_index m.funcs) m n b 0
     → row.inst.now ≡ x → row.roots ≡ first + over_insts (roots_in func) (take i insts) → row.block.now ≡ block → after ≡ now ++ row ∷ []
     → Pushing (EachInst (IsRow m n b)) before now i insts → Pushing (EachInst (IsRow m n b)) before after (i + 1) insts
@@ -45,7 +45,7 @@ rows_more m n b i first func before now after insts block x row lt is same here 
     p
 
 -- one block more
-pub block_rows_more : (m : Module) (n i first roots : ℕ) (func : Name → Option ℕ) (before now after : List Row) (blocks : List Block) (k : Block) (insts : List Inst) (name : Name) → i < length blocks → k ≡ get_or blocks i k
+pub block_rows_more : (m : Module) (n i first roots : ℕ) (func : Name → Option ℕ) (before now after : List InstRow) (blocks : List Block) (k : Block) (insts : List Inst) (name : Name) → i < length blocks → k ≡ get_or blocks i k
     → func ≡ func_index m.funcs → insts ≡ k.insts → name ≡ k.name → blocks ≡ blocks_at m n → first ≡ root_at (func_index m.funcs) m n 0 0 → roots ≡ first + over_blocks (roots_in func) (take i blocks)
     → ((q : Module) (f b : ℕ) → func ≡ func_index q.funcs → insts ≡ insts_at q f b → name ≡ block_name q f b → roots ≡ root_at (func_index q.funcs) q f b 0 → Pushed (EachInst (IsRow q f b) 0) now after insts)
     → Pushing (EachBlock (IsRow m n)) before now i blocks → Pushing (EachBlock (IsRow m n)) before after (i + 1) blocks
@@ -58,7 +58,7 @@ block_rows_more m n i first roots func before now after blocks k insts name lt i
     (subst (λ (l : List Inst). Pushed (EachInst (IsRow m n i) 0) now after l) same (pushed m n i found (same ∙ sym there) (named ∙ sym name_is) number)) p
 
 -- one function more
-pub func_rows_more : (m : Module) (i roots : ℕ) (func : Name → Option ℕ) (before now after : List Row) (f : Func) (blocks : List Block) → i < length m.funcs → f ≡ get_or m.funcs i f
+pub func_rows_more : (m : Module) (i roots : ℕ) (func : Name → Option ℕ) (before now after : List InstRow) (f : Func) (blocks : List Block) → i < length m.funcs → f ≡ get_or m.funcs i f
     → func ≡ func_index m.funcs → blocks ≡ f.blocks → roots ≡ over_funcs (roots_in func) (take i m.funcs)
     → ((q : Module) (n : ℕ) → func ≡ func_index q.funcs → blocks ≡ blocks_at q n → roots ≡ root_at (func_index q.funcs) q n 0 0 → Pushed (EachBlock (IsRow q n) 0) now after blocks)
     → Pushing (EachFunc (IsRow m)) before now i m.funcs → Pushing (EachFunc (IsRow m)) before after (i + 1) m.funcs
@@ -83,7 +83,7 @@ func_there fs n b p inst at = by_func (slice_get fs n) refl at
     by_func None is at = absurd (cc)
     by_func (Some f) is at = by_block f is (slice_get f.blocks b) refl at
 
-pub tables_are : (m : Module) (rows : List Row) → EachFunc (IsRow m) 0 rows m.funcs → AreTables m rows
+pub tables_are : (m : Module) (rows : List InstRow) → EachFunc (IsRow m) 0 rows m.funcs → AreTables m rows
 tables_are m rows each = λ n b p inst at.
     let q = func_there m.funcs n b p inst at in
     let f = q.0 in

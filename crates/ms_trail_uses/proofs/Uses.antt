@@ -23,51 +23,51 @@ use Rattle.ms_runs.specs.Memory.{is_good, bytes_left}
 use Rattle.ms_runs.specs.Origins.{first_in_string}
 use Rattle.ms_runs.specs.Poisoned.{Poisoned}
 use Rattle.ms_runs.specs.Masks.{word_at}
-use Rattle.ms_code.specs.declared.code.Source.{Source}
-use Rattle.ms_code.specs.declared.code.Source.TheVariants as source
-use Rattle.ms_code.specs.Words.{word_of}
-use Rattle.ms_code.specs.Fits.{IsSource}
+use Rattle.ms_machine_code.specs.declared.code.WordSource.{WordSource}
+use Rattle.ms_machine_code.specs.declared.code.WordSource.TheVariants as source
+use Rattle.ms_machine_code.specs.Words.{word_of}
+use Rattle.ms_machine_code.specs.Fits.{IsSource}
 use Rattle.ms_host.specs.declared.shadows.PoisonedByte.{PoisonedByte}
 use Rattle.ms_host.specs.Poisonings.{IsFound}
 use Rattle.ms_host.proofs.StringSteps.{fits-word}
-use Rattle.ms_shades.specs.Shades.{mask_of}
-use Rattle.ms_shades.specs.Results.{bare}
+use Rattle.ms_trail_masks.specs.Shades.{mask_of}
+use Rattle.ms_trail_masks.specs.Results.{bare}
 use Rattle.ms_trail_uses.specs.declared.used.Used.{Used}
 use Rattle.ms_trail_uses.specs.declared.used.Used.TheVariants as read
-use Rattle.ms_moves.specs.Sources.{byte_source}
+use Rattle.ms_trail_moves.specs.Sources.{byte_source}
 use Rattle.ms_trail_uses.specs.Used.{used_byte, byte_used, found_used, word_read, range_read, string_read, asked_read, or_used, shape_of, shape_read, words_read, strings_read, printed_read, printf_read, arguments_read, seen}
 
 -- ---- arguments
 
 -- an argument is read where its source is
-pub seen_at : (fill xs ms : List ℕ) (args : List Source) (k : ℕ) → word_at k (seen fill xs ms args) ≡ bare (word_of fill xs (get_or args k (source.Word 0))) (mask_of ms (get_or args k (source.Word 0)))
+pub seen_at : (fill xs ms : List ℕ) (args : List WordSource) (k : ℕ) → word_at k (seen fill xs ms args) ≡ bare (word_of fill xs (get_or args k (source.Word 0))) (mask_of ms (get_or args k (source.Word 0)))
 seen_at fill xs ms [] k = refl
 seen_at fill xs ms (s ∷ args) zero = refl
 seen_at fill xs ms (s ∷ args) (suc k) = seen_at fill xs ms args k
 
-pub seen_value : (fill xs ms : List ℕ) (args : List Source) (k v : ℕ) (s : Source) → s ≡ get_or args k (source.Word 0) → v ≡ word_of fill xs s → v ≡ (word_at k (seen fill xs ms args)).value
+pub seen_value : (fill xs ms : List ℕ) (args : List WordSource) (k v : ℕ) (s : WordSource) → s ≡ get_or args k (source.Word 0) → v ≡ word_of fill xs s → v ≡ (word_at k (seen fill xs ms args)).value
 seen_value fill xs ms args k v s is e = e ∙ ap (word_of fill xs) is ∙ sym (ap (λ (p : Poisoned). p.value) (seen_at fill xs ms args k))
 
-pub seen_mask : (fill xs ms : List ℕ) (args : List Source) (k v : ℕ) (s : Source) → s ≡ get_or args k (source.Word 0) → v ≡ mask_of ms s → v ≡ (word_at k (seen fill xs ms args)).mask
+pub seen_mask : (fill xs ms : List ℕ) (args : List WordSource) (k v : ℕ) (s : WordSource) → s ≡ get_or args k (source.Word 0) → v ≡ mask_of ms s → v ≡ (word_at k (seen fill xs ms args)).mask
 seen_mask fill xs ms args k v s is e = e ∙ ap (mask_of ms) is ∙ sym (ap (λ (p : Poisoned). p.mask) (seen_at fill xs ms args k))
 
-pub same_default : (args : List Source) (k : ℕ) (s d e : Source) → k < length args → s ≡ get_or args k d → s ≡ get_or args k e
+pub same_default : (args : List WordSource) (k : ℕ) (s d e : WordSource) → k < length args → s ≡ get_or args k d → s ≡ get_or args k e
 same_default [] k s d e lt is = absurd (omega (arith, lt))
 same_default (x ∷ args) zero s d e lt is = is
 same_default (x ∷ args) (suc k) s d e lt is = same_default args k s d e (omega (arith, lt)) is
 
-pub past_default : (args : List Source) (k : ℕ) (d : Source) → length args ≤ k → d ≡ get_or args k d
+pub past_default : (args : List WordSource) (k : ℕ) (d : WordSource) → length args ≤ k → d ≡ get_or args k d
 past_default [] k d le = refl
 past_default (x ∷ args) zero d le = absurd (omega (arith, le))
 past_default (x ∷ args) (suc k) d le = past_default args k d (omega (arith, le))
 
 -- an argument is there, or a constant in its place
-pub arg_fits : (n : ℕ) (args : List Source) (k : ℕ) → All (IsSource n 64) args → IsSource n 64 (get_or args k (source.Word 0))
+pub arg_fits : (n : ℕ) (args : List WordSource) (k : ℕ) → All (IsSource n 64) args → IsSource n 64 (get_or args k (source.Word 0))
 arg_fits n args k all = by_test (ltb k (length args)) refl
   where
     by_test : (b : Bool) → ltb k (length args) ≡ b → IsSource n 64 (get_or args k (source.Word 0))
     by_test true e = all k (source.Word 0) (ltb-true k (length args) e)
-    by_test false e = subst (λ (s : Source). IsSource n 64 s) (past_default args k (source.Word 0) (ltb-false k (length args) e)) (pow_pos 64)
+    by_test false e = subst (λ (s : WordSource). IsSource n 64 s) (past_default args k (source.Word 0) (ltb-false k (length args) e)) (pow_pos 64)
 
 -- ---- words
 
@@ -128,7 +128,7 @@ string_found t w a room f laid live is h =
     found_is w a (first_in_string w a (bytes_left w a)) f h
     (λ x e. let at = string_within w (bytes_left w a) a x e in (at.0, low_within t a (bytes_left w a) x laid (subst (λ (n : ℕ). IsTrue (is_live a n t)) is live) at.0 at.1))
 
--- ---- one behind the other
+-- ---- one after the other
 
 pub or_none : (x : Option Used) → or_used x None ≡ x
 or_none None = refl

@@ -7,10 +7,10 @@ use Rattle.ms_ir.specs.Instructions.{func_at, insts_at}
 use Rattle.ms_runs.specs.declared.runs.Setup.{Setup}
 use Rattle.ms_runs.specs.Control.{Frame, rest_of}
 use Rattle.ms_runs.specs.Plain.{PlainState}
-use Rattle.ms_code.specs.declared.code.Code.{Code}
-use Rattle.ms_code.specs.declared.code.Code.TheVariants as code
-use Rattle.ms_code.specs.Encodes.{Encodes}
-use Rattle.ms_code.specs.Compiled.{where_is}
+use Rattle.ms_machine_code.specs.declared.code.Code.{Code}
+use Rattle.ms_machine_code.specs.declared.code.Code.TheVariants as code
+use Rattle.ms_machine_code.specs.Encodes.{Encodes}
+use Rattle.ms_machine_code.specs.Compiled.{where_is}
 use Rattle.ms_host.specs.State.{WorldState, Beside}
 use Rattle.ms_machine_frames.specs.declared.fibers.Fiber.{Fiber}
 use Rattle.ms_machine.specs.Running.{IsRunning}

@@ -5,12 +5,12 @@ use Rattle.ms_ir.specs.declared.syntax.Ty.{Ty}
 use Rattle.ms_ir.specs.declared.syntax.Operand.{Operand}
 use Rattle.ms_ir.specs.declared.syntax.Op.{Op}
 use Rattle.ms_ir.specs.declared.syntax.Op.TheVariants as op
-use Rattle.ms_code.specs.declared.code.Stride.{Stride}
-use Rattle.ms_code.specs.declared.code.Code.{Code}
-use Rattle.ms_code.specs.declared.code.Code.TheVariants as code
-use Rattle.ms_code.specs.Words.{word_of}
-use Rattle.ms_code.specs.Reads.{is_integer}
-use Rattle.ms_shades.specs.Shades.{mask_of}
+use Rattle.ms_machine_code.specs.declared.code.Stride.{Stride}
+use Rattle.ms_machine_code.specs.declared.code.Code.{Code}
+use Rattle.ms_machine_code.specs.declared.code.Code.TheVariants as code
+use Rattle.ms_machine_code.specs.Words.{word_of}
+use Rattle.ms_machine_code.specs.Reads.{is_integer}
+use Rattle.ms_trail_masks.specs.Shades.{mask_of}
 
 -- the mask of the index of the first of some strides
 abbrev pub head_mask : (ms : List ℕ) → List Stride → ℕ

@@ -1,10 +1,10 @@
 -- The edge that a jump takes (own).
 use Rattle.std.specs.Prelude.{◌≡◌, ℕ, List}
 use Rattle.ms_runs.specs.World.{World}
-use Rattle.ms_code.specs.declared.code.Edge.{Edge}
-use Rattle.ms_code.specs.declared.code.Code.{Code}
-use Rattle.ms_code.specs.declared.code.Code.TheVariants as code
-use Rattle.ms_code.specs.Fits.{IsSource}
+use Rattle.ms_machine_code.specs.declared.code.Edge.{Edge}
+use Rattle.ms_machine_code.specs.declared.code.Code.{Code}
+use Rattle.ms_machine_code.specs.declared.code.Code.TheVariants as code
+use Rattle.ms_machine_code.specs.Fits.{IsSource}
 use Rattle.ms_machine_frames.specs.Meaning.{Jumps, doing}
 
 -- what a jump looks at is there, among n values

@@ -19,17 +19,17 @@ use Rattle.ms_runs.specs.Origins.{first_in_string, asks_string_at}
 use Rattle.ms_runs.specs.Poisoned.{Poisoned}
 use Rattle.ms_runs.specs.Masks.{word_at}
 use Rattle.ms_runs.specs.Uses as use_of
-use Rattle.ms_code.specs.declared.code.Source.{Source}
-use Rattle.ms_code.specs.declared.code.Code.{Code}
-use Rattle.ms_code.specs.declared.code.Code.TheVariants as code
-use Rattle.ms_code.specs.Words.{word_of}
-use Rattle.ms_code.specs.Fits.{IsSource}
+use Rattle.ms_machine_code.specs.declared.code.WordSource.{WordSource}
+use Rattle.ms_machine_code.specs.declared.code.Code.{Code}
+use Rattle.ms_machine_code.specs.declared.code.Code.TheVariants as code
+use Rattle.ms_machine_code.specs.Words.{word_of}
+use Rattle.ms_machine_code.specs.Fits.{IsSource}
 use Rattle.ms_host.specs.declared.shadows.PoisonedByte.{PoisonedByte}
-use Rattle.ms_moves.specs.declared.moves.Source.{Source as MoveSource}
-use Rattle.ms_moves.specs.declared.moves.Source.TheVariants.{Root, Byte}
-use Rattle.ms_moves.specs.Sources.{source_at}
-use Rattle.ms_shades.specs.Shades.{mask_of}
-use Rattle.ms_shades.specs.Results.{bare}
+use Rattle.ms_trail_moves.specs.declared.moves.Source.{Source as MoveSource}
+use Rattle.ms_trail_moves.specs.declared.moves.Source.TheVariants.{Root, Byte}
+use Rattle.ms_trail_moves.specs.Sources.{source_at}
+use Rattle.ms_trail_masks.specs.Shades.{mask_of}
+use Rattle.ms_trail_masks.specs.Results.{bare}
 use Rattle.ms_trail_uses.specs.declared.used.Used.{Used}
 use Rattle.ms_trail_uses.specs.declared.used.Used.TheVariants as read
 use Rattle.ms_trail_uses.specs.declared.used.Shape.{Shape}
@@ -175,11 +175,11 @@ divides o = None
 -- ---- words of code
 
 -- the words that sources read, with their masks
-abbrev pub seen : (fill xs ms : List ℕ) → List Source → List Poisoned
+abbrev pub seen : (fill xs ms : List ℕ) → List WordSource → List Poisoned
 seen fill xs ms args = map (λ s. bare (word_of fill xs s) (mask_of ms s)) args
 
 -- a source that is read as operand k
-abbrev pub operand_read : (ms : List ℕ) → ℕ → Source → Option Used
+abbrev pub operand_read : (ms : List ℕ) → ℕ → WordSource → Option Used
 operand_read ms k s = if eqb (mask_of ms s) 0 then None else Some (read.Operand k)
 
 -- of n arguments of `printf`, those that it prints

@@ -2,18 +2,18 @@
 ghost use Rattle.std.specs.Prelude.{◌≡◌, ◌<◌, length, get_or, drop, if◌then◌else◌, All, Some, None, option_and_then};
 ghost use Rattle.ms_ir.specs.{Instructions.{operands}, Equal.{type_eq}};
 ghost use Rattle.ms_runs.specs.World.{World as Meant};
-ghost use Rattle.ms_code.specs.Fits.{IsSource};
+ghost use Rattle.ms_machine_code.specs.Fits.{IsSource};
 ghost use Rattle.ms_host.specs.{State.{Beside}, Shows.{Shows}};
-ghost use Rattle.ms_shades.specs.Views.{IsView};
+ghost use Rattle.ms_trail_masks.specs.Views.{IsView};
 ghost use Rattle.ms_trail_uses.specs.Used.{seen, asked_read, strings_read, printed_read, arguments_read, divides, code_read, IsUsing, operand_read};
 
 use crate::used::{Used, arg_number, first_argument, line, or_else, printed_word, shape_of};
 use ms_bits::BinOp;
-use ms_code::{Code, Source};
 use ms_host::World;
 use ms_ir::{External, Op, Operand, Ty};
+use ms_machine_code::{Code, WordSource};
 use ms_printf::asks_string;
-use ms_shades::{View, mask_of};
+use ms_trail_masks::{View, mask_of};
 
 /// The operand with a place.
 pub fn typed_at(typed: &[(Ty, Operand)], k: usize) -> &(Ty, Operand)
@@ -31,7 +31,7 @@ fn is_pointer(typed: &(Ty, Operand)) -> bool
 }
 
 /// A use of the string at an argument, where the format asks for one.
-fn asked_at(view: &View<'_>, world: &World, args: &[Source], k: usize) -> Option<Used>
+fn asked_at(view: &View<'_>, world: &World, args: &[WordSource], k: usize) -> Option<Used>
     requires view { IsView view.now }
     requires args { All (IsSource (length view.now.values.now) 64) args.now }
     ensures { (beside : Beside) (meant : Meant) → Shows world.now beside meant → result ≡ asked_read meant (seen view.now.fill.now view.now.values.now view.now.masks.now args.now) k }
@@ -49,7 +49,7 @@ fn asked_at(view: &View<'_>, world: &World, args: &[Source], k: usize) -> Option
 fn asked(
     view: &View<'_>,
     world: &World,
-    args: &[Source],
+    args: &[WordSource],
     typed: &(Ty, Operand),
     k: usize,
 ) -> Option<Used>
@@ -69,7 +69,7 @@ fn asked(
 fn printed_byte(
     view: &View<'_>,
     world: &World,
-    args: &[Source],
+    args: &[WordSource],
     typed: &[(Ty, Operand)],
 ) -> Option<Used>
     requires view { IsView view.now }
@@ -86,7 +86,7 @@ fn printed_byte(
 }
 
 /// A use of what `printf` prints.
-fn printed(view: &View<'_>, world: &World, args: &[Source], op: &Op) -> Option<Used>
+fn printed(view: &View<'_>, world: &World, args: &[WordSource], op: &Op) -> Option<Used>
     requires view { IsView view.now }
     requires args { All (IsSource (length view.now.values.now) 64) args.now }
     ensures { (beside : Beside) (meant : Meant) → Shows world.now beside meant → result ≡ printed_read meant (seen view.now.fill.now view.now.values.now view.now.masks.now args.now) (length args.now) op.now }
@@ -106,7 +106,7 @@ fn arguments(
     view: &View<'_>,
     world: &World,
     external: External,
-    args: &[Source],
+    args: &[WordSource],
     op: &Op,
 ) -> Option<Used>
     requires view { IsView view.now }
@@ -124,7 +124,7 @@ fn arguments(
 }
 
 /// A use of an operand as a word, by its place.
-fn operand(view: &View<'_>, source: Source, k: usize) -> Option<Used>
+fn operand(view: &View<'_>, source: WordSource, k: usize) -> Option<Used>
     requires view { IsView view.now }
     requires source { IsSource (length view.now.values.now) 64 source }
     ensures { result ≡ operand_read view.now.masks.now k source }
@@ -148,7 +148,7 @@ fn divisor(op: BinOp) -> Option<usize>
 }
 
 /// A use of a divisor.
-fn divided(view: &View<'_>, op: BinOp, source: Source) -> Option<Used>
+fn divided(view: &View<'_>, op: BinOp, source: WordSource) -> Option<Used>
     requires view { IsView view.now }
     requires source { IsSource (length view.now.values.now) 64 source }
     ensures { result ≡ option_and_then (λ k. operand_read view.now.masks.now k source) (divides op) }

@@ -1,12 +1,12 @@
 //! The edge that a jump takes.
 ghost use Rattle.std.specs.Prelude.{length, MatchOption};
 ghost use Rattle.ms_machine_frames.specs.Meaning.{IsJump};
-ghost use Rattle.ms_shades.specs.Views.{IsView};
+ghost use Rattle.ms_trail_masks.specs.Views.{IsView};
 ghost use Rattle.ms_trail_uses.specs.Taken.{HasCondition, IsTaken};
 
-use ms_code::{Code, Edge};
+use ms_machine_code::{Code, Edge};
 use ms_machine_frames::edge_by;
-use ms_shades::{View, value_of};
+use ms_trail_masks::{View, value_of};
 
 /// The edge that an instruction takes, if it is a jump.
 pub fn taken<'a>(view: &View<'_>, code: &'a Code) -> Option<&'a Edge>

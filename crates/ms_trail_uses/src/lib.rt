@@ -3,9 +3,9 @@
 
 pub mod checked;
 pub mod edges;
+pub mod frame_masks;
 pub mod loads;
 pub mod places;
-pub mod shades;
 pub mod steps;
 pub mod tables;
 pub mod used;

@@ -3,12 +3,12 @@ ghost use Rattle.std.specs.Prelude.{◌≡◌, ◌≢◌, ◌≤◌, true, bit_a
 ghost use Rattle.ms_bits.specs.Maps.{first_nonzero, number_at};
 ghost use Rattle.ms_runs.specs.{World.{World as Meant}, Memory.{is_good}};
 ghost use Rattle.ms_host.specs.{State.{Beside}, Shows.{Shows}};
-ghost use Rattle.ms_moves.specs.Sources.{byte_source};
+ghost use Rattle.ms_trail_moves.specs.Sources.{byte_source};
 ghost use Rattle.ms_trail_uses.specs.Used.{byte_used};
 
 use crate::used::{Used, range};
 use ms_host::World;
-use ms_moves::moves::Source;
+use ms_trail_moves::moves::Source;
 
 /// The mask of `size` good bytes that are loaded as a number, of which the bits of `cut` are kept.
 pub fn loaded_mask(world: &World, addr: u64, size: u8, cut: u64) -> u64

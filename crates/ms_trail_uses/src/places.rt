@@ -1,17 +1,17 @@
 //! Which operand the poisoned bits of a result come from.
 ghost use Rattle.std.specs.Prelude.{◌≡◌, ◌≤◌, ◌<◌, ◌+◌, ◌^◌, length, drop, get_or, eqb, if◌then◌else◌, All};
 ghost use Rattle.ms_bits.specs.Conversions.{select_of};
-ghost use Rattle.ms_code.specs.{Words.{word_of}, Fits.{IsSource, IsStride}, Reads.{is_integer as is_integer_operand}};
-ghost use Rattle.ms_shades.specs.{Shades.{mask_of as mask_read}, Views.{IsView}, Results.{IsComputed}};
+ghost use Rattle.ms_machine_code.specs.{Words.{word_of}, Fits.{IsSource, IsStride}, Reads.{is_integer as is_integer_operand}};
+ghost use Rattle.ms_trail_masks.specs.{Shades.{mask_of as mask_read}, Views.{IsView}, Results.{IsComputed}};
 ghost use Rattle.ms_trail_uses.specs.Origins.{head_mask, last_masked, last_stride, index_read, place_read};
 
 use crate::checked::typed_at;
-use ms_code::{Code, Source, Stride};
 use ms_ir::{Op, Operand, Ty};
-use ms_shades::{View, mask_of, value_of};
+use ms_machine_code::{Code, Stride, WordSource};
+use ms_trail_masks::{View, mask_of, value_of};
 
 /// The place of the last of two operands whose mask isn't 0; 0 where there is none.
-fn last_of_two(view: &View<'_>, second: Source) -> usize
+fn last_of_two(view: &View<'_>, second: WordSource) -> usize
     requires view { IsView view.now }
     requires source { IsSource (length view.now.values.now) 64 second }
     ensures { result ≡ (if eqb (mask_read view.now.masks.now second) 0 then 0 else 1) }
@@ -29,7 +29,7 @@ fn chosen(word: u64, first: usize, second: usize) -> usize
 }
 
 /// The place of the operand that a selection takes its origin from.
-fn selected(view: &View<'_>, cond: Source) -> usize
+fn selected(view: &View<'_>, cond: WordSource) -> usize
     requires view { IsView view.now }
     requires source { IsSource (length view.now.values.now) 64 cond }
     ensures { result ≡ select_of (mask_read view.now.masks.now cond) 0 (select_of (word_of view.now.fill.now view.now.values.now cond) 1 2) }
@@ -81,7 +81,7 @@ fn better(integer: bool, mask: u64, best: usize, k: usize) -> usize
 }
 
 /// The number of the next stride after an operand.
-fn behind(integer: bool, next: usize) -> usize
+fn place_after(integer: bool, next: usize) -> usize
     requires { next + 1 < 2 ^ 64 }
     ensures is { result ≡ (if integer then next else next + 1) }
     ensures near { result ≤ next + 1 }
@@ -101,12 +101,12 @@ fn last_index(view: &View<'_>, typed: &[(Ty, Operand)], strides: &[Stride]) -> u
         let integer = is_integer(typed_at(typed, k));
         let mask = index_mask(view, strides, next);
         best = better(integer, mask, best, k + 1);
-        next = behind(integer, next);
+        next = place_after(integer, next);
     }
     best
 }
 
-/// The same of an operation.
+/// `last_index` of an operation; 0 where it is no `getelementptr`.
 fn index_place(view: &View<'_>, op: &Op, strides: &[Stride]) -> usize
     requires view { IsView view.now }
     requires strides { All (IsStride (length view.now.values.now)) strides.now }

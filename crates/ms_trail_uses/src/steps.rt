@@ -20,8 +20,8 @@ fn is_spent(pause: &Pause) -> bool
     matches!(pause, Pause::Spent)
 }
 
-/// Has the machine take one step, in a module without marked instructions, from an instruction that asks for no call.
-/// Returns whether the run goes on. The one error is running out of memory.
+/// Has the machine take one step, in a module without marked instructions, from an instruction that asks for no call. Returns
+/// whether the run goes on.
 pub fn step(
     alloc: Global,
     m: &CheckedModule,

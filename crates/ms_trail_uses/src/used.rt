@@ -1,15 +1,15 @@
 //! Uses that are checked, in the order in which they are.
 ghost use Rattle.std.specs.Prelude.{◌≡◌, ◌-◌, length, get_or, All};
 ghost use Rattle.ms_runs.specs.{World.{World as Meant}, Masks.{word_at}};
-ghost use Rattle.ms_code.specs.Fits.{IsSource};
+ghost use Rattle.ms_machine_code.specs.Fits.{IsSource};
 ghost use Rattle.ms_host.specs.{State.{Beside}, Shows.{Shows}};
-ghost use Rattle.ms_shades.specs.Views.{IsView};
+ghost use Rattle.ms_trail_masks.specs.Views.{IsView};
 ghost use Rattle.ms_trail_uses.specs.Used.{seen, found_used, word_read, range_read, bytes_read, string_read, line_read, or_used, shape_of as shape_of_external, two_read, three_read, plain_read, memory_read, shape_read, words_read};
 
-use ms_code::Source;
 use ms_host::{PoisonedByte, World};
 use ms_ir::External;
-use ms_shades::{View, mask_of, value_of};
+use ms_machine_code::WordSource;
+use ms_trail_masks::{View, mask_of, value_of};
 
 /// What a use that is reported reads.
 #[derive(Clone, Copy, Debug, PartialEq, Eq)]
@@ -77,18 +77,18 @@ pub fn shape_of(external: External) -> Shape
 
 /// The argument with a place; the word 0 where it is missing.
 #[tactic(auto, using(crate::proofs::Uses::same_default, crate::proofs::Uses::past_default))]
-fn arg(args: &[Source], k: usize) -> Source
-    ensures { result ≡ get_or args.now k (Source.Word 0) }
+fn arg(args: &[WordSource], k: usize) -> WordSource
+    ensures { result ≡ get_or args.now k (WordSource.Word 0) }
 {
     if k < args.len() {
         args[k]
     } else {
-        Source::Word(0)
+        WordSource::Word(0)
     }
 }
 
 /// A use of an argument as a word.
-fn word(view: &View<'_>, args: &[Source], k: usize) -> Option<Used>
+fn word(view: &View<'_>, args: &[WordSource], k: usize) -> Option<Used>
     requires view { IsView view.now }
     requires args { All (IsSource (length view.now.values.now) 64) args.now }
     ensures { result ≡ word_read (seen view.now.fill.now view.now.values.now view.now.masks.now args.now) k }
@@ -103,7 +103,7 @@ fn word(view: &View<'_>, args: &[Source], k: usize) -> Option<Used>
 }
 
 /// The number that an argument is.
-pub fn arg_number(view: &View<'_>, args: &[Source], k: usize) -> u64
+pub fn arg_number(view: &View<'_>, args: &[WordSource], k: usize) -> u64
     requires view { IsView view.now }
     requires args { All (IsSource (length view.now.values.now) 64) args.now }
     ensures { result ≡ (word_at k (seen view.now.fill.now view.now.values.now view.now.masks.now args.now)).value }
@@ -126,7 +126,7 @@ fn byte_found(start: u64, found: Option<PoisonedByte>) -> Option<Used>
 pub fn range(world: &World, addr: u64, n: u64) -> Option<Used>
     ensures { (beside : Beside) (meant : Meant) → Shows world.now beside meant → result ≡ range_read meant addr n }
 {
-    world.is_laid_out();
+    world.law_laid_out();
     let good = world.covers(addr, n);
     if good {
         let found = world.first_poisoned(addr, n);
@@ -140,14 +140,20 @@ pub fn range(world: &World, addr: u64, n: u64) -> Option<Used>
 fn text(world: &World, addr: u64) -> Option<Used>
     ensures { (beside : Beside) (meant : Meant) → Shows world.now beside meant → result ≡ string_read meant addr }
 {
-    world.is_laid_out();
+    world.law_laid_out();
     world.bytes_left(addr);
     let found = world.first_poisoned_in_string(addr);
     byte_found(addr, found)
 }
 
 /// A use of as many bytes as an argument says, at another one.
-fn bytes(view: &View<'_>, world: &World, args: &[Source], at: usize, size: usize) -> Option<Used>
+fn bytes(
+    view: &View<'_>,
+    world: &World,
+    args: &[WordSource],
+    at: usize,
+    size: usize,
+) -> Option<Used>
     requires view { IsView view.now }
     requires args { All (IsSource (length view.now.values.now) 64) args.now }
     ensures { (beside : Beside) (meant : Meant) → Shows world.now beside meant → result ≡ bytes_read meant (seen view.now.fill.now view.now.values.now view.now.masks.now args.now) at size }
@@ -158,7 +164,7 @@ fn bytes(view: &View<'_>, world: &World, args: &[Source], at: usize, size: usize
 }
 
 /// A use of the string at an argument.
-pub fn line(view: &View<'_>, world: &World, args: &[Source], at: usize) -> Option<Used>
+pub fn line(view: &View<'_>, world: &World, args: &[WordSource], at: usize) -> Option<Used>
     requires view { IsView view.now }
     requires args { All (IsSource (length view.now.values.now) 64) args.now }
     ensures { (beside : Beside) (meant : Meant) → Shows world.now beside meant → result ≡ line_read meant (seen view.now.fill.now view.now.values.now view.now.masks.now args.now) at }
@@ -178,7 +184,7 @@ pub fn or_else(first: Option<Used>, second: Option<Used>) -> Option<Used>
 }
 
 /// A use of the first two arguments.
-fn two(view: &View<'_>, args: &[Source]) -> Option<Used>
+fn two(view: &View<'_>, args: &[WordSource]) -> Option<Used>
     requires view { IsView view.now }
     requires args { All (IsSource (length view.now.values.now) 64) args.now }
     ensures { result ≡ two_read (seen view.now.fill.now view.now.values.now view.now.masks.now args.now) }
@@ -189,7 +195,7 @@ fn two(view: &View<'_>, args: &[Source]) -> Option<Used>
 }
 
 /// A use of the first three arguments.
-fn three(view: &View<'_>, args: &[Source]) -> Option<Used>
+fn three(view: &View<'_>, args: &[WordSource]) -> Option<Used>
     requires view { IsView view.now }
     requires args { All (IsSource (length view.now.values.now) 64) args.now }
     ensures { result ≡ three_read (seen view.now.fill.now view.now.values.now view.now.masks.now args.now) }
@@ -200,7 +206,7 @@ fn three(view: &View<'_>, args: &[Source]) -> Option<Used>
 }
 
 /// A use of words alone.
-fn words(view: &View<'_>, args: &[Source], shape: Shape) -> Option<Used>
+fn words(view: &View<'_>, args: &[WordSource], shape: Shape) -> Option<Used>
     requires view { IsView view.now }
     requires args { All (IsSource (length view.now.values.now) 64) args.now }
     ensures { result ≡ plain_read (seen view.now.fill.now view.now.values.now view.now.masks.now args.now) shape }
@@ -225,7 +231,7 @@ fn words(view: &View<'_>, args: &[Source], shape: Shape) -> Option<Used>
 }
 
 /// A use of memory.
-fn memory(view: &View<'_>, world: &World, args: &[Source], shape: Shape) -> Option<Used>
+fn memory(view: &View<'_>, world: &World, args: &[WordSource], shape: Shape) -> Option<Used>
     requires view { IsView view.now }
     requires args { All (IsSource (length view.now.values.now) 64) args.now }
     ensures { (beside : Beside) (meant : Meant) → Shows world.now beside meant → result ≡ memory_read meant (seen view.now.fill.now view.now.values.now view.now.masks.now args.now) shape }
@@ -243,7 +249,12 @@ fn memory(view: &View<'_>, world: &World, args: &[Source], shape: Shape) -> Opti
 }
 
 /// The first use of a call of an external that is poisoned; of `printf`, of its format.
-pub fn first_argument(view: &View<'_>, world: &World, args: &[Source], shape: Shape) -> Option<Used>
+pub fn first_argument(
+    view: &View<'_>,
+    world: &World,
+    args: &[WordSource],
+    shape: Shape,
+) -> Option<Used>
     requires view { IsView view.now }
     requires args { All (IsSource (length view.now.values.now) 64) args.now }
     ensures { (beside : Beside) (meant : Meant) → Shows world.now beside meant → result ≡ shape_read meant (seen view.now.fill.now view.now.values.now view.now.masks.now args.now) shape }
@@ -254,7 +265,7 @@ pub fn first_argument(view: &View<'_>, world: &World, args: &[Source], shape: Sh
 }
 
 /// The first argument of `printf` after its format whose word is poisoned.
-pub fn printed_word(view: &View<'_>, args: &[Source]) -> Option<Used>
+pub fn printed_word(view: &View<'_>, args: &[WordSource]) -> Option<Used>
     requires view { IsView view.now }
     requires args { All (IsSource (length view.now.values.now) 64) args.now }
     ensures { result ≡ words_read (seen view.now.fill.now view.now.values.now view.now.masks.now args.now) 1 (length args.now - 1) }

@@ -1,4 +1,4 @@
--- What `clap` finds in the words of a corpus, which has any number of files: the walk over the words behind `--`.
+-- What `clap` finds in the words of a corpus, which has any number of files: the walk over the words after `--`.
 use Rattle.std.proofs.Common.{◌≡◌, ◌∙◌, ◌++◌, ◌≤◌, ◌&&◌, Bool, true, List, [], ◌∷◌, Some, None, refl, sym, ap, ap₂, append_assoc, append-nil, codes, length, arith}
 use Rattle.std.specs.Prelude.{Option, is_some, nat_le, unwrap_or}
 use Rattle.std.specs.List.{fold, list_all}
@@ -22,11 +22,11 @@ app = built (app_for Corpus)
 abbrev rules : List Rule
 rules = app.top.rules
 
--- ---- behind the first file
+-- ---- after the first file
 
--- where the walk stands behind some files
-abbrev behind : List Row → List Word → Walk
-behind rows files = record {
+-- where the walk stands after some files
+abbrev after : List Row → List Word → Walk
+after rows files = record {
   held = record { rows = rows; pending = Some (codes "files", files); skip = 0 };
   waiting = positional;
   position = 1;
@@ -34,26 +34,26 @@ behind rows files = record {
   stopped = None;
 }
 
-one_more : (rows : List Row) (files : List Word) (file : Word) → walked rules [] (behind rows files) file ≡ behind rows (files ++ file ∷ [])
+one_more : (rows : List Row) (files : List Word) (file : Word) → walked rules [] (after rows files) file ≡ after rows (files ++ file ∷ [])
 unfolding clap_on_literals
 one_more rows files file = refl
 
-all_files : (rows : List Row) (files more : List Word) → fold (walked rules []) (behind rows files) more ≡ behind rows (files ++ more)
-all_files rows files [] = ap (behind rows) (sym (append-nil files))
+all_files : (rows : List Row) (files more : List Word) → fold (walked rules []) (after rows files) more ≡ after rows (files ++ more)
+all_files rows files [] = ap (after rows) (sym (append-nil files))
 all_files rows files (file ∷ more) =
     ap (λ w. fold (walked rules []) w more) (one_more rows files file) ∙ all_files rows (files ++ file ∷ []) more
-    ∙ ap (behind rows) (append_assoc files (file ∷ []) more)
+    ∙ ap (after rows) (append_assoc files (file ∷ []) more)
 
 one_passes : (rows : List Row) (files : List Word) (file : Word) (more : List Word)
-    → walk_passes app.top [] (behind rows files) (file ∷ more) ≡ walk_passes app.top [] (walked rules [] (behind rows files) file) more
+    → walk_passes app.top [] (after rows files) (file ∷ more) ≡ walk_passes app.top [] (walked rules [] (after rows files) file) more
 unfolding clap_on_literals
 one_passes rows files file more = refl
 
-none_left : (rows : List Row) (files : List Word) → walk_passes app.top [] (behind rows files) [] ≡ true
+none_left : (rows : List Row) (files : List Word) → walk_passes app.top [] (after rows files) [] ≡ true
 unfolding clap_on_literals
 none_left rows files = refl
 
-all_pass : (rows : List Row) (files more : List Word) → walk_passes app.top [] (behind rows files) more ≡ true
+all_pass : (rows : List Row) (files more : List Word) → walk_passes app.top [] (after rows files) more ≡ true
 all_pass rows files [] = none_left rows files
 all_pass rows files (file ∷ more) =
     one_passes rows files file more ∙ ap (λ w. walk_passes app.top [] w more) (one_more rows files file) ∙ all_pass rows (files ++ file ∷ []) more
@@ -68,7 +68,7 @@ abbrev settled_by : Bool → Bool → Bool → Bool
 settled_by some few pass = some && (few && pass)
 
 settles : (rows : List Row) (file : Word) (rest : List Word) → length rest ≤ 256
-    → settle_passes rules app.top.args_override_self (behind rows (file ∷ rest)).held ≡ true
+    → settle_passes rules app.top.args_override_self (after rows (file ∷ rest)).held ≡ true
 unfolding clap_on_literals
 settles rows file rest few =
     let some : nat_le 1 (length (file ∷ rest)) ≡ true = le-leb 1 (length (file ∷ rest)) (omega arith) in
@@ -89,9 +89,9 @@ corpus_form workers fill steps reports locations files = codes "corpus" ∷ (opt
 abbrev option_rows : (b c d e : Word) → Option Word → List Row
 option_rows b c d e w = (walk rules [] nothing_held (option_words b c d e w)).held.rows
 
--- where the walk stands behind the words of a corpus
+-- where the walk stands after the words of a corpus
 abbrev at_end : (b c d e : Word) → Option Word → (file : Word) → List Word → Walk
-at_end b c d e w file rest = behind (option_rows b c d e w) (file ∷ rest)
+at_end b c d e w file rest = after (option_rows b c d e w) (file ∷ rest)
 
 rows_at_end : (b c d e : Word) (w : Option Word) (file : Word) (rest : List Word)
     → matches_of (app_for Corpus) (corpus_form b c d e w (file ∷ rest)) ≡ finished rules (at_end b c d e w file rest).held

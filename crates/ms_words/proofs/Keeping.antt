@@ -15,7 +15,7 @@ use Rattle.ms_words.specs.declared.commands.WordsError.{WordsError}
 use Rattle.ms_words.specs.declared.commands.WordsError.TheVariants as e
 use Rattle.ms_words.specs.Table.{Word, takes, wanted_of, least_files, most_files}
 use Rattle.ms_words.specs.Values.{value_fault, is_hex, is_number, number}
-use Rattle.ms_words.specs.Reading.{Given, Outcome, is_given, nothing, same, with_option, with_file, with_value_if, read_value, begin_option, read_option, read_file, read_plain, read_word, read_end, and_then, read_words_from, option_in, behind_dash, takes_nothing}
+use Rattle.ms_words.specs.Reading.{Given, Outcome, is_given, nothing, same, with_option, with_file, with_value_if, read_value, begin_option, read_option, read_file, read_plain, read_word, read_end, and_then, read_words_from, option_in, after_dash, takes_nothing}
 use Rattle.ms_words.specs.Accepted.{Whole}
 
 -- what holds of all that the words so far give: nothing is wrong with the values, and there are no more files than a command may have
@@ -99,11 +99,11 @@ module _ (c : CommandName) where
   kept_plain : (rest : Option Word) (place : ℕ) (word : Word) (g : Given) → Kept c g → Keeps (read_plain c rest place word g)
   kept_plain None place word g kept = kept_file place word g kept
   kept_plain (Some []) place word g kept = kept_file place word g kept
-  kept_plain (Some (b ∷ rest)) place word g kept = kept_option (option_in c (behind_dash (b ∷ rest))) place g kept
+  kept_plain (Some (b ∷ rest)) place word g kept = kept_option (option_in c (after_dash (b ∷ rest))) place g kept
 
-  kept_dashes : (b : Bool) (place : ℕ) (word : Word) (g : Given) → Kept c g → Keeps (if b then Ok (AFile, g) else read_plain c (behind_dash word) place word g)
+  kept_dashes : (b : Bool) (place : ℕ) (word : Word) (g : Given) → Kept c g → Keeps (if b then Ok (AFile, g) else read_plain c (after_dash word) place word g)
   kept_dashes true place word g kept = kept
-  kept_dashes false place word g kept = kept_plain (behind_dash word) place word g kept
+  kept_dashes false place word g kept = kept_plain (after_dash word) place word g kept
 
   kept_word : (next : Next) (place : ℕ) (word : Word) (g : Given) → Kept c g → Keeps (read_word c next place word g)
   kept_word AnOption place word g kept = kept_dashes (same word (codes "--")) place word g kept

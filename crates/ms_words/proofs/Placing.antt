@@ -16,7 +16,7 @@ use Rattle.ms_words.specs.declared.commands.WordsError.{WordsError}
 use Rattle.ms_words.specs.declared.commands.WordsError.TheVariants as e
 use Rattle.ms_words.specs.Table.{Word, takes, option_word, options_of, most_files}
 use Rattle.ms_words.specs.Values.{value_fault}
-use Rattle.ms_words.specs.Reading.{Given, Outcome, nothing, is_given, option_eq, same, with_option, with_file, with_value_if, begin_option, read_option, read_file, read_plain, read_word, option_in, read_words_from, and_then, name_and_value, behind_dash, takes_nothing}
+use Rattle.ms_words.specs.Reading.{Given, Outcome, nothing, is_given, option_eq, same, with_option, with_file, with_value_if, begin_option, read_option, read_file, read_plain, read_word, option_in, read_words_from, and_then, name_and_value, after_dash, takes_nothing}
 
 -- ---- counts
 
@@ -170,11 +170,11 @@ module _ (c : CommandName) where
   uses_plain : (rest : Option Word) (place : ℕ) (word : Word) (g : Given) → Uses (weight c AnOption g) (read_plain c rest place word g)
   uses_plain None place word g = uses_file (weight c AnOption g) place word g (omega arith)
   uses_plain (Some []) place word g = uses_file (weight c AnOption g) place word g (omega arith)
-  uses_plain (Some (b ∷ rest)) place word g = uses_option (behind_dash (b ∷ rest)) place g
+  uses_plain (Some (b ∷ rest)) place word g = uses_option (after_dash (b ∷ rest)) place g
 
-  uses_dashes : (b : Bool) (place : ℕ) (word : Word) (g : Given) → Uses (weight c AnOption g) (if b then Ok (AFile, g) else read_plain c (behind_dash word) place word g)
+  uses_dashes : (b : Bool) (place : ℕ) (word : Word) (g : Given) → Uses (weight c AnOption g) (if b then Ok (AFile, g) else read_plain c (after_dash word) place word g)
   uses_dashes true place word g = omega arith
-  uses_dashes false place word g = uses_plain (behind_dash word) place word g
+  uses_dashes false place word g = uses_plain (after_dash word) place word g
 
   -- a word uses something up
   pub uses_word : (next : Next) (place : ℕ) (word : Word) (g : Given) → Uses (weight c next g) (read_word c next place word g)
@@ -203,7 +203,7 @@ first_place Explain = let w : weight Explain AnOption nothing ≡ 10 = refl in o
 first_place Corpus = let w : weight Corpus AnOption nothing ≡ 268 = refl in omega (arith, w)
 first_place Gen = let w : weight Gen AnOption nothing ≡ 7 = refl in omega (arith, w)
 
--- the words behind one that is read
+-- the words after one that is read
 pub words_passed : (c : CommandName) (next after : Next) (place : ℕ) (words : List Word) (i : ℕ) (word : Word) (g h : Given) (whole : Result Given WordsError)
     → i < length words → word ≡ slice_index_or words i word → read_word c next place word g ≡ Ok (after, h)
     → read_words_from c next place g (drop i words) ≡ whole → read_words_from c after (place + 1) h (drop (i + 1) words) ≡ whole

@@ -8,32 +8,32 @@ use Rattle.ms_words.specs.declared.names.CommandName.{CommandName}
 use Rattle.ms_words.specs.declared.names.OptionName.{OptionName}
 use Rattle.ms_words.specs.declared.commands.WordsError.TheVariants.{UnknownOption}
 use Rattle.ms_words.specs.Table.{Word, option_word, takes, options_of}
-use Rattle.ms_words.specs.Reading.{Given, behind_dash, name_and_value, same, takes_nothing, known_option, read_plain, read_option, read_file, option_in}
+use Rattle.ms_words.specs.Reading.{Given, after_dash, name_and_value, same, takes_nothing, known_option, read_plain, read_option, read_file, option_in}
 
 -- ---- dashes
 
-no_dash : (word : Word) → ((rest : Word) → word ≢ 45 ∷ rest) → behind_dash word ≡ None
+no_dash : (word : Word) → ((rest : Word) → word ≢ 45 ∷ rest) → after_dash word ≡ None
 no_dash [] none = refl
 no_dash (b ∷ rest) none = go (cases_Bool (b == 45))
   where
-    go : (b == 45 ≡ true) ⊎ (b == 45 ≡ false) → behind_dash (b ∷ rest) ≡ None
+    go : (b == 45 ≡ true) ⊎ (b == 45 ≡ false) → after_dash (b ∷ rest) ≡ None
     go (inl e) = absurd (none rest (ap (λ x. x ∷ rest) (eqb-true b 45 e)))
     go (inr e) = rw e refl
 
 pub plain_file : (c : CommandName) (place : ℕ) (word : Word) (g : Given) → ((rest : Word) → word ≢ 45 ∷ rest)
-    → read_plain c (behind_dash word) place word g ≡ read_file c place word g
+    → read_plain c (after_dash word) place word g ≡ read_file c place word g
 plain_file c place word g none = ap (λ rest. read_plain c rest place word g) (no_dash word none)
 
 pub plain_unknown : (c : CommandName) (place : ℕ) (word rest : Word) (g : Given) → word ≡ 45 ∷ rest → rest ≢ [] → ((text : Word) → rest ≢ 45 ∷ text)
-    → read_plain c (behind_dash word) place word g ≡ Err (UnknownOption place)
+    → read_plain c (after_dash word) place word g ≡ Err (UnknownOption place)
 plain_unknown c place word [] g is some none = absurd (some refl)
 plain_unknown c place word (b ∷ rest) g is some none =
-    ap (λ w. read_plain c (behind_dash w) place word g) is ∙ ap (λ text. read_option (option_in c text) place g) (no_dash (b ∷ rest) none)
+    ap (λ w. read_plain c (after_dash w) place word g) is ∙ ap (λ text. read_option (option_in c text) place g) (no_dash (b ∷ rest) none)
 
 pub plain_option : (c : CommandName) (place : ℕ) (word rest text : Word) (g : Given) → word ≡ 45 ∷ rest → rest ≡ 45 ∷ text
-    → read_plain c (behind_dash word) place word g ≡ read_option (known_option c (name_and_value text)) place g
+    → read_plain c (after_dash word) place word g ≡ read_option (known_option c (name_and_value text)) place g
 plain_option c place word rest text g is more =
-    ap (λ w. read_plain c (behind_dash w) place word g) (is ∙ ap (λ r. 45 ∷ r) more)
+    ap (λ w. read_plain c (after_dash w) place word g) (is ∙ ap (λ r. 45 ∷ r) more)
 
 -- ---- the first `=`
 

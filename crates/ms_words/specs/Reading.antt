@@ -38,9 +38,9 @@ Answers expected (Err e) g = (e ≡ NoMemory) ⊎ (expected ≡ Err e)
 -- ---- options
 
 -- what stands after a first dash, 45
-abbrev pub behind_dash : Word → Option Word
-behind_dash [] = None
-behind_dash (b ∷ rest) = if b == 45 then Some rest else None
+abbrev pub after_dash : Word → Option Word
+after_dash [] = None
+after_dash (b ∷ rest) = if b == 45 then Some rest else None
 
 -- what stands before the first `=`, 61, and after it where there is one
 abbrev pub name_and_value : Word → Word × Option Word
@@ -106,11 +106,11 @@ read_file c place word g =
 abbrev pub read_plain : CommandName → Option Word → ℕ → Word → Given → Outcome
 read_plain c None place word g = read_file c place word g
 read_plain c (Some []) place word g = read_file c place word g
-read_plain c (Some (b ∷ rest)) place word g = read_option (option_in c (behind_dash (b ∷ rest))) place g
+read_plain c (Some (b ∷ rest)) place word g = read_option (option_in c (after_dash (b ∷ rest))) place g
 
 -- one word, at its place
 abbrev pub read_word : CommandName → Next → ℕ → Word → Given → Outcome
-read_word c AnOption place word g = if same word (codes "--") then Ok (AFile, g) else read_plain c (behind_dash word) place word g
+read_word c AnOption place word g = if same word (codes "--") then Ok (AFile, g) else read_plain c (after_dash word) place word g
 read_word c (AValue o) place word g = read_value o place word g
 read_word c AFile place word g = read_file c place word g
 

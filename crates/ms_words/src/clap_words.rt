@@ -122,7 +122,7 @@ pub fn spell(
     Ok(words)
 }
 
-/// What `clap` finds in words that the command takes: it fails only where it runs out of memory.
+/// What `clap` finds in words that the command takes.
 pub fn matches<'a>(
     alloc: Global,
     command: CommandName,

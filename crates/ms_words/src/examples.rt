@@ -98,8 +98,8 @@ pub fn end_of_options()
     ensures empty_file { command_of (codes "run" ∷ [] ∷ []) ≡ Ok (Run ([]) defaults) }
     ensures dashes_twice { command_of (codes "run" ∷ codes "--" ∷ codes "--" ∷ []) ≡ Ok (Run (codes "--") defaults) }
     ensures dashes_alone { command_of (codes "run" ∷ codes "--" ∷ []) ≡ Err (MissingFile 2) }
-    ensures option_behind_file { command_of (codes "run" ∷ codes "f" ∷ codes "--steps=5" ∷ []) ≡ Err (Extra 2) }
-    ensures dashes_behind_file { command_of (codes "run" ∷ codes "f" ∷ codes "--" ∷ []) ≡ Err (Extra 2) }
+    ensures option_after_file { command_of (codes "run" ∷ codes "f" ∷ codes "--steps=5" ∷ []) ≡ Err (Extra 2) }
+    ensures dashes_after_file { command_of (codes "run" ∷ codes "f" ∷ codes "--" ∷ []) ≡ Err (Extra 2) }
     ensures file_of_gen { command_of (codes "gen" ∷ codes "--seed=1" ∷ codes "f" ∷ []) ≡ Err (Extra 2) }
 {}
 

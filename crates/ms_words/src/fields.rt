@@ -24,7 +24,7 @@ fn number_in(found: &ArgMatches, option: OptionName) -> u64
     }
 }
 
-/// The same of an option that takes at most 1000.
+/// The number that an option was found with that takes at most 1000.
 fn small_number_in(found: &ArgMatches, option: OptionName) -> u32
     requires { IsNumber 1000 (first_value (found_of found.now) (option_word option)) }
     ensures { result ≡ number_by (first_value (found_of found.now) (option_word option)) }
@@ -82,7 +82,7 @@ fn file_in(alloc: Global, found: &ArgMatches) -> Result<Text, NoMemory>
 }
 
 /// Equal texts of the words after the first one.
-fn texts_behind_first(alloc: Global, words: &[&str]) -> Result<List<Text>, NoMemory>
+fn texts_after_first(alloc: Global, words: &[&str]) -> Result<List<Text>, NoMemory>
     ensures { IfOk result (λ ts. ts ≡ drop 1 (map (λ w. w.now) words.now)) }
 {
     match words {
@@ -96,7 +96,7 @@ fn inputs_in(alloc: Global, found: &ArgMatches) -> Result<List<Text>, NoMemory>
     ensures { IfOk result (λ ts. ts ≡ found_inputs (found_of found.now)) }
 {
     match found.get_strs("files") {
-        Some(files) => texts_behind_first(alloc, files),
+        Some(files) => texts_after_first(alloc, files),
         None => Ok(List::from_vec(Vec::new(alloc))),
     }
 }

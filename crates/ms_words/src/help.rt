@@ -386,10 +386,6 @@ fn push_statuses_text(text: &mut Vec<u8>) -> Result<(), NoMemory>
 
 /// The usage: each command with what it does and its options, each option with its bounds and its default, and the
 /// statuses.
-///
-/// # Errors
-///
-/// `NoMemory`, where it runs out of memory.
 #[tactic(auto, unfolding(crate::specs::Usage::usage))]
 pub fn usage(alloc: Global) -> Result<Vec<u8>, NoMemory>
     ensures { IfOk result (λ text. text.items ≡ usage_text) }
@@ -402,10 +398,6 @@ pub fn usage(alloc: Global) -> Result<Vec<u8>, NoMemory>
 }
 
 /// The line with the name and the version of the program.
-///
-/// # Errors
-///
-/// `NoMemory`, where it runs out of memory.
 pub fn version(alloc: Global) -> Result<Vec<u8>, NoMemory>
     ensures { IfOk result (λ text. text.items ≡ version_line) }
 {

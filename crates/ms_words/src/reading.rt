@@ -2,7 +2,7 @@
 ghost use Rattle.std.specs.Prelude.{◌≡◌, ◌+◌, ◌<◌, ◌^◌, ◌&&◌, IfOk, MatchResult, Ok as Fine, Err as Wrong, length, option_map};
 ghost use Rattle.std.specs.List.{list_all};
 ghost use Rattle.ms_words.specs.{Table.{takes as takes_of, wanted_of}, Words.{value_of}};
-ghost use Rattle.ms_words.specs.Reading.{Answers, AnswersAll, nothing, is_given, with_option, with_file, read_value as read_value_of, begin_option as begin_option_of, read_option as read_option_of, read_file as read_file_of, read_plain as read_plain_of, read_word as read_word_of, read_end as read_end_of, end_words as end_words_of, read_words_from, known_option as known_option_of, name_and_value, option_in as option_in_of, behind_dash};
+ghost use Rattle.ms_words.specs.Reading.{Answers, AnswersAll, nothing, is_given, with_option, with_file, read_value as read_value_of, begin_option as begin_option_of, read_option as read_option_of, read_file as read_file_of, read_plain as read_plain_of, read_word as read_word_of, read_end as read_end_of, end_words as end_words_of, read_words_from, known_option as known_option_of, name_and_value, option_in as option_in_of, after_dash};
 
 use crate::commands::WordsError;
 use crate::names::{CommandName, OptionName};
@@ -210,7 +210,7 @@ impl Accepted {
         place: u32,
         word: &str,
     ) -> Result<Next, WordsError>
-        ensures { Answers (read_plain_of command (behind_dash word.now) place word.now self.old) result self.new }
+        ensures { Answers (read_plain_of command (after_dash word.now) place word.now self.old) result self.new }
     {
         let Some(rest) = word.strip_prefix('-') else {
             return self.read_file(alloc, command, place, word);

@@ -10,9 +10,9 @@ use Rattle.ms_ir.specs.declared.syntax.Name.TheVariants as name
 use Rattle.ms_ir.specs.declared.syntax.Op.{Op}
 use Rattle.ms_ir.specs.declared.syntax.Op.TheVariants as op
 use Rattle.ms_text_grammar.specs.Lexemes.{Lexeme}
-use Rattle.ms_text_layout.specs.Insts.{op_tokens, named_tokens, mark_tokens, inst_tokens, inst_line}
-use Rattle.ms_text_layout.specs.Modules.{type_line, global_line, declaration_line, head_line, entry_label, body_lines, block_lines, blocks_lines, function_lines, has_dots, module_lines}
-use Rattle.ms_text_layout.specs.Pieces.{Line, indent_of}
+use Rattle.ms_text_grammar.specs.LayoutInsts.{op_tokens, named_tokens, mark_tokens, inst_tokens, inst_line}
+use Rattle.ms_text_grammar.specs.LayoutModules.{type_line, global_line, declaration_line, head_line, entry_label, body_lines, block_lines, blocks_lines, function_lines, has_dots, module_lines}
+use Rattle.ms_text_grammar.specs.LayoutPieces.{Line, indent_of}
 use Rattle.ms_write.proofs.Rendering.{IsFull, AreFull}
 
 -- ---- lists
@@ -54,14 +54,14 @@ op_full dotted (op.Switch t v other cases) = tt
 op_full dotted (op.Ret value) = tt
 op_full dotted op.Unreachable = tt
 
-behind_name : (result : Option Name) (rest : List Lexeme) → IsFull rest → IsFull (named_tokens result ++ rest)
-behind_name None rest h = h
-behind_name (Some x) rest h = tt
+after_name : (result : Option Name) (rest : List Lexeme) → IsFull rest → IsFull (named_tokens result ++ rest)
+after_name None rest h = h
+after_name (Some x) rest h = tt
 
 inst_full : (dotted : Bool) (inst : Inst) → IsFull (inst_line dotted inst).tokens
 unfolding inst_tokens
 inst_full dotted inst =
-    behind_name inst.result (op_tokens dotted inst.op ++ mark_tokens inst.marked) (full_front (op_tokens dotted inst.op) (mark_tokens inst.marked) (op_full dotted inst.op))
+    after_name inst.result (op_tokens dotted inst.op ++ mark_tokens inst.marked) (full_front (op_tokens dotted inst.op) (mark_tokens inst.marked) (op_full dotted inst.op))
 
 -- ---- functions
 

@@ -3,7 +3,7 @@ use Rattle.std.proofs.Common.{◌≡◌, Bool, List, [], ◌∷◌, ◌++◌, So
 use Rattle.std.specs.Prelude.{◌||◌, ◌&&◌, codes, if◌then◌else◌}
 use Rattle.ms_lex.specs.Tokens.{Text}
 use Rattle.ms_text_grammar.specs.Lexemes.{Lexeme}
-use Rattle.ms_text_layout.specs.Pieces.{Piece, render, is_first, are_close, between, spaced, Line, indent_of, pieces_of}
+use Rattle.ms_text_grammar.specs.LayoutPieces.{Piece, render, is_first, are_close, between, spaced, Line, indent_of, pieces_of}
 use Rattle.ms_write_values.specs.Sheets.{Sheet, first_byte, are_near, gap, put_text, put, opened, put_line, put_lines}
 
 -- ---- spaces
@@ -27,13 +27,13 @@ pub render_append : (a b : List Piece) → render (a ++ b) ≡ render a ++ rende
 render_append [] b = refl
 render_append (p ∷ a) b = rw (render_append a b) (sym (simp append_assoc))
 
--- the tokens of a line, and what stands behind the last one
-tokens_rendered : (s : Sheet) (t : Lexeme) (ts : List Lexeme) (behind : Text) (after : List Piece)
-    → (put (put_text s t.spelling) ts).bytes ++ (behind ++ render after) ≡ s.bytes ++ (gap s.last (first_byte t.spelling) ++ render (spaced behind (t ∷ ts) ++ after))
-tokens_rendered s t [] behind after = simp append_assoc
-tokens_rendered s t (u ∷ ts) behind after =
-    tokens_rendered (put_text s t.spelling) u ts behind after
-    ∙ ap (λ g. (s.bytes ++ (gap s.last (first_byte t.spelling) ++ t.spelling)) ++ (g ++ render (spaced behind (u ∷ ts) ++ after))) (gap_between t u)
+-- the tokens of a line, and what stands after the last one
+tokens_rendered : (s : Sheet) (t : Lexeme) (ts : List Lexeme) (later : Text) (after : List Piece)
+    → (put (put_text s t.spelling) ts).bytes ++ (later ++ render after) ≡ s.bytes ++ (gap s.last (first_byte t.spelling) ++ render (spaced later (t ∷ ts) ++ after))
+tokens_rendered s t [] later after = simp append_assoc
+tokens_rendered s t (u ∷ ts) later after =
+    tokens_rendered (put_text s t.spelling) u ts later after
+    ∙ ap (λ g. (s.bytes ++ (gap s.last (first_byte t.spelling) ++ t.spelling)) ++ (g ++ render (spaced later (u ∷ ts) ++ after))) (gap_between t u)
     ∙ simp append_assoc
 
 -- ---- lines
@@ -48,13 +48,13 @@ abbrev pub AreFull : List Line → Type 0
 AreFull [] = Unit {0}
 AreFull (line ∷ rest) = IsFull line.tokens × AreFull rest
 
-line_rendered : (s : Sheet) (indent : Text) (tokens : List Lexeme) → IsFull tokens → (behind : Text) (after : List Piece)
-    → ((put (opened s indent) tokens).bytes ++ 10 ∷ []) ++ (behind ++ render after) ≡ s.bytes ++ (indent ++ render (spaced (10 ∷ behind) tokens ++ after))
-line_rendered s indent [] h behind after = absurd h
-line_rendered s indent (t ∷ ts) h behind after =
-    append_assoc (put (opened s indent) (t ∷ ts)).bytes (10 ∷ []) (behind ++ render after)
-    ∙ tokens_rendered (opened s indent) t ts (10 ∷ behind) after
-    ∙ append_assoc s.bytes indent (render (spaced (10 ∷ behind) (t ∷ ts) ++ after))
+line_rendered : (s : Sheet) (indent : Text) (tokens : List Lexeme) → IsFull tokens → (later : Text) (after : List Piece)
+    → ((put (opened s indent) tokens).bytes ++ 10 ∷ []) ++ (later ++ render after) ≡ s.bytes ++ (indent ++ render (spaced (10 ∷ later) tokens ++ after))
+line_rendered s indent [] h later after = absurd h
+line_rendered s indent (t ∷ ts) h later after =
+    append_assoc (put (opened s indent) (t ∷ ts)).bytes (10 ∷ []) (later ++ render after)
+    ∙ tokens_rendered (opened s indent) t ts (10 ∷ later) after
+    ∙ append_assoc s.bytes indent (render (spaced (10 ∷ later) (t ∷ ts) ++ after))
 
 pub lines_rendered : (s : Sheet) (lines : List Line) → AreFull lines → (put_lines s lines).bytes ≡ s.bytes ++ (indent_of lines ++ render (pieces_of lines))
 lines_rendered s [] h = sym (simp append-nil)

@@ -1,8 +1,8 @@
 -- What the writer puts on a sheet for a module is the module's text.
 use Rattle.std.proofs.Common.{◌≡◌, ◌++◌, sym, ap, ◌∙◌}
 use Rattle.ms_ir.specs.declared.syntax.Module.{Module}
-use Rattle.ms_text_layout.specs.Modules.{has_mark, module_lines, mark_pieces, module_pieces, written}
-use Rattle.ms_text_layout.specs.Pieces.{render, pieces_of}
+use Rattle.ms_text_grammar.specs.LayoutModules.{has_mark, module_lines, mark_pieces, module_pieces, written}
+use Rattle.ms_text_grammar.specs.LayoutPieces.{render, pieces_of}
 use Rattle.ms_write_values.specs.Sheets.{empty, grown, put_lines}
 use Rattle.ms_write.proofs.Rendering.{render_append, lines_rendered}
 use Rattle.ms_write.proofs.FullLines.{module_full, module_flush}

@@ -1,9 +1,9 @@
 //! Functions with their blocks (LLVM Language Reference, "Functions").
 ghost use Rattle.std.specs.Prelude.{◌≡◌, [], ◌∷◌, ◌++◌, IfOk, codes, flat_map, map};
-ghost use Rattle.ms_text_layout.specs.Modules.{parameter_tokens, head_line, entry_label, body_lines, block_lines, blocks_lines, function_lines};
-ghost use Rattle.ms_text_layout.specs.Names.{global_token};
-ghost use Rattle.ms_text_layout.specs.Pieces.{behind_commas, enclosed, flush, sign, with_commas, word};
-ghost use Rattle.ms_text_layout.specs.Types.{result_tokens};
+ghost use Rattle.ms_text_grammar.specs.LayoutModules.{parameter_tokens, head_line, entry_label, body_lines, block_lines, blocks_lines, function_lines};
+ghost use Rattle.ms_text_grammar.specs.LayoutNames.{global_token};
+ghost use Rattle.ms_text_grammar.specs.LayoutPieces.{after_commas, enclosed, flush, sign, with_commas, word};
+ghost use Rattle.ms_text_grammar.specs.LayoutTypes.{result_tokens};
 ghost use Rattle.ms_write_values.specs.Sheets.{put, put_line, put_lines};
 
 use crate::instructions::write_inst_lines;
@@ -23,7 +23,7 @@ fn write_parameter(writer: &mut Writer, parameter: &(Ty, Name)) -> Result<(), No
 /// Writes parameters after a comma each.
 #[tactic(auto, using(ms_write_values::proofs::Puts::put_append))]
 fn write_more_parameters(writer: &mut Writer, parameters: &[(Ty, Name)]) -> Result<(), NoMemory>
-    ensures { IfOk result (λ _. writer.new ≡ put writer.old (behind_commas (map parameter_tokens parameters.now))) }
+    ensures { IfOk result (λ _. writer.new ≡ put writer.old (after_commas (map parameter_tokens parameters.now))) }
 {
     for parameter in parameters {
         writer.token(b",")?;
@@ -70,7 +70,7 @@ fn write_head(writer: &mut Writer, func: &Func) -> Result<(), NoMemory>
 }
 
 /// Writes the head of a function.
-#[tactic(auto, unfolding(ms_text_layout::specs::Modules::head_line))]
+#[tactic(auto, unfolding(ms_text_grammar::specs::LayoutModules::head_line))]
 fn write_head_line(writer: &mut Writer, func: &Func) -> Result<(), NoMemory>
     ensures { IfOk result (λ _. writer.new ≡ put_line writer.old (head_line func.now)) }
 {
@@ -80,7 +80,7 @@ fn write_head_line(writer: &mut Writer, func: &Func) -> Result<(), NoMemory>
 }
 
 /// Writes a block after its label.
-#[tactic(auto, unfolding(ms_text_layout::specs::Modules::block_lines))]
+#[tactic(auto, unfolding(ms_text_grammar::specs::LayoutModules::block_lines))]
 fn write_block_lines(writer: &mut Writer, dotted: bool, block: &Block) -> Result<(), NoMemory>
     ensures { IfOk result (λ _. writer.new ≡ put_lines writer.old (block_lines dotted block.now)) }
 {
@@ -144,7 +144,7 @@ fn write_last_line(writer: &mut Writer) -> Result<(), NoMemory>
 }
 
 /// Writes a function; `dotted` says whether calls of `printf` have three dots.
-#[tactic(auto, using(ms_write_values::proofs::Puts::put_lines_append), unfolding(ms_text_layout::specs::Modules::function_lines))]
+#[tactic(auto, using(ms_write_values::proofs::Puts::put_lines_append), unfolding(ms_text_grammar::specs::LayoutModules::function_lines))]
 pub fn write_function_lines(writer: &mut Writer, dotted: bool, func: &Func) -> Result<(), NoMemory>
     ensures { IfOk result (λ _. writer.new ≡ put_lines writer.old (function_lines dotted func.now)) }
 {

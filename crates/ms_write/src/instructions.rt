@@ -1,6 +1,6 @@
 //! Instructions with their results and marks, a line each.
 ghost use Rattle.std.specs.Prelude.{◌≡◌, IfOk, map};
-ghost use Rattle.ms_text_layout.specs.Insts.{named_tokens, mark_tokens, inst_tokens, inst_line};
+ghost use Rattle.ms_text_grammar.specs.LayoutInsts.{named_tokens, mark_tokens, inst_tokens, inst_line};
 ghost use Rattle.ms_write_values.specs.Sheets.{put, put_line, put_lines};
 
 use crate::operations::write_op;
@@ -29,7 +29,7 @@ fn write_mark(writer: &mut Writer, marked: bool) -> Result<(), NoMemory>
     Ok(())
 }
 
-#[tactic(auto, using(ms_write_values::proofs::Puts::put_append), unfolding(ms_text_layout::specs::Insts::inst_tokens))]
+#[tactic(auto, using(ms_write_values::proofs::Puts::put_append), unfolding(ms_text_grammar::specs::LayoutInsts::inst_tokens))]
 fn write_inst(writer: &mut Writer, dotted: bool, inst: &Inst) -> Result<(), NoMemory>
     ensures { IfOk result (λ _. writer.new ≡ put writer.old (inst_tokens dotted inst.now)) }
 {

@@ -1,9 +1,9 @@
 //! Modules, in the order of their kinds: named types, globals, declarations, functions, and the last line of a module with
 //! marks (LLVM Language Reference, "Module Structure"; own: the order).
 ghost use Rattle.std.specs.{Prelude.{◌≡◌, ◌++◌, [], ◌∷◌, IfOk, codes, flat_map, map}, List.{list_any}};
-ghost use Rattle.ms_text_layout.specs.Modules.{global_word as global_word_of, type_line, global_line, is_one_pointer as is_one_pointer_of, is_dotted as is_dotted_of, declaration_line, function_lines, has_dots as has_dots_of, has_mark_in as has_mark_in_of, has_mark as has_mark_of, module_lines, mark_pieces, written, dots};
-ghost use Rattle.ms_text_layout.specs.{Names.{global_token}, Pieces.{enclosed, render, sign, word}};
-ghost use Rattle.ms_text_layout.specs.{Types.{result_tokens, type_tokens}, Values.{init_tokens}};
+ghost use Rattle.ms_text_grammar.specs.LayoutModules.{global_word as global_word_of, type_line, global_line, is_one_pointer as is_one_pointer_of, is_dotted as is_dotted_of, declaration_line, function_lines, has_dots as has_dots_of, has_mark_in as has_mark_in_of, has_mark as has_mark_of, module_lines, mark_pieces, written, dots};
+ghost use Rattle.ms_text_grammar.specs.{LayoutNames.{global_token}, LayoutPieces.{enclosed, render, sign, word}};
+ghost use Rattle.ms_text_grammar.specs.{LayoutTypes.{result_tokens, type_tokens}, LayoutValues.{init_tokens}};
 ghost use Rattle.ms_text_grammar.specs.Types.{is_ptr as is_ptr_of};
 ghost use Rattle.ms_write_values.specs.{Parts.{dot_tokens}, Sheets.{grown, put, put_line, put_lines}};
 
@@ -35,7 +35,7 @@ fn is_one_pointer(types: &[Ty]) -> bool
 }
 
 /// Whether a declaration is that of `printf`, which takes further arguments.
-#[tactic(auto, unfolding(ms_text_layout::specs::Modules::is_dotted))]
+#[tactic(auto, unfolding(ms_text_grammar::specs::LayoutModules::is_dotted))]
 fn is_dotted(decl: &Decl) -> bool
     ensures { result ≡ is_dotted_of decl.now }
 {
@@ -43,7 +43,7 @@ fn is_dotted(decl: &Decl) -> bool
 }
 
 /// Whether calls of `printf` are written with dots: such a one is declared.
-#[tactic(auto, unfolding(ms_text_layout::specs::Modules::has_dots))]
+#[tactic(auto, unfolding(ms_text_grammar::specs::LayoutModules::has_dots))]
 fn has_dots(m: &Module) -> bool
     ensures { result ≡ has_dots_of m.now }
 {
@@ -68,7 +68,7 @@ fn has_mark_in(func: &Func) -> bool
 }
 
 /// Whether some instruction is marked.
-#[tactic(auto, unfolding(ms_text_layout::specs::Modules::has_mark))]
+#[tactic(auto, unfolding(ms_text_grammar::specs::LayoutModules::has_mark))]
 fn has_mark(m: &Module) -> bool
     ensures { result ≡ has_mark_of m.now }
 {
@@ -82,7 +82,7 @@ fn global_word(constant: bool) -> &'static [u8]
     if constant { b"constant" } else { b"global" }
 }
 
-#[tactic(auto, unfolding(ms_text_layout::specs::Modules::type_line))]
+#[tactic(auto, unfolding(ms_text_grammar::specs::LayoutModules::type_line))]
 fn write_type_line(writer: &mut Writer, named: &(Name, Ty)) -> Result<(), NoMemory>
     ensures { IfOk result (λ _. writer.new ≡ put_line writer.old (type_line named.now)) }
 {
@@ -115,7 +115,7 @@ fn write_global(writer: &mut Writer, global: &GlobalVar) -> Result<(), NoMemory>
     writer.init(&global.ty, &global.init)
 }
 
-#[tactic(auto, unfolding(ms_text_layout::specs::Modules::global_line))]
+#[tactic(auto, unfolding(ms_text_grammar::specs::LayoutModules::global_line))]
 fn write_global_line(writer: &mut Writer, global: &GlobalVar) -> Result<(), NoMemory>
     ensures { IfOk result (λ _. writer.new ≡ put_line writer.old (global_line global.now)) }
 {
@@ -166,7 +166,7 @@ fn write_declaration(writer: &mut Writer, decl: &Decl) -> Result<(), NoMemory>
     write_parameter_types(writer, decl)
 }
 
-#[tactic(auto, unfolding(ms_text_layout::specs::Modules::declaration_line))]
+#[tactic(auto, unfolding(ms_text_grammar::specs::LayoutModules::declaration_line))]
 fn write_declaration_line(writer: &mut Writer, decl: &Decl) -> Result<(), NoMemory>
     ensures { IfOk result (λ _. writer.new ≡ put_line writer.old (declaration_line decl.now)) }
 {
@@ -194,7 +194,7 @@ fn write_functions(writer: &mut Writer, dotted: bool, funcs: &[Func]) -> Result<
     Ok(())
 }
 
-#[tactic(auto, using(ms_write_values::proofs::Puts::put_lines_append), unfolding(ms_text_layout::specs::Modules::module_lines))]
+#[tactic(auto, using(ms_write_values::proofs::Puts::put_lines_append), unfolding(ms_text_grammar::specs::LayoutModules::module_lines))]
 fn write_module_lines(writer: &mut Writer, m: &Module) -> Result<(), NoMemory>
     ensures { IfOk result (λ _. writer.new ≡ put_lines writer.old (module_lines m.now)) }
 {
@@ -205,7 +205,7 @@ fn write_module_lines(writer: &mut Writer, m: &Module) -> Result<(), NoMemory>
 }
 
 /// Writes the metadata that every mark names.
-#[tactic(auto, unfolding(ms_text_layout::specs::Modules::mark_pieces))]
+#[tactic(auto, unfolding(ms_text_grammar::specs::LayoutModules::mark_pieces))]
 fn write_marks(writer: &mut Writer, marked: bool) -> Result<(), NoMemory>
     ensures { IfOk result (λ _. writer.new ≡ grown writer.old (render (mark_pieces marked))) }
 {

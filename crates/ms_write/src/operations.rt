@@ -2,9 +2,9 @@
 ghost use Rattle.std.specs.Prelude.{◌≡◌, ◌&&◌, Bool, [], ◌∷◌, ◌++◌, IfOk, codes, flat_map, map};
 ghost use Rattle.ms_text_grammar.specs.Types.{int_width, is_width};
 ghost use Rattle.ms_text_grammar.specs.Insts.{is_i32 as is_i32_result, names_printf as names_printf_of};
-ghost use Rattle.ms_text_layout.specs.Insts.{binary_word as binary_word_of, cast_word as cast_word_of, predicate_text, flag_tokens, address_tokens, target_tokens, bit_tokens, edge_tokens, case_tokens, is_one as is_one_of, count_tokens, callee_type_tokens, returned_tokens, op_tokens};
-ghost use Rattle.ms_text_layout.specs.{Names.{global_token}, Pieces.{behind_commas, enclosed, sign, with_commas, word}};
-ghost use Rattle.ms_text_layout.specs.{Types.{result_tokens, type_tokens}, Values.{pair_tokens, typed_tokens}};
+ghost use Rattle.ms_text_grammar.specs.LayoutInsts.{binary_word as binary_word_of, cast_word as cast_word_of, predicate_text, flag_tokens, address_tokens, target_tokens, bit_tokens, edge_tokens, case_tokens, is_one as is_one_of, count_tokens, callee_type_tokens, returned_tokens, op_tokens};
+ghost use Rattle.ms_text_grammar.specs.{LayoutNames.{global_token}, LayoutPieces.{after_commas, enclosed, sign, with_commas, word}};
+ghost use Rattle.ms_text_grammar.specs.{LayoutTypes.{result_tokens, type_tokens}, LayoutValues.{pair_tokens, typed_tokens}};
 ghost use Rattle.ms_write.specs.Kinds.{IsComputation, IsAccess, IsTerminator};
 ghost use Rattle.ms_write_values.specs.{Parts.{two_tokens}, Sheets.{put}};
 
@@ -168,7 +168,7 @@ fn write_edge(writer: &mut Writer, ty: &Ty, edge: &(Operand, Name)) -> Result<()
 /// Writes edges after a comma each.
 #[tactic(auto, using(ms_write_values::proofs::Puts::put_append))]
 fn write_more_edges(writer: &mut Writer, ty: &Ty, edges: &[(Operand, Name)]) -> Result<(), NoMemory>
-    ensures { IfOk result (λ _. writer.new ≡ put writer.old (behind_commas (map (edge_tokens ty.now) edges.now))) }
+    ensures { IfOk result (λ _. writer.new ≡ put writer.old (after_commas (map (edge_tokens ty.now) edges.now))) }
 {
     for edge in edges {
         writer.token(b",")?;
@@ -204,7 +204,7 @@ fn write_phi(writer: &mut Writer, ty: &Ty, edges: &[(Operand, Name)]) -> Result<
 /// Writes the count of an `alloca` after a comma. That of one item isn't written where its type is `i32`.
 #[tactic(auto, using(ms_write_values::proofs::Puts::put_append))]
 fn write_item_count(writer: &mut Writer, ty: &Ty, count: &Operand) -> Result<(), NoMemory>
-    ensures { IfOk result (λ _. writer.new ≡ put writer.old (behind_commas (count_tokens ty.now count.now))) }
+    ensures { IfOk result (λ _. writer.new ≡ put writer.old (after_commas (count_tokens ty.now count.now))) }
 {
     if !(is_i32(ty) && is_one(count)) {
         writer.token(b",")?;
@@ -400,7 +400,7 @@ fn write_ret(writer: &mut Writer, value: &Option<(Ty, Operand)>) -> Result<(), N
 }
 
 /// Writes an operation, a comparison, a cast, a choice or a `freeze`.
-#[tactic(auto, unfolding(ms_text_layout::specs::Insts::op_tokens))]
+#[tactic(auto, unfolding(ms_text_grammar::specs::LayoutInsts::op_tokens))]
 fn write_computation(writer: &mut Writer, op: &Op) -> Result<(), NoMemory>
     requires { IsComputation op.now }
     ensures { (dotted : Bool) → IfOk result (λ _. writer.new ≡ put writer.old (op_tokens dotted op.now)) }
@@ -434,7 +434,7 @@ fn write_computation(writer: &mut Writer, op: &Op) -> Result<(), NoMemory>
 }
 
 /// Writes an instruction that makes, reads or writes memory, or makes an address.
-#[tactic(auto, unfolding(ms_text_layout::specs::Insts::op_tokens))]
+#[tactic(auto, unfolding(ms_text_grammar::specs::LayoutInsts::op_tokens))]
 fn write_access(writer: &mut Writer, op: &Op) -> Result<(), NoMemory>
     requires { IsAccess op.now }
     ensures { (dotted : Bool) → IfOk result (λ _. writer.new ≡ put writer.old (op_tokens dotted op.now)) }
@@ -453,7 +453,7 @@ fn write_access(writer: &mut Writer, op: &Op) -> Result<(), NoMemory>
 }
 
 /// Writes an instruction that ends a block.
-#[tactic(auto, unfolding(ms_text_layout::specs::Insts::op_tokens))]
+#[tactic(auto, unfolding(ms_text_grammar::specs::LayoutInsts::op_tokens))]
 fn write_terminator(writer: &mut Writer, op: &Op) -> Result<(), NoMemory>
     requires { IsTerminator op.now }
     ensures { (dotted : Bool) → IfOk result (λ _. writer.new ≡ put writer.old (op_tokens dotted op.now)) }
@@ -474,7 +474,7 @@ fn write_terminator(writer: &mut Writer, op: &Op) -> Result<(), NoMemory>
 }
 
 /// Writes what an instruction does; `dotted` says whether calls of `printf` have three dots.
-#[tactic(auto, unfolding(ms_text_layout::specs::Insts::op_tokens))]
+#[tactic(auto, unfolding(ms_text_grammar::specs::LayoutInsts::op_tokens))]
 pub fn write_op(writer: &mut Writer, dotted: bool, op: &Op) -> Result<(), NoMemory>
     ensures { IfOk result (λ _. writer.new ≡ put writer.old (op_tokens dotted op.now)) }
 {

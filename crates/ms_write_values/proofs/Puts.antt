@@ -1,11 +1,11 @@
--- Tokens and lines behind one another.
+-- Tokens and lines after one another.
 use Rattle.std.proofs.Common.{◌≡◌, ℕ, Bool, true, false, if◌then◌else◌, Option, Some, None, List, [], ◌∷◌, ◌++◌, refl, ap, ◌∙◌, append_assoc}
 use Rattle.std.specs.Prelude.{codes, ◌||◌, ◌&&◌, ◌==◌}
 use Rattle.ms_lex.specs.Tokens.{Text}
 use Rattle.ms_text_grammar.specs.Lexemes.{Lexeme}
-use Rattle.ms_text_layout.specs.Pieces.{Line, sign, with_commas}
-use Rattle.ms_text_layout.specs.Insts.{mark_tokens}
-use Rattle.ms_text_layout.specs.Types.{struct_tokens}
+use Rattle.ms_text_grammar.specs.LayoutPieces.{Line, sign, with_commas}
+use Rattle.ms_text_grammar.specs.LayoutInsts.{mark_tokens}
+use Rattle.ms_text_grammar.specs.LayoutTypes.{struct_tokens}
 use Rattle.ms_write_values.specs.Sheets.{Sheet, gap, put_text, put, put_line, put_lines}
 use Rattle.ms_write_values.specs.Parts.{open_tokens, close_tokens}
 
@@ -37,7 +37,7 @@ comma_near : (last : Option ℕ) → gap last 44 ≡ []
 comma_near None = refl
 comma_near (Some a) = by (a == 40) (a == 64)
   where
-    by : (behind global : Bool) → (if behind || true || false || (global && false) then [] else codes " ") ≡ []
+    by : (after global : Bool) → (if after || true || false || (global && false) then [] else codes " ") ≡ []
     by true true = refl
     by true false = refl
     by false true = refl

@@ -6,9 +6,9 @@ use Rattle.ms_ir.specs.declared.syntax.Ty.TheBlock.{hidden-the_row-Ty-0, hidden-
 use Rattle.ms_ir.specs.declared.syntax.Init.{Init, Row_of-Init-Array-0-2, end_of-Init-Array-0-2, more_of-Init-Array-0-2, items-the_row-Init-Array-0-2, items_hidden-the_row-Init-Array-0-2-0}
 use Rattle.ms_ir.specs.declared.syntax.Init as initial
 use Rattle.ms_ir.specs.declared.syntax.Init.TheBlock.{hidden-the_row-Init-Array-0-2-0}
-use Rattle.ms_text_layout.specs.Pieces.{enclosed}
-use Rattle.ms_text_layout.specs.Types.{array_tokens, struct_tokens, type_tokens, row_tokens}
-use Rattle.ms_text_layout.specs.Values.{init_tokens, items_tokens}
+use Rattle.ms_text_grammar.specs.LayoutPieces.{enclosed}
+use Rattle.ms_text_grammar.specs.LayoutTypes.{array_tokens, struct_tokens, type_tokens, row_tokens}
+use Rattle.ms_text_grammar.specs.LayoutValues.{init_tokens, items_tokens}
 use Rattle.ms_write_values.specs.Parts.{item_tokens}
 
 -- ---- types

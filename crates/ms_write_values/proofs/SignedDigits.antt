@@ -4,7 +4,7 @@ use Rattle.std.specs.Prelude.{decimal}
 use Rattle.std.proofs.Math.Pow.{pow_mono}
 use Rattle.std.proofs.lemmas.Bool.{lt-ltb, le-ltb}
 use Rattle.ms_bits.specs.Signed.{signed}
-use Rattle.ms_text_layout.specs.Names.{signed_text}
+use Rattle.ms_text_grammar.specs.LayoutNames.{signed_text}
 
 pub plain_digits : (width n : ℕ) → 2 * n < 2 ^ width → signed_text (signed width n) ≡ decimal n
 unfolding signed

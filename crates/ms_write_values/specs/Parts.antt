@@ -5,9 +5,9 @@ use Rattle.ms_ir.specs.declared.syntax.Init.{Init}
 use Rattle.ms_ir.specs.declared.syntax.Operand.{Operand}
 use Rattle.ms_ir.specs.declared.syntax.Ty.{Ty}
 use Rattle.ms_text_grammar.specs.Lexemes.{Lexeme}
-use Rattle.ms_text_layout.specs.Pieces.{sign, comma, three_dots}
-use Rattle.ms_text_layout.specs.Types.{type_tokens}
-use Rattle.ms_text_layout.specs.Values.{init_tokens, typed_tokens, value_tokens}
+use Rattle.ms_text_grammar.specs.LayoutPieces.{sign, comma, three_dots}
+use Rattle.ms_text_grammar.specs.LayoutTypes.{type_tokens}
+use Rattle.ms_text_grammar.specs.LayoutValues.{init_tokens, typed_tokens, value_tokens}
 
 -- the digits of a signed number that is kept as a word: of the word, or after a minus sign of how far it is below zero
 abbrev pub signed_digits : ℕ → Option ℕ → Text

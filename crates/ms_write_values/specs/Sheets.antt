@@ -3,7 +3,7 @@
 use Rattle.std.specs.Prelude.{ℕ, Bool, ◌||◌, ◌&&◌, ◌==◌, if◌then◌else◌, List, [], ◌∷◌, ◌++◌, codes, Option, Some, None}
 use Rattle.ms_lex.specs.Tokens.{Text}
 use Rattle.ms_text_grammar.specs.Lexemes.{Lexeme}
-use Rattle.ms_text_layout.specs.Pieces.{Line}
+use Rattle.ms_text_grammar.specs.LayoutPieces.{Line}
 
 pub record Sheet : Type 0 where
   pub bytes : Text

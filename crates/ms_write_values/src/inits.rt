@@ -1,7 +1,7 @@
 //! Initialisers (LLVM Language Reference, "Complex Constants").
 ghost use Rattle.std.specs.Prelude.{◌≡◌, [], ◌∷◌, IfOk, codes, map};
-ghost use Rattle.ms_text_layout.specs.{Pieces.{behind_commas, enclosed, with_commas}, Types.{struct_tokens}};
-ghost use Rattle.ms_text_layout.specs.Values.{init_tokens};
+ghost use Rattle.ms_text_grammar.specs.{LayoutPieces.{after_commas, enclosed, with_commas}, LayoutTypes.{struct_tokens}};
+ghost use Rattle.ms_text_grammar.specs.LayoutValues.{init_tokens};
 ghost use Rattle.ms_write_values.specs.{Parts.{item_tokens}, Sheets.{put}};
 
 use crate::writer::Writer;
@@ -73,7 +73,7 @@ impl Writer {
     #[cycle(inits)]
     #[tactic(auto, using(crate::proofs::Puts::put_append))]
     fn more_items(&mut self, items: &[(Ty, Init)]) -> Result<(), NoMemory>
-        ensures { IfOk result (λ _. self.new ≡ put self.old (behind_commas (map item_tokens items.now))) }
+        ensures { IfOk result (λ _. self.new ≡ put self.old (after_commas (map item_tokens items.now))) }
     {
         for item in items {
             self.token(b",")?;

@@ -1,7 +1,7 @@
 //! Names and strings (LLVM Language Reference, "Identifiers" and "Simple Constants").
 ghost use Rattle.std.specs.Prelude.{◌≡◌, [], ◌∷◌, IfOk};
-ghost use Rattle.ms_text_layout.specs.Modules.{label_line as label_line_of};
-ghost use Rattle.ms_text_layout.specs.Names.{bytes_token, local_token, global_token};
+ghost use Rattle.ms_text_grammar.specs.LayoutModules.{label_line as label_line_of};
+ghost use Rattle.ms_text_grammar.specs.LayoutNames.{bytes_token, local_token, global_token};
 ghost use Rattle.ms_write_values.specs.Sheets.{put, put_line};
 
 use crate::writer::Writer;

@@ -1,7 +1,7 @@
 //! Numbers, and integers of a type ("Simple Constants" of the LLVM Language Reference).
 ghost use Rattle.std.specs.Prelude.{◌≡◌, [], ◌∷◌, IfOk};
 ghost use Rattle.ms_bits.specs.Signed.{signed};
-ghost use Rattle.ms_text_layout.specs.{Names.{signed_text, number_token, count_token}, Values.{integer_token}};
+ghost use Rattle.ms_text_grammar.specs.{LayoutNames.{signed_text, number_token, count_token}, LayoutValues.{integer_token}};
 ghost use Rattle.ms_write_values.specs.{Parts.{signed_digits}, Sheets.{put}};
 
 use crate::writer::Writer;
@@ -32,7 +32,7 @@ impl Writer {
     }
 
     /// Writes a word of an integer type of so many bits as a signed number.
-    #[tactic(auto, unfolding(ms_text_layout::specs::Names::number_token))]
+    #[tactic(auto, unfolding(ms_text_grammar::specs::LayoutNames::number_token))]
     pub fn number(&mut self, width: u8, value: u64) -> Result<(), NoMemory>
         ensures { IfOk result (λ _. self.new ≡ put self.old (number_token width value ∷ [])) }
     {

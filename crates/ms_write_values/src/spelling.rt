@@ -1,7 +1,7 @@
 //! How names, strings and numbers are spelled (LLVM Language Reference, "Identifiers" and "Simple Constants").
 ghost use Rattle.std.specs.{Prelude.{◌≡◌, ◌<◌, ◌++◌, IfOk, decimal}, List.{list_all}};
 ghost use Rattle.ms_lex.specs.Tokens.{is_name_byte as is_name_byte_of};
-ghost use Rattle.ms_text_layout.specs.Names.{is_printed as is_printed_of, hexadecimal_digit as hexadecimal_digit_of, string_byte as string_byte_of, quoted as quoted_of, is_plain as is_plain_of, name_text};
+ghost use Rattle.ms_text_grammar.specs.LayoutNames.{is_printed as is_printed_of, hexadecimal_digit as hexadecimal_digit_of, string_byte as string_byte_of, quoted as quoted_of, is_plain as is_plain_of, name_text};
 
 use itoa::Buffer;
 use ms_bits::NoMemory;
@@ -40,7 +40,7 @@ fn is_plain(bytes: &[u8]) -> bool
 }
 
 /// Adds a byte of a string to a text: itself, or a backslash and two digits.
-#[tactic(auto, unfolding(ms_text_layout::specs::Names::string_byte))]
+#[tactic(auto, unfolding(ms_text_grammar::specs::LayoutNames::string_byte))]
 fn push_string_byte(text: &mut Vec<u8>, byte: u8) -> Result<(), NoMemory>
     ensures { IfOk result (λ _. text.new.items ≡ text.old.items ++ string_byte_of byte) }
 {
@@ -54,8 +54,8 @@ fn push_string_byte(text: &mut Vec<u8>, byte: u8) -> Result<(), NoMemory>
     Ok(())
 }
 
-/// Adds bytes between quotes to a text. The one error, here and below, is running out of memory.
-#[tactic(auto, unfolding(ms_text_layout::specs::Names::quoted))]
+/// Adds bytes between quotes to a text.
+#[tactic(auto, unfolding(ms_text_grammar::specs::LayoutNames::quoted))]
 pub fn push_quoted(text: &mut Vec<u8>, bytes: &[u8]) -> Result<(), NoMemory>
     ensures { IfOk result (λ _. text.new.items ≡ text.old.items ++ quoted_of bytes.now) }
 {
@@ -76,7 +76,7 @@ pub fn push_number(text: &mut Vec<u8>, number: u64) -> Result<(), NoMemory>
 }
 
 /// Adds a name without its sign to a text: a number, a run of name bytes, or a string.
-#[tactic(auto, unfolding(ms_text_layout::specs::Names::name_text))]
+#[tactic(auto, unfolding(ms_text_grammar::specs::LayoutNames::name_text))]
 pub fn push_name(text: &mut Vec<u8>, name: &Name) -> Result<(), NoMemory>
     ensures { IfOk result (λ _. text.new.items ≡ text.old.items ++ name_text name.now) }
 {

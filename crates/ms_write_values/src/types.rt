@@ -1,7 +1,7 @@
 //! Types (LLVM Language Reference, "Type System").
 ghost use Rattle.std.specs.Prelude.{◌≡◌, [], ◌∷◌, IfOk, decimal, map};
-ghost use Rattle.ms_text_layout.specs.Pieces.{word, behind_commas, with_commas};
-ghost use Rattle.ms_text_layout.specs.Types.{array_tokens, struct_tokens, type_tokens, result_tokens};
+ghost use Rattle.ms_text_grammar.specs.LayoutPieces.{word, after_commas, with_commas};
+ghost use Rattle.ms_text_grammar.specs.LayoutTypes.{array_tokens, struct_tokens, type_tokens, result_tokens};
 ghost use Rattle.ms_write_values.specs.{Parts.{open_tokens, close_tokens}, Sheets.{put}};
 
 use crate::writer::Writer;
@@ -108,7 +108,7 @@ impl Writer {
     #[cycle(types)]
     #[tactic(auto, using(crate::proofs::Puts::put_append))]
     fn more_types(&mut self, types: &[Ty]) -> Result<(), NoMemory>
-        ensures { IfOk result (λ _. self.new ≡ put self.old (behind_commas (map type_tokens types.now))) }
+        ensures { IfOk result (λ _. self.new ≡ put self.old (after_commas (map type_tokens types.now))) }
     {
         for ty in types {
             self.token(b",")?;

@@ -1,8 +1,8 @@
 //! Values after their types (LLVM Language Reference, "Constants").
 ghost use Rattle.std.specs.Prelude.{◌≡◌, ◌∷◌, IfOk, codes, map};
-ghost use Rattle.ms_text_layout.specs.{Names.{global_token}, Pieces.{behind_commas, with_commas, word}};
-ghost use Rattle.ms_text_layout.specs.Types.{type_tokens};
-ghost use Rattle.ms_text_layout.specs.Values.{constant_index_tokens, offset_tokens, base_tokens, value_tokens, typed_tokens, pair_tokens};
+ghost use Rattle.ms_text_grammar.specs.{LayoutNames.{global_token}, LayoutPieces.{after_commas, with_commas, word}};
+ghost use Rattle.ms_text_grammar.specs.LayoutTypes.{type_tokens};
+ghost use Rattle.ms_text_grammar.specs.LayoutValues.{constant_index_tokens, offset_tokens, base_tokens, value_tokens, typed_tokens, pair_tokens};
 ghost use Rattle.ms_write_values.specs.{Parts.{two_tokens}, Sheets.{put}};
 
 use crate::writer::Writer;
@@ -22,7 +22,7 @@ impl Writer {
     /// Writes constant indices after a comma each.
     #[tactic(auto, using(crate::proofs::Puts::put_append))]
     fn constant_indices(&mut self, indices: &[(Ty, u64)]) -> Result<(), NoMemory>
-        ensures { IfOk result (λ _. self.new ≡ put self.old (behind_commas (map constant_index_tokens indices.now))) }
+        ensures { IfOk result (λ _. self.new ≡ put self.old (after_commas (map constant_index_tokens indices.now))) }
     {
         for index in indices {
             self.token(b",")?;
@@ -51,7 +51,7 @@ impl Writer {
 
     /// Writes a constant `getelementptr`, within which others may stand.
     #[cycle(addresses)]
-    #[tactic(auto, using(crate::proofs::Puts::put_append), unfolding(ms_text_layout::specs::Values::offset_tokens))]
+    #[tactic(auto, using(crate::proofs::Puts::put_append), unfolding(ms_text_grammar::specs::LayoutValues::offset_tokens))]
     fn step(
         &mut self,
         step: &(Ty, List<(Ty, u64)>),
@@ -78,7 +78,7 @@ impl Writer {
     }
 
     /// Writes a value of a type, which isn't written.
-    #[tactic(auto, unfolding(ms_text_layout::specs::Values::value_tokens))]
+    #[tactic(auto, unfolding(ms_text_grammar::specs::LayoutValues::value_tokens))]
     pub fn value(&mut self, ty: &Ty, operand: &Operand) -> Result<(), NoMemory>
         ensures { IfOk result (λ _. self.new ≡ put self.old (value_tokens ty.now operand.now)) }
     {
@@ -130,7 +130,7 @@ impl Writer {
     /// Writes values with their types, after a comma each.
     #[tactic(auto, using(crate::proofs::Puts::put_append))]
     pub fn more_pairs(&mut self, pairs: &[(Ty, Operand)]) -> Result<(), NoMemory>
-        ensures { IfOk result (λ _. self.new ≡ put self.old (behind_commas (map pair_tokens pairs.now))) }
+        ensures { IfOk result (λ _. self.new ≡ put self.old (after_commas (map pair_tokens pairs.now))) }
     {
         for pair in pairs {
             self.token(b",")?;

@@ -1,13 +1,13 @@
 //! The words of operations, and those of their flags.
 ghost use Rattle.std.specs.Prelude.{◌≡◌, IfOk, codes};
-ghost use Rattle.ms_text_layout.specs.Insts.{binary_word as binary_word_of, cast_word as cast_word_of, predicate_text, flag_token, flag_tokens};
+ghost use Rattle.ms_text_grammar.specs.LayoutInsts.{binary_word as binary_word_of, cast_word as cast_word_of, predicate_text, flag_token, flag_tokens};
 ghost use Rattle.ms_write_values.specs.Sheets.{put};
 
 use crate::writer::Writer;
 use ms_bits::{BinOp, CastOp, Flags, NoMemory, Pred};
 
 /// The word of a binary operation.
-#[tactic(auto, unfolding(ms_text_layout::specs::Insts::binary_word))]
+#[tactic(auto, unfolding(ms_text_grammar::specs::LayoutInsts::binary_word))]
 pub fn binary_word(op: BinOp) -> &'static [u8]
     ensures { result.now ≡ binary_word_of op }
 {
@@ -29,7 +29,7 @@ pub fn binary_word(op: BinOp) -> &'static [u8]
 }
 
 /// The word of a cast.
-#[tactic(auto, unfolding(ms_text_layout::specs::Insts::cast_word))]
+#[tactic(auto, unfolding(ms_text_grammar::specs::LayoutInsts::cast_word))]
 pub fn cast_word(op: CastOp) -> &'static [u8]
     ensures { result.now ≡ cast_word_of op }
 {
@@ -44,7 +44,7 @@ pub fn cast_word(op: CastOp) -> &'static [u8]
 }
 
 /// The word of a predicate.
-#[tactic(auto, unfolding(ms_text_layout::specs::Insts::predicate_text))]
+#[tactic(auto, unfolding(ms_text_grammar::specs::LayoutInsts::predicate_text))]
 pub fn predicate_word(pred: Pred) -> &'static [u8]
     ensures { result.now ≡ predicate_text pred }
 {
@@ -74,7 +74,7 @@ impl Writer {
     }
 
     /// Writes the words of the flags that are set, `nuw` before `nsw`.
-    #[tactic(auto, using(crate::proofs::Puts::put_append), unfolding(ms_text_layout::specs::Insts::flag_tokens))]
+    #[tactic(auto, using(crate::proofs::Puts::put_append), unfolding(ms_text_grammar::specs::LayoutInsts::flag_tokens))]
     pub fn flags(&mut self, flags: Flags) -> Result<(), NoMemory>
         ensures { IfOk result (λ _. self.new ≡ put self.old (flag_tokens flags)) }
     {

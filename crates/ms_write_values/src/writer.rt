@@ -1,6 +1,6 @@
 //! A text that is written token by token, in one buffer that grows.
 ghost use Rattle.std.specs.Prelude.{◌≡◌, ◌++◌, [], ◌∷◌, true, IfOk, Some, decimal};
-ghost use Rattle.ms_text_layout.specs.{Names.{name_text, quoted as quoted_of}, Insts.{mark_tokens}};
+ghost use Rattle.ms_text_grammar.specs.{LayoutNames.{name_text, quoted as quoted_of}, LayoutInsts.{mark_tokens}};
 ghost use Rattle.ms_write_values.specs.Sheets.{empty, first_byte as first_byte_of, are_near as are_near_of, gap, grown, put_text, put, opened, ended};
 
 use crate::spelling::{push_name, push_number, push_quoted};
@@ -77,7 +77,7 @@ impl Writer {
         Ok(())
     }
 
-    /// Writes a token. The one error, here and below, is running out of memory.
+    /// Writes a token.
     #[inline(always)]
     pub fn token(&mut self, text: &[u8]) -> Result<(), NoMemory>
         ensures { IfOk result (λ _. self.new ≡ put_text self.old text.now) }

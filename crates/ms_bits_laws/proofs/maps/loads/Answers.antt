@@ -7,8 +7,8 @@ returns-clause-stored c = λ map a n v. stored_is_loaded map a n v
 pub returns-clause-before : goal.returns-clause-before
 returns-clause-before c = λ map new a n b m l. load_elsewhere map a n new b m l
 
-pub returns-clause-behind : goal.returns-clause-behind
-returns-clause-behind c = λ map new a n b m l. load_elsewhere_above map a n new b m l
+pub returns-clause-after : goal.returns-clause-after
+returns-clause-after c = λ map new a n b m l. load_elsewhere_above map a n new b m l
 
 pub returns-clause-range_alone : goal.returns-clause-range_alone
 returns-clause-range_alone c = λ map other a b n h. same_number n a b map other h

@@ -1,6 +1,6 @@
 use Rattle.std.proofs.Common.{sym, ap, ◌∙◌}
 use Rattle.std.specs.Option.{option_copied}
-use Rattle.ms_valid.specs.ExternalsFit.{bad_externals}
+use Rattle.ms_check_valid.specs.ExternalsFit.{bad_externals}
 use Rattle.ms_check.proofs.Firsts.{none_first}
 use Rattle.ms_check.proofs.clauses.externals_fit.Goals as goal
 

@@ -1,5 +1,5 @@
 use Rattle.std.proofs.Common.{sym, ◌∙◌}
-use Rattle.ms_valid.specs.NamesKnown.{unknowns}
+use Rattle.ms_check_valid.specs.NamesKnown.{unknowns}
 use Rattle.ms_check.proofs.Firsts.{none_first}
 use Rattle.ms_check.proofs.clauses.names_known.Goals as goal
 

@@ -1,5 +1,5 @@
 use Rattle.std.proofs.Common.{sym, ◌∙◌}
-use Rattle.ms_valid.specs.NamesOnce.{duplicates}
+use Rattle.ms_check_valid.specs.NamesOnce.{duplicates}
 use Rattle.ms_check.proofs.Firsts.{none_first}
 use Rattle.ms_check.proofs.clauses.names_once.Goals as goal
 

@@ -1,5 +1,5 @@
 use Rattle.std.proofs.Common.{sym, ◌∙◌}
-use Rattle.ms_valid.specs.SizesFit.{unsized}
+use Rattle.ms_check_valid.specs.SizesFit.{unsized}
 use Rattle.ms_check.proofs.Firsts.{none_first, all_clauses}
 use Rattle.ms_check.proofs.clauses.sizes_fit.Goals as goal
 

@@ -1,6 +1,6 @@
 use Rattle.std.proofs.Common.{sym, ap, ◌∙◌}
 use Rattle.std.specs.Prelude.{option_map}
-use Rattle.ms_valid.specs.TypesAgree.{mismatches}
+use Rattle.ms_check_valid.specs.TypesAgree.{mismatches}
 use Rattle.ms_check_types.specs.Faults.{as_pair}
 use Rattle.ms_check.proofs.Firsts.{none_first}
 use Rattle.ms_check.proofs.clauses.types_agree.Goals as goal

@@ -3,8 +3,8 @@ use Rattle.std.specs.Prelude.{slice_get}
 use Rattle.std.specs.Option.{option_copied}
 use Rattle.std.proofs.lemmas.Result.{IfOk-weaker}
 use Rattle.ms_ir.specs.Locals.{global_names, declared_names, type_names}
-use Rattle.ms_valid.specs.NamesOnce.{repeats, function_duplicates}
-use Rattle.ms_tables.proofs.Items.{none_then}
+use Rattle.ms_check_valid.specs.NamesOnce.{repeats, function_duplicates}
+use Rattle.ms_check_tables.proofs.Items.{none_then}
 use Rattle.ms_check.proofs.Repeated.{symbol_fault, function_fault}
 use Rattle.ms_check.proofs.duplicates.any_symbol_twice.Goals as goal
 

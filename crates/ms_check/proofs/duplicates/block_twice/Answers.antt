@@ -3,7 +3,7 @@ use Rattle.std.specs.Prelude.{slice_get}
 use Rattle.std.specs.Option.{option_copied}
 use Rattle.std.proofs.lemmas.Result.{IfOk-weaker}
 use Rattle.ms_ir.specs.Locals.{results}
-use Rattle.ms_valid.specs.NamesOnce.{repeats}
+use Rattle.ms_check_valid.specs.NamesOnce.{repeats}
 use Rattle.ms_check.proofs.Repeated.{second_answers}
 use Rattle.ms_check.proofs.duplicates.block_twice.Goals as goal
 

@@ -1,7 +1,7 @@
 use Rattle.std.proofs.Common.{◌≡◌, ◌++◌, None, sym, ◌∙◌, ap}
 use Rattle.std.specs.Option.{option_copied}
 use Rattle.ms_ir.specs.Locals.{block_locals}
-use Rattle.ms_tables.proofs.Items.{none_left, none_then}
+use Rattle.ms_check_tables.proofs.Items.{none_left, none_then}
 use Rattle.ms_check.proofs.Repeated.{names_passed, names_stopped}
 use Rattle.ms_check.proofs.duplicates.blocks_twice.Goals as goal
 

@@ -1,7 +1,7 @@
 use Rattle.std.proofs.Common.{◌≡◌, drop}
 use Rattle.std.specs.Prelude.{slice_get, flat_map}
 use Rattle.ms_ir.specs.Locals.{block_locals}
-use Rattle.ms_valid.specs.NamesOnce.{repeats}
+use Rattle.ms_check_valid.specs.NamesOnce.{repeats}
 use Rattle.ms_check.proofs.duplicates.blocks_twice.Given as goal
 
 abbrev pub invariant-loop-block : goal.invariant-loop-block

@@ -1,5 +1,5 @@
 use Rattle.std.proofs.Common.{sym, ◌∙◌}
-use Rattle.ms_tables.proofs.Items.{none_left}
+use Rattle.ms_check_tables.proofs.Items.{none_left}
 use Rattle.ms_check.proofs.Repeated.{function_passed, function_stopped}
 use Rattle.ms_check.proofs.duplicates.functions_twice.Goals as goal
 

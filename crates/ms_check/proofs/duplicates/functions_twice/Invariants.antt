@@ -1,6 +1,6 @@
 use Rattle.std.proofs.Common.{◌≡◌, drop}
 use Rattle.std.specs.Prelude.{slice_get}
-use Rattle.ms_valid.specs.NamesOnce.{function_duplicates}
+use Rattle.ms_check_valid.specs.NamesOnce.{function_duplicates}
 use Rattle.ms_check.proofs.duplicates.functions_twice.Given as goal
 
 abbrev pub invariant-loop-func : goal.invariant-loop-func

@@ -2,7 +2,7 @@ use Rattle.std.proofs.Common.{◌∙◌, ap}
 use Rattle.std.specs.Prelude.{slice_get}
 use Rattle.std.proofs.lemmas.Result.{IfOk-weaker}
 use Rattle.ms_ir.specs.Locals.{locals}
-use Rattle.ms_valid.specs.NamesOnce.{repeats}
+use Rattle.ms_check_valid.specs.NamesOnce.{repeats}
 use Rattle.ms_check.proofs.duplicates.local_twice.Goals as goal
 
 pub returns : goal.returns

@@ -3,9 +3,9 @@ use Rattle.std.specs.Prelude.{slice_get}
 use Rattle.std.specs.Option.{option_copied}
 use Rattle.std.proofs.lemmas.Result.{IfOk-weaker}
 use Rattle.ms_ir.specs.Locals.{global_names, declared_names}
-use Rattle.ms_valid.specs.NamesOnce.{repeats}
-use Rattle.ms_tables.proofs.Items.{under_none, none_then}
-use Rattle.ms_tables.proofs.Given.{given_is}
+use Rattle.ms_check_valid.specs.NamesOnce.{repeats}
+use Rattle.ms_check_tables.proofs.Items.{under_none, none_then}
+use Rattle.ms_check_tables.proofs.Given.{given_is}
 use Rattle.ms_check.proofs.Repeated.{first_answers, second_answers}
 use Rattle.ms_check.proofs.duplicates.symbol_twice.Goals as goal
 

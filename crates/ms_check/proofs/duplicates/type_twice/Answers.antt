@@ -1,8 +1,8 @@
 use Rattle.std.proofs.Common.{[], ◌∙◌, ap, Some, filter_map}
 use Rattle.std.specs.Prelude.{slice_get}
 use Rattle.std.proofs.lemmas.Result.{IfOk-weaker}
-use Rattle.ms_valid.specs.NamesOnce.{repeats}
-use Rattle.ms_tables.proofs.Given.{given_is}
+use Rattle.ms_check_valid.specs.NamesOnce.{repeats}
+use Rattle.ms_check_tables.proofs.Given.{given_is}
 use Rattle.ms_check.proofs.duplicates.type_twice.Goals as goal
 
 pub returns : goal.returns

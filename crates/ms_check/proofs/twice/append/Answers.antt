@@ -1,6 +1,6 @@
 use Rattle.std.proofs.Common.{[], ◌∷◌, is_some, sym, ◌∙◌, ap, if◌then◌else◌}
 use Rattle.std.specs.Prelude.{slice_get}
-use Rattle.ms_tables.proofs.Places.{place_tells}
+use Rattle.ms_check_tables.proofs.Places.{place_tells}
 use Rattle.ms_check.proofs.twice.append.Goals as goal
 
 pub returns-in-Some-clause-first : goal.returns-in-Some-clause-first

@@ -1,8 +1,8 @@
 use Rattle.std.proofs.Common.{sym, ◌∙◌, ap}
 use Rattle.std.specs.Option.{option_copied}
-use Rattle.ms_tables.proofs.Items.{none_left}
+use Rattle.ms_check_tables.proofs.Items.{none_left}
 use Rattle.ms_check.proofs.Given.{given_passed}
-use Rattle.ms_tables.proofs.Given.{given_seen}
+use Rattle.ms_check_tables.proofs.Given.{given_seen}
 use Rattle.ms_check.proofs.twice.first_twice.Goals as goal
 
 pub loop-part-preserved : goal.loop-part-preserved

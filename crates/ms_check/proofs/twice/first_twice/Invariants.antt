@@ -1,6 +1,6 @@
 use Rattle.std.proofs.Common.{◌≡◌, ◌++◌, filter_map, take, drop}
 use Rattle.std.specs.Prelude.{slice_get}
-use Rattle.ms_valid.specs.NamesOnce.{repeats}
+use Rattle.ms_check_valid.specs.NamesOnce.{repeats}
 use Rattle.ms_check.proofs.twice.first_twice.Given as goal
 
 abbrev pub invariant-loop-part : goal.invariant-loop-part

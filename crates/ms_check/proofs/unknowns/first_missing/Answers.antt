@@ -5,7 +5,7 @@ use Rattle.std.proofs.Math.Path.{ap₂}
 use Rattle.std.proofs.lemmas.Result.{IfOk-weaker}
 use Rattle.ms_ir.specs.Locals.{type_names, symbols}
 use Rattle.ms_ir.specs.Spots.{found_at_insts}
-use Rattle.ms_tables.specs.Sought.{first_sought}
+use Rattle.ms_check_tables.specs.Sought.{first_sought}
 use Rattle.ms_check.specs.Known.{is_missing}
 use Rattle.ms_check.proofs.Sited.{at_site, missing_look, written_outside, unknowns_is}
 use Rattle.ms_check.proofs.unknowns.first_missing.Goals as goal

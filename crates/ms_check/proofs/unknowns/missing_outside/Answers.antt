@@ -3,9 +3,9 @@ use Rattle.std.specs.Prelude.{flat_map}
 use Rattle.std.specs.Option.{option_or}
 use Rattle.std.proofs.Math.Path.{ap₂}
 use Rattle.ms_ir.specs.Written.{type_mentions}
-use Rattle.ms_valid.specs.NamesKnown.{global_mentions}
-use Rattle.ms_tables.specs.Sought.{first_sought}
-use Rattle.ms_tables.proofs.Mentioned.{sought-append}
+use Rattle.ms_check_valid.specs.NamesKnown.{global_mentions}
+use Rattle.ms_check_tables.specs.Sought.{first_sought}
+use Rattle.ms_check_tables.proofs.Mentioned.{sought-append}
 use Rattle.ms_check.specs.Known.{is_missing}
 use Rattle.ms_check.proofs.Sited.{written_outside}
 use Rattle.ms_check.proofs.unknowns.missing_outside.Goals as goal

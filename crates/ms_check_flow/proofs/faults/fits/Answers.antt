@@ -3,7 +3,7 @@ use Rattle.ms_ir.specs.declared.syntax.Block.{Block}
 use Rattle.ms_ir.specs.Equal.{has_name}
 use Rattle.ms_ir.specs.Spots.{spot}
 use Rattle.ms_ir.specs.Written.{targets}
-use Rattle.ms_valid.specs.FlowGraph.{name_place}
+use Rattle.ms_check_valid.specs.FlowGraph.{name_place}
 use Rattle.ms_check_flow.proofs.Operands.{plain_fits}
 use Rattle.ms_check_flow.proofs.PhiRows.{block_there, number_within, row_within, phi_judged, if_ok_then}
 use Rattle.ms_check_flow.proofs.faults.fits.Goals as goal

@@ -1,4 +1,4 @@
-use Rattle.ms_valid.specs.FlowGraph.{name_place}
+use Rattle.ms_check_valid.specs.FlowGraph.{name_place}
 use Rattle.ms_check_flow.proofs.Appended.{definition_appended}
 use Rattle.ms_check_flow.proofs.graphs.defs_of.Goals as goal
 

@@ -1,5 +1,5 @@
 use Rattle.std.proofs.Common.{◌≡◌, map, take}
-use Rattle.ms_valid.specs.FlowGraph.{name_place}
+use Rattle.ms_check_valid.specs.FlowGraph.{name_place}
 use Rattle.ms_check_flow.proofs.phis.put_labels.Given as goal
 
 abbrev pub invariant-loop-edge : goal.invariant-loop-edge

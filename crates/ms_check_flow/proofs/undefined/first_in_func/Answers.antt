@@ -4,12 +4,12 @@ use Rattle.std.proofs.lemmas.List.{length-map}
 use Rattle.ms_flow.specs.Paths as flow
 use Rattle.ms_flow.specs.declared.graphs.Graph.{Graph}
 use Rattle.ms_flow.specs.declared.graphs.Use.{Use}
-use Rattle.ms_valid.specs.FlowGraph.{graph_of}
-use Rattle.ms_valid.specs.Paths.{block_successors}
-use Rattle.ms_check_flow.specs.declared.here.NotedUse.{NotedUse}
+use Rattle.ms_check_valid.specs.FlowGraph.{graph_of}
+use Rattle.ms_check_valid.specs.Paths.{block_successors}
+use Rattle.ms_check_flow.specs.declared.inst_uses.NotedUse.{NotedUse}
 use Rattle.ms_check_flow.specs.Asked.{func_uses, IsFirstOf}
 use Rattle.ms_check_flow.specs.Noted.{numbers_in, blocks_noted}
-use Rattle.ms_valid.proofs.SmallNumbers.{blocks_written}
+use Rattle.ms_check_valid.proofs.SmallNumbers.{blocks_written}
 use Rattle.ms_check_flow.proofs.PathCounts.{blocks_few}
 use Rattle.ms_check_flow.proofs.Judged.{InBlock, func_own, place_of, places_of, places_within, all_defined, first_found}
 use Rattle.ms_check_flow.proofs.Ties.{asked, func_tied}
@@ -48,7 +48,7 @@ returns-in-None-clause-none c =
     let uses = map place_of c.in_ok-asked.asked.noted.items in
     let places : uses ≡ places_of (func_uses f site) = ap (map place_of) (c.in_ok-asked.ensures.asked.noted ∙ func_tied f site) in
     let all = c.in_ok-first_missing.ensures.none.0 (ap is_some c.in-None.is) in
-    all_defined f c.graph_paths.ensures.uses (func_uses f site) (func_own f site) c.requires.values
+    all_defined f c.law_graph_paths.ensures.uses (func_uses f site) (func_own f site) c.requires.values
     (subst (All (flow.IsDefined (graph_of f))) places (subst (λ (g : Graph). All (flow.IsDefined g) uses) c.in_ok-asked.ensures.asked.graph all))
 
 pub returns-clause-first : goal.returns-clause-first
@@ -68,7 +68,7 @@ returns-clause-first c =
     let once = subst (λ o. IfSome o (λ m. AllPairs (λ a b. a ≢ b) m.path)) c.in-Some.is c.in_ok-first_missing.ensures.once in
     let within : which < length (asked (func_uses f site)) = omega (arith, in_range, ap length places, length-map (asked (func_uses f site)) place_of) in
     subst (λ (p : List ℕ). IsFirstOf (func_uses f site) c.undefined_at.result.site p) (sym c.undefined_at.ensures.path)
-    (first_found f c.graph_paths.ensures.uses c.graph_paths.ensures.missed (func_uses f site) (func_own f site) c.requires.values which path c.undefined_at.result.site
+    (first_found f c.law_graph_paths.ensures.uses c.law_graph_paths.ensures.missed (func_uses f site) (func_own f site) c.requires.values which path c.undefined_at.result.site
     within
     (subst (λ (us : List Use). All (flow.IsDefined (graph_of f)) (take which us)) places (subst (λ (g : Graph). All (flow.IsDefined g) (take which uses)) same least))
     (subst (λ (us : List Use). IfSome (slice_get us which) (λ u. flow.Misses (graph_of f) u path)) places

@@ -1,7 +1,7 @@
 use Rattle.std.proofs.Common.{◌≡◌, ◌<◌, ◌≤◌, List, ap, subst, ◌∙◌, arith, length}
 use Rattle.std.specs.Prelude.{All, IfNone, IfSome, slice_index_or}
 use Rattle.ms_ir.specs.declared.syntax.Func.{Func}
-use Rattle.ms_valid.specs.UsesDefined.{IsUseDefined}
+use Rattle.ms_check_valid.specs.UsesDefined.{IsUseDefined}
 use Rattle.ms_check_flow.specs.Asked.{func_uses, IsFirstOf}
 use Rattle.ms_check_flow.proofs.Passing.{can_be_asked, func_passed, few_left, all_passed, func_refused}
 use Rattle.ms_check_flow.proofs.undefined.first_undefined.Goals as goal

@@ -1,6 +1,6 @@
 use Rattle.std.proofs.Common.{◌≡◌, ◌+◌, ◌<◌, ◌^◌, drop}
 use Rattle.ms_ir.specs.Instructions.{over_funcs}
-use Rattle.ms_valid.specs.Formed.{count_written}
+use Rattle.ms_check_valid.specs.Formed.{count_written}
 use Rattle.ms_check_flow.proofs.Passing.{uses_from, IsPassed}
 use Rattle.ms_check_flow.proofs.undefined.first_undefined.Given as goal
 

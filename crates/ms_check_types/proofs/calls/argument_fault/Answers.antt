@@ -1,7 +1,7 @@
 use Rattle.std.proofs.Common.{◌≡◌, true, ap, sym, ◌∙◌, arith, Some, length}
 use Rattle.std.specs.Prelude.{slice_get}
 use Rattle.ms_check_types.specs.Arguments.{fits_parameter}
-use Rattle.ms_valid.specs.TypesAgree.{fits_call}
+use Rattle.ms_check_valid.specs.TypesAgree.{fits_call}
 use Rattle.ms_check_types.specs.Bodies.{fits_in, module_of}
 use Rattle.ms_check_types.specs.Callees.{callee_signature}
 use Rattle.ms_check_types.proofs.Arguments.{argument_found, argument_passed, argument_missing, known_parameter}

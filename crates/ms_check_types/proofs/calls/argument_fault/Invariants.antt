@@ -1,5 +1,5 @@
 use Rattle.std.proofs.Common.{◌≡◌, ◌≤◌, length, drop}
-use Rattle.ms_valid.specs.TypesAgree.{argument_fault, fits_call}
+use Rattle.ms_check_valid.specs.TypesAgree.{argument_fault, fits_call}
 use Rattle.ms_check_types.specs.Bodies.{fits_in, module_of}
 use Rattle.ms_check_types.specs.Callees.{callee_signature}
 use Rattle.ms_check_types.proofs.calls.argument_fault.Given as goal

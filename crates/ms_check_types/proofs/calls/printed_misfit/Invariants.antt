@@ -1,6 +1,6 @@
 use Rattle.std.proofs.Common.{◌≡◌, ◌+◌, drop}
 use Rattle.std.specs.Prelude.{◌&&◌}
-use Rattle.ms_valid.specs.TypesAgree.{first_misfit, is_printable}
+use Rattle.ms_check_valid.specs.TypesAgree.{first_misfit, is_printable}
 use Rattle.ms_check_types.specs.Bodies.{fits_in}
 use Rattle.ms_check_types.proofs.calls.printed_misfit.Given as goal
 

@@ -1,5 +1,5 @@
 use Rattle.std.proofs.Common.{◌≡◌, true, false, sym, ◌∙◌, arith}
-use Rattle.ms_valid.specs.SizesFit.{sized, func_types}
+use Rattle.ms_check_valid.specs.SizesFit.{sized, func_types}
 use Rattle.ms_check_types.specs.SizedParts.{func_faults}
 use Rattle.ms_check_types.proofs.AllSized.{func_sized}
 use Rattle.ms_check_types.proofs.FirstFaults.{fault_here, fault_after, is_spelled, not_spelled}

@@ -1,6 +1,6 @@
 use Rattle.std.proofs.Common.{ap, sym, ◌∙◌}
 use Rattle.std.specs.Prelude.{slice_get, flat_map}
-use Rattle.ms_valid.specs.SizesFit.{unsized_globals}
+use Rattle.ms_check_valid.specs.SizesFit.{unsized_globals}
 use Rattle.ms_check_types.specs.SizedParts.{func_faults}
 use Rattle.ms_check_types.proofs.FirstFaults.{first_of_two, first_of_first}
 use Rattle.ms_check_types.proofs.faults.first_symbol.Goals as goal

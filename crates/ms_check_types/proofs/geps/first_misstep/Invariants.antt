@@ -1,5 +1,5 @@
 use Rattle.std.proofs.Common.{◌≡◌, ◌+◌, drop}
-use Rattle.ms_valid.specs.TypesAgree.{first_misstep}
+use Rattle.ms_check_valid.specs.TypesAgree.{first_misstep}
 use Rattle.ms_check_types.specs.Bodies.{fits_in, types_of}
 use Rattle.ms_check_types.proofs.geps.first_misstep.Given as goal
 

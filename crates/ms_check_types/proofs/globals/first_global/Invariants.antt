@@ -1,6 +1,6 @@
 use Rattle.std.proofs.Common.{◌≡◌, ◌≤◌, ◌^◌}
 use Rattle.std.specs.Prelude.{slice_get}
-use Rattle.ms_valid.specs.SizesFit.{unsized_globals}
+use Rattle.ms_check_valid.specs.SizesFit.{unsized_globals}
 use Rattle.ms_check_types.proofs.GlobalSizes.{first_global_from}
 use Rattle.ms_check_types.proofs.globals.first_global.Given as goal
 

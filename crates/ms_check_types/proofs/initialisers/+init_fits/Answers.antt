@@ -1,8 +1,8 @@
 use Rattle.std.proofs.Common.{ap, ◌∙◌, None, length}
 use Rattle.std.specs.List.{list_all}
 use Rattle.ms_ir.specs.Layout.{resolved}
-use Rattle.ms_valid.specs.Initialisers.{item_types, field_types}
-use Rattle.ms_valid.specs.TypesAgree.{operand_fits}
+use Rattle.ms_check_valid.specs.Initialisers.{item_types, field_types}
+use Rattle.ms_check_valid.specs.TypesAgree.{operand_fits}
 use Rattle.ms_check_types.specs.Items.{item_fits, each_fits, all_fit}
 use Rattle.ms_check_types.proofs.Items.{array_items, struct_fields, whole_array, whole_struct, other_count}
 use Rattle.ms_check_types.proofs.initialisers.+init_fits.Goals as goal

@@ -3,7 +3,7 @@ use Rattle.std.specs.Prelude.{None}
 use Rattle.std.specs.List.{list_all}
 use denote.Param.Weighed.{most}
 use Rattle.ms_ir.specs.declared.syntax.Init.{size-Init}
-use Rattle.ms_valid.specs.TypesAgree.{operand_fits}
+use Rattle.ms_check_valid.specs.TypesAgree.{operand_fits}
 use Rattle.ms_check_types.specs.Items.{item_fits, each_fits}
 use Rattle.ms_check_types.proofs.initialisers.+init_fits.Given as goal
 

@@ -3,7 +3,7 @@ use Rattle.std.specs.Prelude.{nat_eq}
 use Rattle.std.specs.List.{list_any}
 use Rattle.std.specs.Ordering.{nat_cmp}
 use Rattle.std.specs.BTreeSet.{contains}
-use Rattle.ms_valid.specs.TypesAgree.{differ}
+use Rattle.ms_check_valid.specs.TypesAgree.{differ}
 use Rattle.ms_check_types.proofs.jumps.differ.Given as goal
 
 abbrev pub invariant-loop-place : goal.invariant-loop-place

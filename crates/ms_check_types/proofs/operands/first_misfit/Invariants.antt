@@ -1,6 +1,6 @@
 use Rattle.std.proofs.Common.{◌≡◌, drop}
 use Rattle.ms_ir.specs.Instructions.{operands}
-use Rattle.ms_valid.specs.TypesAgree.{first_misfit}
+use Rattle.ms_check_valid.specs.TypesAgree.{first_misfit}
 use Rattle.ms_check_types.specs.Bodies.{fits_in}
 use Rattle.ms_check_types.proofs.operands.first_misfit.Given as goal
 

@@ -1,6 +1,6 @@
 use Rattle.std.proofs.Common.{◌≡◌, drop, true}
 use Rattle.std.specs.Prelude.{is_none}
-use Rattle.ms_valid.specs.TypesAgree.{first_misstep, constant_indices}
+use Rattle.ms_check_valid.specs.TypesAgree.{first_misstep, constant_indices}
 use Rattle.ms_check_types.proofs.steps.leads_on.Given as goal
 
 abbrev pub invariant-loop-index_ty : goal.invariant-loop-index_ty

@@ -10,11 +10,11 @@ use Rattle.ms_fork.proofs.Rows.{by_each}
 use Rattle.ms_corpus.specs.Jobs.{with_input}
 use Rattle.ms_corpus.proofs.jobs.run_all.Goals as goal
 
-pub by_halves-requires-sync-W : goal.by_halves-requires-sync-W
-by_halves-requires-sync-W g c κs within = search (CheckedModule-sync, List-sync, Crossing.crosses, sendable) depth 60 fits 20000
+pub parallel_map-requires-sync-W : goal.parallel_map-requires-sync-W
+parallel_map-requires-sync-W g c κs within = search (CheckedModule-sync, List-sync, Crossing.crosses, sendable) depth 60 fits 20000
 
 pub returns : goal.returns
 returns g c =
     let of_each : List ℕ → RunResult = λ input. plain c.args.j.now (with_input c.args.setup.now input) in
     let inputs = c.args.inputs.now in
-    IfOk-weaker c.by_halves.result _ (λ all. all ≡ map of_each inputs) (λ all made. made ∙ by_each of_each inputs []) c.by_halves.ensures
+    IfOk-weaker c.parallel_map.result _ (λ all. all ≡ map of_each inputs) (λ all made. made ∙ by_each of_each inputs []) c.parallel_map.ensures

@@ -1,5 +1,5 @@
 use Rattle.std.proofs.Common.{length, ap, arith}
-use Rattle.ms_tables.specs.FirstPlace.{first_place}
+use Rattle.ms_check_tables.specs.FirstPlace.{first_place}
 use Rattle.ms_elide.proofs.Steps.{all_rows}
 use Rattle.ms_elide.proofs.needs.needs_of.Goals as goal
 

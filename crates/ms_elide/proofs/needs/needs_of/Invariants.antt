@@ -1,5 +1,5 @@
 use Rattle.std.proofs.Common.{◌≡◌, ◌++◌, map, flat_map, take}
-use Rattle.ms_tables.specs.FirstPlace.{first_place}
+use Rattle.ms_check_tables.specs.FirstPlace.{first_place}
 use Rattle.ms_elide.specs.Needed.{row_needs, block_rows}
 use Rattle.ms_elide.proofs.needs.needs_of.Given as goal
 

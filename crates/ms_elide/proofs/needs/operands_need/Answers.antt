@@ -1,6 +1,6 @@
 use Rattle.std.proofs.Common.{[], ◌∷◌, map, Some, ap, sym, ◌∙◌, append-nil}
 use Rattle.ms_ir.specs.Instructions.{operands}
-use Rattle.ms_tables.specs.FirstPlace.{first_place}
+use Rattle.ms_check_tables.specs.FirstPlace.{first_place}
 use Rattle.ms_elide.proofs.Steps.{needs_more, needs_never}
 use Rattle.ms_elide.proofs.needs.operands_need.Goals as goal
 use Rattle.ms_elide.proofs.needs.operands_need.Goals.{in-Nothing, in-Local+in_ok-push-in-Local}

@@ -1,6 +1,6 @@
 use Rattle.std.proofs.Common.{◌≡◌, map, take, Some}
 use Rattle.ms_ir.specs.Instructions.{operands}
-use Rattle.ms_tables.specs.FirstPlace.{first_place}
+use Rattle.ms_check_tables.specs.FirstPlace.{first_place}
 use Rattle.ms_elide.specs.Needed.{all_needs}
 use Rattle.ms_elide.proofs.needs.operands_need.Given as goal
 

@@ -1,6 +1,6 @@
 use Rattle.std.proofs.Common.{map}
 use Rattle.std.proofs.lemmas.List.{map-append}
-use Rattle.ms_tables.specs.FirstPlace.{first_place}
+use Rattle.ms_check_tables.specs.FirstPlace.{first_place}
 use Rattle.ms_elide.specs.Needed.{row_needs, result_row}
 use Rattle.ms_elide.proofs.Steps.{one_result}
 use Rattle.ms_elide.proofs.needs.push_results.Goals as goal

@@ -1,6 +1,6 @@
 use Rattle.std.proofs.Common.{◌≡◌, Some, length, get_or, ap, ◌∙◌, arith}
 use Rattle.ms_ir.specs.Instructions.{func_at}
-use Rattle.ms_valid.proofs.TypedValues.{names_stand_once}
+use Rattle.ms_check_valid.proofs.TypedValues.{names_stand_once}
 use Rattle.ms_elide.proofs.ByFunction.{there, one_longer, first_more, first_all}
 use Rattle.ms_elide.proofs.sets.values_by_function.Goals as goal
 

@@ -2,7 +2,7 @@ use Rattle.std.proofs.Common.{◌≡◌, ◌<◌, ◌↔◌, ℕ, Some, IsTrue, 
 use Rattle.ms_ir.specs.declared.syntax.Name.{Name}
 use Rattle.ms_ir.specs.declared.syntax.Func.{Func}
 use Rattle.ms_ir.specs.Instructions.{func_at}
-use Rattle.ms_valid.specs.CleanValues.{IsClean}
+use Rattle.ms_check_valid.specs.CleanValues.{IsClean}
 use Rattle.ms_elide.specs.CleanSets.{is_in}
 use Rattle.ms_elide.proofs.sets.values_by_function.Given as goal
 

@@ -1,6 +1,6 @@
 use Rattle.std.proofs.Common.{ℕ, ◌↔◌, ◌∙◌, List, false, Option, IsTrue, get_or, subst}
 use Rattle.std.specs.Prelude.{IfOk}
-use Rattle.ms_tables.specs.FirstPlace.{first_place}
+use Rattle.ms_check_tables.specs.FirstPlace.{first_place}
 use Rattle.ms_elide.specs.SelfSupport.{IsInGreatest}
 use Rattle.ms_elide.proofs.Within.{needs_within}
 use Rattle.ms_elide.proofs.values.clean_places.Goals as goal

@@ -5,8 +5,8 @@ use Rattle.ms_ir.specs.declared.syntax.Name.{Name}
 use Rattle.ms_ir.specs.declared.syntax.Module.{Module}
 use Rattle.ms_ir.specs.Equal.{has_name}
 use Rattle.ms_ir.specs.Locals.{results, func_insts, function_names}
-use Rattle.ms_valid.specs.CleanValues.{IsClean}
-use Rattle.ms_tables.specs.FirstPlace.{first_place}
+use Rattle.ms_check_valid.specs.CleanValues.{IsClean}
+use Rattle.ms_check_tables.specs.FirstPlace.{first_place}
 use Rattle.ms_elide.specs.SelfSupport.{IsInGreatest}
 use Rattle.ms_elide.specs.Needed.{is_member, row_needs, rows}
 use Rattle.ms_elide.proofs.Exact.{clean_names}

@@ -1,7 +1,7 @@
 use Rattle.std.proofs.Common.{◌≡◌, sym, subst, rules}
-use Rattle.ms_valid.specs.Formed.{Formed}
-use Rattle.ms_valid.specs.Valid.{Valid}
-use Rattle.ms_valid.specs.Uninstrumented.{CanInstrument}
+use Rattle.ms_check_valid.specs.Formed.{Formed}
+use Rattle.ms_check_valid.specs.Valid.{Valid}
+use Rattle.ms_check_valid.specs.Uninstrumented.{CanInstrument}
 use Rattle.ms_gen.specs.Generator.{generated}
 use Rattle.ms_gen.proofs.Generated.{formed, valid, plain}
 use Rattle.ms_gen.proofs.modules.generate.Goals as goal

@@ -14,4 +14,4 @@ pub returns-in-Err-clause-too_long : goal.returns-in-Err-clause-too_long
 returns-in-Err-clause-too_long g c = never_long c.in-Err.error _ c.in-Err.ensures.never_too_long
 
 pub returns-in-Ok-eq0-clause-bytes : goal.returns-in-Ok-eq0-clause-bytes
-returns-in-Ok-eq0-clause-bytes g c = subst (λ (bs : List ℕ). All (λ b. b < 2 ^ 8) bs) c.deref.ensures.value c.in_range.ensures
+returns-in-Ok-eq0-clause-bytes g c = subst (λ (bs : List ℕ). All (λ b. b < 2 ^ 8) bs) c.deref.ensures.value c.law_in_range.ensures

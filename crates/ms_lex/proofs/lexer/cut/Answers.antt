@@ -12,13 +12,13 @@ cut-preserved-then-first-eq59 c =
     let parts : c.cut.rest.now ≡ c.in-Some.first ∷ c.in-Some.after.now = grind (arith, common_steps) in
     let line = c.line_length-line.ensures.value in
     let more = comment_more c.args.text.now c.args.limit c.cut.found.items c.cut.place c.cut.rest.now c.in-Some.first c.in-Some.after.now c.cut.invariant parts (grind (arith, common_steps)) (grind (arith, common_steps)) (rw (← line) c.line_length-line.ensures.within) in
-    rw (c.behind-rest.ensures, line) more
+    rw (c.bytes_after-rest.ensures, line) more
 
 pub cut-preserved : goal.cut-preserved
 cut-preserved c =
     let parts : c.cut.rest.now ≡ c.in-Some.first ∷ c.in-Some.after.now = grind (arith, common_steps) in
     let more = one_more c.args.text.now c.args.limit c.cut.found.items c.cut.place c.cut.rest.now c.in-Some.first c.in-Some.after.now c.cut.invariant parts c.in-Some-token_at.kind c.in-Some-token_at.n (grind (arith, common_steps)) (grind (arith, common_steps)) (grind (arith, common_steps)) (grind (arith, common_steps)) (grind (arith, common_steps)) (omega arith) in
-    rw (c.behind-rest-in-Some-token_at.ensures, c.in_ok-push-in-Some-token_at.ensures.items) more
+    rw (c.bytes_after-rest-in-Some-token_at.ensures, c.in_ok-push-in-Some-token_at.ensures.items) more
 
 pub cut-preserved-then-is_blank : goal.cut-preserved-then-is_blank
 cut-preserved-then-is_blank c =

@@ -20,7 +20,7 @@ returns-clause-continues c = λ u beside later before after state call runs wait
     let m = c.args.m.now in
     let p = c.program.result.now in
     let old = c.args.fiber.now in
-    let is = state_to m p c.program.ensures c.is_valid.ensures.formed c.is_valid.ensures.valid u beside old before state runs in
+    let is = state_to m p c.program.ensures c.law_valid.ensures.formed c.law_valid.ensures.valid u beside old before state runs in
     resumed_from m p c.program.ensures u later call.asked state c.give_answer.new.fiber after
     (answered_on m p u beside old before state is call waiting later after fill slots c.give_answer.new.fiber c.give_answer.ensures.own c.args.value answer
     (c.give_answer.ensures.stands m u (waiter m p u beside old before state is call waiting) (below_it m p u beside old before state is call waiting) call c.program.ensures

@@ -5,8 +5,8 @@ use Rattle.ms_host.specs.Shows.{Shows}
 use Rattle.ms_machine.proofs.StartGlobals.{globals_made, never_full}
 use Rattle.ms_machine.proofs.starting.start_world.Goals as goal
 
-pub wanting-requires : goal.wanting-requires
-wanting-requires c = λ full.
+pub no_memory-requires : goal.no_memory-requires
+no_memory-requires c = λ full.
     never_full c.args.m.now c.args.extents.now c.as_slice-3.result.now c.args.words.now c.as_slice.result.now c.in_ok-world.world c.requires.valid c.requires.extents c.as_slice-3.ensures c.requires.words
     c.in_ok-world.ensures.shows (c.in-Err.ensures.full (ap Err full))
 

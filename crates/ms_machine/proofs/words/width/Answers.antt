@@ -1,6 +1,6 @@
 use Rattle.std.proofs.Common.{◌≡◌, true, subst}
 use Rattle.ms_ir.specs.ValueTypes.{type_of}
-use Rattle.ms_valid.specs.FormedCode.{is_value_type}
+use Rattle.ms_check_valid.specs.FormedCode.{is_value_type}
 use Rattle.ms_machine.proofs.Typing.{word_type}
 use Rattle.ms_machine.proofs.words.width.Goals as goal
 

@@ -1,6 +1,6 @@
 use Rattle.std.proofs.Common.{◌≡◌, ◌+◌, ◌++◌, ◌<◌, ◌^◌, drop}
 use Rattle.ms_ir.specs.Instructions.{over_blocks}
-use Rattle.ms_valid.specs.Formed.{count_written}
+use Rattle.ms_check_valid.specs.Formed.{count_written}
 use Rattle.ms_rules.specs.Scopes.{env_of, given_of}
 use Rattle.ms_pass.specs.Counted.{here_of, past_blocks}
 use Rattle.ms_pass.specs.Passed.{with_blocks}

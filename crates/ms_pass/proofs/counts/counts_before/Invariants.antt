@@ -1,6 +1,6 @@
 use Rattle.std.proofs.Common.{◌≡◌, map}
 use Rattle.std.specs.List.{range_with_len}
-use Rattle.ms_tables.specs.FirstPlace.{first_place}
+use Rattle.ms_check_tables.specs.FirstPlace.{first_place}
 use Rattle.ms_pass.specs.Passed.{before_func}
 use Rattle.ms_pass.proofs.counts.counts_before.Given as goal
 

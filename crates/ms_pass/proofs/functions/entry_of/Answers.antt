@@ -1,6 +1,6 @@
 use Rattle.std.proofs.Common.{ℕ, ◌+◌, ◌*◌, [], length, ap, ◌∙◌}
 use Rattle.ms_rules.specs.Scopes.{env_of}
-use Rattle.ms_tasks.specs.Tasks.{InsertedCode}
+use Rattle.ms_pass_tasks.specs.Tasks.{InsertedCode}
 use Rattle.ms_pass.specs.Passed.{first_number}
 use Rattle.ms_pass.proofs.Entered.{entry_is}
 use Rattle.ms_pass.proofs.functions.entry_of.Goals as goal

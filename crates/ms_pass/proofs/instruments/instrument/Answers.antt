@@ -6,10 +6,10 @@ use Rattle.ms_ir.specs.Instructions.{strip}
 use Rattle.ms_runs.specs.declared.runs.Setup.{Setup}
 use Rattle.ms_runs.specs.Faithful.{Fair, Faithful, Undisturbed}
 use Rattle.ms_runs.specs.Plain.{plain}
-use Rattle.ms_good_laws.specs.Fills.{InsertedUnderFills}
-use Rattle.ms_fills_laws.specs.Checked.{HoldsUnderFills}
-use Rattle.ms_fills_laws.specs.Chosen.{HoldsUnderChoices}
-use Rattle.ms_elide_laws.specs.Elided.{IsElided, ChecksUnclean}
+use Rattle.ms_runs_good_laws.specs.Fills.{InsertedUnderFills}
+use Rattle.ms_runs_fills_laws.specs.Checked.{HoldsUnderFills}
+use Rattle.ms_runs_fills_laws.specs.Chosen.{HoldsUnderChoices}
+use Rattle.ms_pass_form_laws.specs.Elided.{IsElided, ChecksUnclean}
 use Rattle.ms_pass.specs.Passed.{IsMadeOf}
 use Rattle.ms_pass.proofs.instruments.instrument.Goals as goal
 

@@ -4,19 +4,19 @@ use Rattle.ms_ir.specs.declared.syntax.Module.{Module}
 use Rattle.ms_ir.specs.Instructions.{func_at, strip}
 use Rattle.ms_ir.specs.Locals.{function_names}
 use Rattle.ms_runs.specs.Faithful.{Faithful}
-use Rattle.ms_valid.specs.Formed.{Formed}
-use Rattle.ms_valid.specs.Valid.{Valid}
+use Rattle.ms_check_valid.specs.Formed.{Formed}
+use Rattle.ms_check_valid.specs.Valid.{Valid}
 use Rattle.ms_runs_laws.proofs.SameOutput.{faithful_undisturbed}
-use Rattle.ms_fills_laws.proofs.Chosen.{checked_holds_chosen}
-use Rattle.ms_fills_laws.proofs.Whole.{inserted_fills, checked_holds}
-use Rattle.ms_tables.specs.FirstPlace.{first_place}
+use Rattle.ms_runs_fills_laws.proofs.Chosen.{checked_holds_chosen}
+use Rattle.ms_runs_fills_laws.proofs.Whole.{inserted_fills, checked_holds}
+use Rattle.ms_check_tables.specs.FirstPlace.{first_place}
 use Rattle.ms_elide.specs.CleanSets.{is_in, IsExact}
 use Rattle.ms_pass_laws.proofs.Unmarked.{module_strips}
 use Rattle.ms_pass_laws.proofs.Whole.{strip_pass}
-use Rattle.ms_elide_laws.specs.Checks.{check_calls}
-use Rattle.ms_elide_laws.specs.Eliding.{eliding, SaysExactly}
-use Rattle.ms_elide_laws.proofs.CheckCount.{checks_counted}
-use Rattle.ms_elide_laws.proofs.Elided.{faithful, formed_valid}
+use Rattle.ms_pass_form_laws.specs.Checks.{check_calls}
+use Rattle.ms_pass_form_laws.specs.Eliding.{eliding, SaysExactly}
+use Rattle.ms_pass_form_laws.proofs.CheckCount.{checks_counted}
+use Rattle.ms_pass_form_laws.proofs.Elided.{faithful, formed_valid}
 use Rattle.ms_pass.specs.Counted.{past_funcs, AreSmall}
 use Rattle.ms_pass.specs.Passed.{no_counts, passed_module}
 use Rattle.ms_pass.specs.Ready.{IsReady}
@@ -33,17 +33,17 @@ says_exactly m set exact = record {
 
 pub passed_module-requires-clause-ready : goal.passed_module-requires-clause-ready
 passed_module-requires-clause-ready g c κs within =
-    subst (λ (m : Module). All (IsReady m.types) m.funcs) (sym c.module.ensures) (module_ready c.args.m.now c.is_valid.ensures.formed c.is_valid.ensures.valid c.requires)
+    subst (λ (m : Module). All (IsReady m.types) m.funcs) (sym c.module.ensures) (module_ready c.args.m.now c.law_valid.ensures.formed c.law_valid.ensures.valid c.requires)
 
 pub passed_module-requires-clause-small : goal.passed_module-requires-clause-small
 passed_module-requires-clause-small g c κs within =
-    subst (λ (m : Module). AreSmall (past_funcs (first_place (function_names m)) no_counts m.funcs)) (sym c.module.ensures) (module_small c.args.m.now c.is_valid.ensures.formed)
+    subst (λ (m : Module). AreSmall (past_funcs (first_place (function_names m)) no_counts m.funcs)) (sym c.module.ensures) (module_small c.args.m.now c.law_valid.ensures.formed)
 
 pub returns : goal.returns
 returns g c =
     let m = c.args.m.now in
-    let formed = c.is_valid.ensures.formed in
-    let valid = c.is_valid.ensures.valid in
+    let formed = c.law_valid.ensures.formed in
+    let valid = c.law_valid.ensures.valid in
     let j = c.in_ok-module.module in
     let set = c.in_ok-values.values in
     let exact = says_exactly m set c.in_ok-values.ensures.exact in

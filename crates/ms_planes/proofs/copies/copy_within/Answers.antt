@@ -1,7 +1,7 @@
 use Rattle.std.proofs.Common.{ℕ, ◌+◌, ◌≤◌, List, length, sym, subst, ap, ◌∙◌, arith}
 use Rattle.ms_raw.specs.Blocks.{Lists}
-use Rattle.ms_planes.specs.declared.parts.Part.{Part}
-use Rattle.ms_planes.specs.declared.parts.Part.TheVariants.{Bytes, Shadow}
+use Rattle.ms_planes.specs.declared.parts.Plane.{Plane}
+use Rattle.ms_planes.specs.declared.parts.Plane.TheVariants.{Bytes, Shadow}
 use Rattle.ms_planes.specs.Areas.{held}
 use Rattle.ms_planes.specs.Blocks.{IsCopied}
 use Rattle.ms_planes.proofs.Copied.{copied-held, copied-length, cells-held, cells-length}
@@ -18,7 +18,7 @@ returns-in-Bytes c =
       origins = e.origins;
       cells = ap (λ (xs : List ℕ). length xs) e.origins;
     } in
-    subst (λ (q : Part). IsCopied q l l c.copy_within.new.self c.args.to c.args.from c.args.n) (sym c.in-Bytes.is) done
+    subst (λ (q : Plane). IsCopied q l l c.copy_within.new.self c.args.to c.args.from c.args.n) (sym c.in-Bytes.is) done
 
 pub returns-in-Shadow : goal.returns-in-Shadow
 returns-in-Shadow c =
@@ -33,4 +33,4 @@ returns-in-Shadow c =
       origins = ap held e.origins ∙ cells-held l.shadow l.origins c.args.to c.args.from c.args.n l.origins (omega (arith, c.requires.to, c.requires.whole.origins));
       cells = ap (λ (xs : List ℕ). length xs) e.origins ∙ cells-length l.shadow l.origins c.args.to c.args.from c.args.n l.origins;
     } in
-    subst (λ (q : Part). IsCopied q l l c.copy_shadow_within.new.self c.args.to c.args.from c.args.n) (sym c.in-Shadow.is) done
+    subst (λ (q : Plane). IsCopied q l l c.copy_shadow_within.new.self c.args.to c.args.from c.args.n) (sym c.in-Shadow.is) done

@@ -2,7 +2,7 @@ use Rattle.std.proofs.Common.{◌≡◌, ℕ, ◌+◌, ◌-◌, ◌%◌, length,
 use Rattle.std.proofs.lemmas.List.{length-set}
 use Rattle.ms_bits.specs.Fill.{made_byte}
 use Rattle.ms_bits.specs.Maps.{with_range}
-use Rattle.ms_planes.specs.declared.parts.Part.TheVariants.{Bytes}
+use Rattle.ms_planes.specs.declared.parts.Plane.TheVariants.{Bytes}
 use Rattle.ms_planes.specs.Areas.{held}
 use Rattle.ms_planes.proofs.Ranges.{range-more}
 use Rattle.ms_planes.proofs.Rounds.{mod-next, mod-wrap, byte-made}

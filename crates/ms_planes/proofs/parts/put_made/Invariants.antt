@@ -3,7 +3,7 @@ use Rattle.ms_bits.specs.Maps.{with_range}
 use Rattle.ms_bits.specs.Fill.{made_byte}
 use Rattle.ms_planes.specs.Areas.{held}
 use Rattle.ms_planes.specs.Blocks.{KeepsOthers}
-use Rattle.ms_planes.specs.declared.parts.Part.TheVariants.{Bytes}
+use Rattle.ms_planes.specs.declared.parts.Plane.TheVariants.{Bytes}
 use Rattle.ms_planes.proofs.parts.put_made.Given as goal
 
 abbrev pub invariant-loop-i : goal.invariant-loop-i

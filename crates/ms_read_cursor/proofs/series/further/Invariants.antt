@@ -3,7 +3,7 @@ use Rattle.ms_read_cursor.specs.Reading.{run}
 use Rattle.ms_read_cursor.specs.Lists.{further}
 use Rattle.ms_read_cursor.proofs.series.further.Given as goal
 
--- what comes behind what was read is what came behind the start
+-- what comes after what was read is what came after the start
 abbrev pub invariant-commas : goal.invariant-commas
 invariant-commas g l =
     run (further (g.S.Series.more l.rule) (g.S.Series.item l.rule) l.fn.start) l.fn.tokens

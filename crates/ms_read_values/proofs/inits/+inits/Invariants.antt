@@ -31,7 +31,7 @@ decreases-nested_init l = 8 * l.depth + 6
 abbrev pub decreases-some_parts : goal.decreases-some_parts
 decreases-some_parts l = 8 * l.depth + 3
 
--- what comes behind what was found is what came behind the start
+-- what comes after what was found is what came after the start
 abbrev pub invariant-more_parts-commas : goal.invariant-more_parts-commas
 invariant-more_parts-commas l =
     run (further_items (part_of l.form l.depth) l.fn.start) l.fn.tokens

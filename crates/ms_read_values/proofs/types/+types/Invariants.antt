@@ -31,7 +31,7 @@ decreases-nested l = 7 * l.depth + 6
 abbrev pub decreases-some_fields : goal.decreases-some_fields
 decreases-some_fields l = 7 * l.depth + 3
 
--- what comes behind what was found is what came behind the start
+-- what comes after what was found is what came after the start
 abbrev pub invariant-more_fields-commas : goal.invariant-more_fields-commas
 invariant-more_fields-commas l =
     run (further_items (type_to l.form l.depth) l.fn.start) l.fn.tokens

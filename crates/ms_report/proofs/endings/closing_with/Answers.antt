@@ -1,4 +1,4 @@
-use Rattle.ms_valid.proofs.SmallNumbers.{small_numbers}
+use Rattle.ms_check_valid.proofs.SmallNumbers.{small_numbers}
 use Rattle.ms_report.proofs.endings.closing_with.Goals as goal
 
 pub push_closing-requires : goal.push_closing-requires

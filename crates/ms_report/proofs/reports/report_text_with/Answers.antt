@@ -1,4 +1,4 @@
-use Rattle.ms_valid.proofs.SmallNumbers.{small_numbers}
+use Rattle.ms_check_valid.proofs.SmallNumbers.{small_numbers}
 use Rattle.ms_report.proofs.reports.report_text_with.Goals as goal
 
 pub text_of-requires-clause-numbers : goal.text_of-requires-clause-numbers

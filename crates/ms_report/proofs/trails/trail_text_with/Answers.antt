@@ -1,4 +1,4 @@
-use Rattle.ms_valid.proofs.SmallNumbers.{small_numbers}
+use Rattle.ms_check_valid.proofs.SmallNumbers.{small_numbers}
 use Rattle.ms_report.proofs.trails.trail_text_with.Goals as goal
 
 pub push_trail-requires : goal.push_trail-requires

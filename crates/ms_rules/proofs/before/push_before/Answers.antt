@@ -1,13 +1,13 @@
 use Rattle.std.proofs.Common.{◌≡◌, ◌++◌, map, ap, subst, ◌∙◌}
 use Rattle.std.specs.Prelude.{OnOk}
 use Rattle.ms_ir.specs.Instructions.{operands}
-use Rattle.ms_tasks.specs.Environments.{tracked}
+use Rattle.ms_pass_tasks.specs.Environments.{tracked}
 use Rattle.ms_runs.specs.Uses.{uses}
-use Rattle.ms_tasks.specs.CheckTasks.{check_tasks, blind_tasks, blinded_of}
-use Rattle.ms_tasks.specs.PlaneTasks.{save_tasks}
-use Rattle.ms_tasks.specs.ResultTasks.{result_tasks}
-use Rattle.ms_tasks.specs.Emit.{own_tasks}
-use Rattle.ms_tasks.specs.SlotTasks.{hand_tasks}
+use Rattle.ms_pass_tasks.specs.CheckTasks.{check_tasks, blind_tasks, blinded_of}
+use Rattle.ms_pass_tasks.specs.PlaneTasks.{save_tasks}
+use Rattle.ms_pass_tasks.specs.ResultTasks.{result_tasks}
+use Rattle.ms_pass_tasks.specs.Emit.{own_tasks}
+use Rattle.ms_pass_tasks.specs.SlotTasks.{hand_tasks}
 use Rattle.ms_rules_builder.specs.Made.{with_tasks}
 use Rattle.ms_rules_builder.specs.Steps.{tracked_of}
 use Rattle.ms_rules.specs.Around.{here_of}

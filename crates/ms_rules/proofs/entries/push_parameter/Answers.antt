@@ -1,6 +1,6 @@
 use Rattle.std.proofs.Common.{◌≡◌, subst}
 use Rattle.std.specs.Prelude.{OnOk}
-use Rattle.ms_tasks.specs.SlotTasks.{param_mask, param_origin}
+use Rattle.ms_pass_tasks.specs.SlotTasks.{param_mask, param_origin}
 use Rattle.ms_rules_builder.specs.Made.{with_tasks}
 use Rattle.ms_rules.proofs.Taking.{take_numbered}
 use Rattle.ms_rules.proofs.entries.push_parameter.Goals as goal

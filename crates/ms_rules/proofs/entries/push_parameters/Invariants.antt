@@ -1,5 +1,5 @@
 use Rattle.std.proofs.Common.{◌≡◌, drop}
-use Rattle.ms_tasks.specs.SlotTasks.{take_parameters}
+use Rattle.ms_pass_tasks.specs.SlotTasks.{take_parameters}
 use Rattle.ms_rules_builder.specs.Made.{with_tasks}
 use Rattle.ms_rules.specs.Scopes.{env_of}
 use Rattle.ms_rules.proofs.entries.push_parameters.Given as goal

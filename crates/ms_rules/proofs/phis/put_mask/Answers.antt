@@ -3,7 +3,7 @@ use Rattle.std.proofs.Math.Path.{ap₂}
 use Rattle.std.proofs.lemmas.Result.{on_ok_weaker}
 use Rattle.ms_ir.specs.declared.syntax.Ty.{Int}
 use Rattle.ms_ir.specs.declared.syntax.Op.TheVariants as op
-use Rattle.ms_tasks.specs.Tasks.{inserted, mask_name}
+use Rattle.ms_pass_tasks.specs.Tasks.{inserted, mask_name}
 use Rattle.ms_rules.specs.Placed.{with_insts}
 use Rattle.ms_rules.proofs.phis.put_mask.Goals as goal
 

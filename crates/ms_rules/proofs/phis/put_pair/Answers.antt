@@ -1,8 +1,8 @@
 use Rattle.std.proofs.Common.{[], ◌∷◌, Some, map}
 use Rattle.ms_ir.specs.declared.syntax.Ty.{Int}
 use Rattle.ms_ir.specs.declared.syntax.Op.TheVariants as op
-use Rattle.ms_tasks.specs.Tasks.{inserted, mask_name, origin_name}
-use Rattle.ms_tasks.specs.Environments.{mask_type}
+use Rattle.ms_pass_tasks.specs.Tasks.{inserted, mask_name, origin_name}
+use Rattle.ms_pass_tasks.specs.Environments.{mask_type}
 use Rattle.ms_rules.specs.Edges.{masks, origins, with_operands, with_first}
 use Rattle.ms_rules.proofs.Adding.{insts_with}
 use Rattle.ms_rules.proofs.phis.put_pair.Goals as goal

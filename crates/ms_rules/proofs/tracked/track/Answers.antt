@@ -1,7 +1,7 @@
 use Rattle.std.proofs.Common.{◌≡◌, ◌+◌, map, length, refl, sym, subst, ap, ◌∙◌, arith}
 use Rattle.std.proofs.lemmas.List.{length-map}
 use Rattle.ms_ir.specs.Instructions.{operands, count_undefs}
-use Rattle.ms_tasks.specs.Environments.{tracked}
+use Rattle.ms_pass_tasks.specs.Environments.{tracked}
 use Rattle.ms_rules_builder.specs.Steps.{tracked_of}
 use Rattle.ms_rules.specs.Scopes.{env_of}
 use Rattle.ms_rules.proofs.Operands.{Tracks, tracks_none, tracks_more, tracks_all}
@@ -26,7 +26,7 @@ pub loop-place-preserved : goal.loop-place-preserved
 loop-place-preserved c =
     let e = c.in_ok-push_operand.ensures in
     record {
-      tracks = tracks_more (env_of c.args.scope.now) c.args.root (operands c.args.op.now) c.loop-place.place _ _ _ _ (omega arith) e.are e.behind c.loop-place.invariant.tracks;
+      tracks = tracks_more (env_of c.args.scope.now) c.args.root (operands c.args.op.now) c.loop-place.place _ _ _ _ (omega arith) e.are e.after c.loop-place.invariant.tracks;
       before = e.before ∙ c.loop-place.invariant.before;
     }
 
@@ -34,9 +34,9 @@ pub returns : goal.returns
 returns c =
     let t = c.loop-place.tracking in
     let env = env_of c.args.scope.now in
-    let all = tracks_all env c.args.root (operands c.args.op.now) c.loop-place.place (map tracked_of t.operands.items) t.behind (omega arith) c.loop-place.invariant.tracks in
+    let all = tracks_all env c.args.root (operands c.args.op.now) c.loop-place.place (map tracked_of t.operands.items) t.after (omega arith) c.loop-place.invariant.tracks in
     let before = c.loop-place.invariant.before in
     record {
-      is = record { are = all.0 ∙ ap (λ n. tracked env n (operands c.args.op.now)) (sym before); behind = all.1 ∙ ap (λ n. n + count_undefs (operands c.args.op.now)) (sym before) };
+      is = record { are = all.0 ∙ ap (λ n. tracked env n (operands c.args.op.now)) (sym before); after = all.1 ∙ ap (λ n. n + count_undefs (operands c.args.op.now)) (sym before) };
       before = before;
     }

@@ -1,4 +1,4 @@
-use Rattle.ms_tables.proofs.Given.{given_seen}
+use Rattle.ms_check_tables.proofs.Given.{given_seen}
 use Rattle.ms_rules.specs.Valued.{valued}
 use Rattle.ms_rules.proofs.values.push_results.Goals as goal
 

@@ -1,7 +1,7 @@
 use Rattle.std.proofs.Common.{◌≡◌, ◌∙◌, ◌++◌, sym, ap, arith, rules}
 use Rattle.std.specs.Prelude.{codes, decimal}
 use Rattle.ms_ir.specs.declared.syntax.Name.TheVariants.{Text}
-use Rattle.ms_tasks.proofs.InsertedNames.{msan_decimal}
+use Rattle.ms_pass_tasks.proofs.InsertedNames.{msan_decimal}
 use Rattle.ms_rules_builder.proofs.names.msan_name.Goals as goal
 
 pub returns : goal.returns

@@ -1,5 +1,5 @@
 use Rattle.std.proofs.Common.{◌++◌, length, map, ap, sym, ◌∙◌}
-use Rattle.ms_tasks.specs.Environments.{unknown}
+use Rattle.ms_pass_tasks.specs.Environments.{unknown}
 use Rattle.ms_rules_builder.specs.Steps.{tracked_of}
 use Rattle.ms_rules_builder.specs.Joins.{masks_from}
 use Rattle.ms_rules_builder.proofs.Joins.{clean_passed, mask_added}

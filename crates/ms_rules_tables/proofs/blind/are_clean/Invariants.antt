@@ -1,5 +1,5 @@
 use Rattle.std.proofs.Common.{◌≡◌, map, drop}
-use Rattle.ms_tasks.specs.CheckTasks.{all_zero}
+use Rattle.ms_pass_tasks.specs.CheckTasks.{all_zero}
 use Rattle.ms_rules_builder.specs.Steps.{tracked_of}
 use Rattle.ms_rules_tables.proofs.blind.are_clean.Given as goal
 

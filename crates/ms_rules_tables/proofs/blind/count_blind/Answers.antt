@@ -2,9 +2,9 @@ use Rattle.std.proofs.Common.{◌≡◌, ◌∙◌, Bool, List, [], ◌∷◌, m
 use Rattle.std.specs.Prelude.{OnOk, None, reverse, if◌then◌else◌}
 use Rattle.ms_ir.specs.declared.syntax.Ty.{Int}
 use Rattle.ms_ir.specs.declared.calls.RuntimeFn.TheVariants as function
-use Rattle.ms_tasks.specs.Tasks.{Calls}
-use Rattle.ms_tasks.specs.Environments.{Tracked}
-use Rattle.ms_tasks.specs.CheckTasks.{blind_tasks, union_masks}
+use Rattle.ms_pass_tasks.specs.Tasks.{Calls}
+use Rattle.ms_pass_tasks.specs.Environments.{Tracked}
+use Rattle.ms_pass_tasks.specs.CheckTasks.{blind_tasks, union_masks}
 use Rattle.ms_rules_builder.specs.Made.{with_tasks}
 use Rattle.ms_rules_builder.specs.Steps.{tracked_of, words}
 use Rattle.ms_rules_tables.specs.Plain.{plain}

@@ -1,6 +1,6 @@
 use Rattle.std.proofs.Common.{◌≡◌, ◌∷◌, [], ◌++◌, map, ap, ◌∙◌}
 use Rattle.ms_rules_builder.specs.declared.steps.Operation.TheVariants as operation
-use Rattle.ms_rules_builder.specs.declared.steps.Step.TheVariants as step
+use Rattle.ms_rules_builder.specs.declared.steps.StackOp.TheVariants as step
 use Rattle.ms_rules_builder.specs.Steps.{tracked_of}
 use Rattle.ms_rules_tables.specs.Rules.{is_rule}
 use Rattle.ms_rules_tables.proofs.Sums.{carry_steps, carry_made, carry_is_rule, carry_words}

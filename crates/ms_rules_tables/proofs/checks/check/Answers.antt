@@ -2,7 +2,7 @@ use Rattle.std.proofs.Common.{◌≡◌, List, map, sym, subst, ap, ◌∙◌}
 use Rattle.std.specs.Prelude.{OnOk}
 use Rattle.ms_ir.specs.declared.calls.External.TheVariants.{Printf}
 use Rattle.ms_runs.specs.Uses.{CheckedUse, external_uses}
-use Rattle.ms_tasks.specs.CheckTasks.{check_tasks}
+use Rattle.ms_pass_tasks.specs.CheckTasks.{check_tasks}
 use Rattle.ms_rules_builder.specs.Made.{with_tasks}
 use Rattle.ms_rules_builder.specs.Steps.{tracked_of}
 use Rattle.ms_rules_tables.proofs.Checking.{check_more, printf_uses}

@@ -1,8 +1,8 @@
 use Rattle.std.proofs.Common.{◌≡◌, [], ◌∷◌, map, subst, sym, refl}
 use Rattle.std.specs.Prelude.{OnOk}
 use Rattle.ms_ir.specs.declared.syntax.Ty.{Int, Ptr}
-use Rattle.ms_tasks.specs.Environments.{tracked_at, word_of, number}
-use Rattle.ms_tasks.specs.CheckTasks.{use_tasks}
+use Rattle.ms_pass_tasks.specs.Environments.{tracked_at, word_of, number}
+use Rattle.ms_pass_tasks.specs.CheckTasks.{use_tasks}
 use Rattle.ms_rules_builder.specs.Made.{with_tasks}
 use Rattle.ms_rules_builder.specs.Steps.{tracked_of}
 use Rattle.ms_rules_tables.specs.declared.uses.CheckedUse.{CheckedUse}

@@ -1,6 +1,6 @@
 use Rattle.std.proofs.Common.{◌≡◌, map, drop}
 use Rattle.ms_runs.specs.Uses.{value_uses}
-use Rattle.ms_tasks.specs.CheckTasks.{check_tasks}
+use Rattle.ms_pass_tasks.specs.CheckTasks.{check_tasks}
 use Rattle.ms_rules_builder.specs.Made.{with_tasks}
 use Rattle.ms_rules_builder.specs.Steps.{tracked_of}
 use Rattle.ms_rules_tables.proofs.checks.check_values.Given as goal

@@ -2,9 +2,9 @@ use Rattle.std.proofs.Common.{◌≡◌, ℕ, Bool, List, [], ◌∷◌, map, su
 use Rattle.std.specs.Prelude.{OnOk, None, if◌then◌else◌}
 use Rattle.ms_ir.specs.declared.syntax.Ty.{Ty, Int}
 use Rattle.ms_ir.specs.declared.calls.RuntimeFn.TheVariants as function
-use Rattle.ms_tasks.specs.Tasks.{Expr, Calls}
-use Rattle.ms_tasks.specs.Environments.{tracked_at, mask_of, origin_of, widened, number}
-use Rattle.ms_tasks.specs.CheckTasks.{check_task}
+use Rattle.ms_pass_tasks.specs.Tasks.{Expr, Calls}
+use Rattle.ms_pass_tasks.specs.Environments.{tracked_at, mask_of, origin_of, widened, number}
+use Rattle.ms_pass_tasks.specs.CheckTasks.{check_task}
 use Rattle.ms_rules_builder.specs.Made.{with_tasks}
 use Rattle.ms_rules_builder.specs.Steps.{tracked_of}
 use Rattle.ms_rules_tables.proofs.checks.check_word.Goals as goal

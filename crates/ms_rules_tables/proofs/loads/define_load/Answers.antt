@@ -2,9 +2,9 @@ use Rattle.std.proofs.Common.{◌≡◌, ℕ, [], ◌∷◌, ◌++◌, List, Som
 use Rattle.ms_ir.specs.declared.syntax.Ty.{Int, Ptr}
 use Rattle.ms_ir.specs.declared.syntax.Operand.TheVariants as operand
 use Rattle.ms_ir.specs.declared.calls.RuntimeFn.TheVariants as function
-use Rattle.ms_tasks.specs.Tasks.{Leaf, Task, Fetches, Calls, mask_name, origin_name}
-use Rattle.ms_tasks.specs.Environments.{Tracked, tracked_at, word_of, widened}
-use Rattle.ms_tasks.specs.ResultTasks.{shadow_address}
+use Rattle.ms_pass_tasks.specs.Tasks.{Leaf, Task, Fetches, Calls, mask_name, origin_name}
+use Rattle.ms_pass_tasks.specs.Environments.{Tracked, tracked_at, word_of, widened}
+use Rattle.ms_pass_tasks.specs.ResultTasks.{shadow_address}
 use Rattle.ms_rules_builder.specs.Made.{with_tasks}
 use Rattle.ms_rules_builder.specs.Steps.{Inputs, inputs_of, tracked_of}
 use Rattle.ms_rules_tables.proofs.Tasks.{more_tasks}

@@ -3,8 +3,8 @@ use Rattle.ms_ir.specs.declared.syntax.Name.{Name}
 use Rattle.ms_ir.specs.declared.syntax.Ty.{Ty, Int, Ptr}
 use Rattle.ms_ir.specs.declared.syntax.Operand.TheVariants as operand
 use Rattle.ms_ir.specs.declared.calls.RuntimeFn.TheVariants as function
-use Rattle.ms_tasks.specs.Tasks.{Expr, Leaf, Calls, mask_name}
-use Rattle.ms_tasks.specs.Environments.{tracked_at, word_of, widened}
+use Rattle.ms_pass_tasks.specs.Tasks.{Expr, Leaf, Calls, mask_name}
+use Rattle.ms_pass_tasks.specs.Environments.{tracked_at, word_of, widened}
 use Rattle.ms_rules_builder.specs.Made.{with_tasks}
 use Rattle.ms_rules_builder.specs.Steps.{inputs_of}
 use Rattle.ms_rules_tables.proofs.loads.load_origin.Goals as goal

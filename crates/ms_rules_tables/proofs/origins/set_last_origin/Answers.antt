@@ -1,5 +1,5 @@
 use Rattle.std.proofs.Common.{[], ap, ◌∙◌, refl}
-use Rattle.ms_tasks.specs.ResultMasks.{first_last}
+use Rattle.ms_pass_tasks.specs.ResultMasks.{first_last}
 use Rattle.ms_rules_builder.specs.Steps.{inputs_of, words}
 use Rattle.ms_rules_tables.proofs.origins.set_last_origin.Goals as goal
 

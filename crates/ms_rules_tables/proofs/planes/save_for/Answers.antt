@@ -4,10 +4,10 @@ use Rattle.ms_ir.specs.declared.syntax.Ty.{Ptr}
 use Rattle.ms_ir.specs.declared.syntax.Name.{Name}
 use Rattle.ms_ir.specs.declared.calls.External.{External}
 use Rattle.ms_ir.specs.declared.calls.RuntimeFn.TheVariants as function
-use Rattle.ms_tasks.specs.Tasks.{Calls}
-use Rattle.ms_tasks.specs.Environments.{tracked_at, word_of}
-use Rattle.ms_tasks.specs.PlaneTasks.{saved_tasks}
-use Rattle.ms_rules_builder.specs.declared.steps.Step.TheVariants as step
+use Rattle.ms_pass_tasks.specs.Tasks.{Calls}
+use Rattle.ms_pass_tasks.specs.Environments.{tracked_at, word_of}
+use Rattle.ms_pass_tasks.specs.PlaneTasks.{saved_tasks}
+use Rattle.ms_rules_builder.specs.declared.steps.StackOp.TheVariants as step
 use Rattle.ms_rules_builder.specs.Made.{with_tasks}
 use Rattle.ms_rules_builder.specs.Steps.{tracked_of, words}
 use Rattle.ms_rules_tables.proofs.planes.save_for.Goals as goal

@@ -2,8 +2,8 @@ use Rattle.std.proofs.Common.{◌≡◌, List, [], ◌∷◌, map, subst, refl}
 use Rattle.std.specs.Prelude.{OnOk}
 use Rattle.ms_bits.specs.declared.operations.Pred.TheVariants as pred
 use Rattle.ms_ir.specs.declared.syntax.Ty.{Int, Ptr}
-use Rattle.ms_tasks.specs.Tasks.{Test, Pick, Task}
-use Rattle.ms_tasks.specs.Environments.{tracked_at, word_of, number}
+use Rattle.ms_pass_tasks.specs.Tasks.{Test, Pick, Task}
+use Rattle.ms_pass_tasks.specs.Environments.{tracked_at, word_of, number}
 use Rattle.ms_rules_builder.specs.Made.{with_tasks}
 use Rattle.ms_rules_builder.specs.Steps.{tracked_of, result_word}
 use Rattle.ms_rules_tables.proofs.PlaneRows.{create_row}

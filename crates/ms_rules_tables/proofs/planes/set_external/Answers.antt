@@ -2,9 +2,9 @@ use Rattle.std.proofs.Common.{◌≡◌, ◌∙◌, List, [], ◌∷◌, map, ap
 use Rattle.std.specs.Prelude.{OnOk}
 use Rattle.ms_ir.specs.declared.syntax.Ty.{Int, Ptr}
 use Rattle.ms_ir.specs.declared.syntax.Operand.TheVariants as operand
-use Rattle.ms_tasks.specs.Tasks.{Leaf, Task, msan_name}
-use Rattle.ms_tasks.specs.Environments.{tracked_at, word_of, number}
-use Rattle.ms_tasks.specs.PlaneTasks.{external_tasks}
+use Rattle.ms_pass_tasks.specs.Tasks.{Leaf, Task, msan_name}
+use Rattle.ms_pass_tasks.specs.Environments.{tracked_at, word_of, number}
+use Rattle.ms_pass_tasks.specs.PlaneTasks.{external_tasks}
 use Rattle.ms_rules_builder.specs.Made.{with_tasks}
 use Rattle.ms_rules_builder.specs.Steps.{tracked_of, result_word}
 use Rattle.ms_rules_tables.proofs.PlaneRows.{malloc_row, realloc_row, read_row, start_row, copy_rows}

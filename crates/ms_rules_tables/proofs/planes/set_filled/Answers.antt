@@ -2,8 +2,8 @@ use Rattle.std.proofs.Common.{◌≡◌, ℕ, List, [], ◌∷◌, map, subst, r
 use Rattle.std.specs.Prelude.{OnOk, None}
 use Rattle.ms_ir.specs.declared.syntax.Ty.{Ty, Int, Ptr}
 use Rattle.ms_ir.specs.declared.calls.RuntimeFn.TheVariants as function
-use Rattle.ms_tasks.specs.Tasks.{Expr, Calls}
-use Rattle.ms_tasks.specs.Environments.{tracked_at, mask_of, origin_of, word_of, widened, number}
+use Rattle.ms_pass_tasks.specs.Tasks.{Expr, Calls}
+use Rattle.ms_pass_tasks.specs.Environments.{tracked_at, mask_of, origin_of, word_of, widened, number}
 use Rattle.ms_rules_builder.specs.Made.{with_tasks}
 use Rattle.ms_rules_builder.specs.Steps.{tracked_of}
 use Rattle.ms_rules_tables.proofs.planes.set_filled.Goals as goal

@@ -1,9 +1,9 @@
 use Rattle.std.proofs.Common.{◌≡◌, ◌∙◌, [], ◌∷◌, map, ap, subst, refl}
 use Rattle.std.specs.Prelude.{OnOk, None}
 use Rattle.ms_ir.specs.declared.calls.RuntimeFn.TheVariants as function
-use Rattle.ms_tasks.specs.Tasks.{InsertedCode, Calls}
-use Rattle.ms_tasks.specs.Environments.{tracked_at, mask_of, word_of}
-use Rattle.ms_tasks.specs.ResultTasks.{shadow_address}
+use Rattle.ms_pass_tasks.specs.Tasks.{InsertedCode, Calls}
+use Rattle.ms_pass_tasks.specs.Environments.{tracked_at, mask_of, word_of}
+use Rattle.ms_pass_tasks.specs.ResultTasks.{shadow_address}
 use Rattle.ms_rules_builder.specs.Made.{with_tasks}
 use Rattle.ms_rules_builder.specs.Steps.{tracked_of}
 use Rattle.ms_rules_tables.specs.Pieces.{mask_store, store_args}

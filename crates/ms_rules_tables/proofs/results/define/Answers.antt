@@ -1,10 +1,10 @@
 use Rattle.std.proofs.Common.{◌≡◌, ◌∙◌, sym, ap, ap₂, List, map, subst, OnOk, arith}
 use Rattle.ms_ir.specs.declared.syntax.Op.{Op}
 use Rattle.ms_ir.specs.declared.syntax.Op.TheVariants as operation
-use Rattle.ms_tasks.specs.Tasks.{Task, mask_name, origin_name}
-use Rattle.ms_tasks.specs.Environments.{number, tracked_at, mask_of, bits_of}
-use Rattle.ms_tasks.specs.ResultMasks.{first_last, cast_expr, compare_expr}
-use Rattle.ms_tasks.specs.ResultTasks.{binary_tasks, called_tasks, define_tasks}
+use Rattle.ms_pass_tasks.specs.Tasks.{Task, mask_name, origin_name}
+use Rattle.ms_pass_tasks.specs.Environments.{number, tracked_at, mask_of, bits_of}
+use Rattle.ms_pass_tasks.specs.ResultMasks.{first_last, cast_expr, compare_expr}
+use Rattle.ms_pass_tasks.specs.ResultTasks.{binary_tasks, called_tasks, define_tasks}
 use Rattle.ms_rules_builder.specs.Called.{calls_own}
 use Rattle.ms_rules_builder.specs.Made.{with_tasks}
 use Rattle.ms_rules_builder.specs.Steps.{tracked_of}

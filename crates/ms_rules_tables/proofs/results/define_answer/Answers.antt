@@ -1,7 +1,7 @@
 use Rattle.std.proofs.Common.{◌≡◌, map, sym, subst, OnOk, Option}
 use Rattle.ms_ir.specs.declared.calls.External.{External}
-use Rattle.ms_tasks.specs.ResultMasks.{answer_expr, answer_origin_expr}
-use Rattle.ms_tasks.specs.ResultTasks.{external_move}
+use Rattle.ms_pass_tasks.specs.ResultMasks.{answer_expr, answer_origin_expr}
+use Rattle.ms_pass_tasks.specs.ResultTasks.{external_move}
 use Rattle.ms_rules_builder.specs.Made.{with_tasks}
 use Rattle.ms_rules_builder.specs.Steps.{tracked_of}
 use Rattle.ms_rules_tables.specs.Rules.{answered}

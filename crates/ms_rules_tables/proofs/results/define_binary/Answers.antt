@@ -1,8 +1,8 @@
 use Rattle.std.proofs.Common.{◌≡◌, ℕ, [], ◌∷◌, List, map, sym, ap, ◌∙◌, subst, OnOk}
 use Rattle.ms_ir.specs.declared.syntax.Op.TheVariants as operation
-use Rattle.ms_tasks.specs.Tasks.{Task, mask_name, origin_name}
-use Rattle.ms_tasks.specs.Environments.{tracked_at}
-use Rattle.ms_tasks.specs.ResultMasks.{binary_expr, sum_expr, first_last}
+use Rattle.ms_pass_tasks.specs.Tasks.{Task, mask_name, origin_name}
+use Rattle.ms_pass_tasks.specs.Environments.{tracked_at}
+use Rattle.ms_pass_tasks.specs.ResultMasks.{binary_expr, sum_expr, first_last}
 use Rattle.ms_rules_builder.specs.Made.{with_tasks}
 use Rattle.ms_rules_builder.specs.Steps.{Inputs, tracked_of, words}
 use Rattle.ms_rules_tables.specs.Rules.{defined}

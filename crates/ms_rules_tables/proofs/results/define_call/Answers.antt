@@ -3,9 +3,9 @@ use Rattle.std.specs.Prelude.{Option}
 use Rattle.ms_ir.specs.declared.calls.External.{External}
 use Rattle.ms_ir.specs.Names.{externals, lookup}
 use Rattle.ms_ir.specs.declared.syntax.Op.TheVariants as operation
-use Rattle.ms_tasks.specs.Tasks.{Task}
-use Rattle.ms_tasks.specs.ResultMasks.{answer_expr, answer_origin_expr}
-use Rattle.ms_tasks.specs.ResultTasks.{external_move, called_tasks}
+use Rattle.ms_pass_tasks.specs.Tasks.{Task}
+use Rattle.ms_pass_tasks.specs.ResultMasks.{answer_expr, answer_origin_expr}
+use Rattle.ms_pass_tasks.specs.ResultTasks.{external_move, called_tasks}
 use Rattle.ms_rules_builder.specs.Made.{with_tasks}
 use Rattle.ms_rules_builder.specs.Steps.{tracked_of}
 use Rattle.ms_rules_tables.specs.Rules.{answered}

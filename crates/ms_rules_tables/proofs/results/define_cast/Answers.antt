@@ -1,6 +1,6 @@
 use Rattle.std.proofs.Common.{◌≡◌, [], ◌∷◌, sym, ap, subst, OnOk}
-use Rattle.ms_tasks.specs.Environments.{number, tracked_at, mask_of}
-use Rattle.ms_tasks.specs.ResultMasks.{cast_expr, first_last}
+use Rattle.ms_pass_tasks.specs.Environments.{number, tracked_at, mask_of}
+use Rattle.ms_pass_tasks.specs.ResultMasks.{cast_expr, first_last}
 use Rattle.ms_rules_builder.specs.Made.{with_tasks}
 use Rattle.ms_rules_builder.specs.Steps.{Inputs, inputs_of}
 use Rattle.ms_rules_tables.specs.Rules.{defined}

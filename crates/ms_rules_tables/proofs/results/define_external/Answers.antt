@@ -1,5 +1,5 @@
 use Rattle.std.proofs.Common.{◌≡◌, List, map, subst, OnOk}
-use Rattle.ms_tasks.specs.Tasks.{Task}
+use Rattle.ms_pass_tasks.specs.Tasks.{Task}
 use Rattle.ms_rules_builder.specs.Made.{with_tasks}
 use Rattle.ms_rules_builder.specs.Steps.{tracked_of}
 use Rattle.ms_rules_tables.proofs.Moves.{clean_answer}

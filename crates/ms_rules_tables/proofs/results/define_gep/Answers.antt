@@ -1,5 +1,5 @@
 use Rattle.std.proofs.Common.{◌≡◌, [], ap, ◌∙◌, sym, append-nil, map, subst, OnOk}
-use Rattle.ms_tasks.specs.ResultMasks.{address_expr, first_last}
+use Rattle.ms_pass_tasks.specs.ResultMasks.{address_expr, first_last}
 use Rattle.ms_rules_builder.specs.Made.{with_tasks}
 use Rattle.ms_rules_builder.specs.Steps.{Inputs, inputs_of, tracked_of, words}
 use Rattle.ms_rules_tables.specs.Rules.{defined}

@@ -2,9 +2,9 @@ use Rattle.std.proofs.Common.{◌≡◌, ◌∙◌, ℕ, [], ◌∷◌, map, rev
 use Rattle.std.proofs.Math.Path.{ap₂}
 use Rattle.ms_bits.specs.WordFunctions.{bits_of, move_fn, move_width}
 use Rattle.ms_ir.specs.declared.syntax.Ty.{Int}
-use Rattle.ms_tasks.specs.Tasks.{Sets, origin_name}
-use Rattle.ms_tasks.specs.Environments.{tracked_at}
-use Rattle.ms_tasks.specs.ResultMasks.{first_last, move_args}
+use Rattle.ms_pass_tasks.specs.Tasks.{Sets, origin_name}
+use Rattle.ms_pass_tasks.specs.Environments.{tracked_at}
+use Rattle.ms_pass_tasks.specs.ResultMasks.{first_last, move_args}
 use Rattle.ms_rules_builder.specs.Made.{with_tasks}
 use Rattle.ms_rules_builder.specs.Steps.{Inputs, inputs_of, tracked_of, words}
 use Rattle.ms_rules_tables.specs.Rules.{on_width, args_with, moves}

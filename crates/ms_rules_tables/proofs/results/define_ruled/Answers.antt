@@ -1,7 +1,7 @@
 use Rattle.std.proofs.Common.{◌≡◌, ℕ, [], ◌∷◌, map, ap, ◌∙◌, subst, OnOk}
 use Rattle.ms_bits.specs.WordFunctions.{bits_of}
-use Rattle.ms_tasks.specs.Environments.{tracked_at}
-use Rattle.ms_tasks.specs.ResultMasks.{word_expr, first_last}
+use Rattle.ms_pass_tasks.specs.Environments.{tracked_at}
+use Rattle.ms_pass_tasks.specs.ResultMasks.{word_expr, first_last}
 use Rattle.ms_rules_builder.specs.Made.{with_tasks}
 use Rattle.ms_rules_builder.specs.Steps.{Inputs, tracked_of, words}
 use Rattle.ms_rules_tables.specs.Rules.{defined, on_width}

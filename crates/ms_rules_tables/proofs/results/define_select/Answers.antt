@@ -1,8 +1,8 @@
 use Rattle.std.proofs.Common.{◌≡◌, ℕ, List, map, sym, refl, subst, OnOk}
 use Rattle.ms_ir.specs.declared.syntax.Op.TheVariants as operation
-use Rattle.ms_tasks.specs.Tasks.{Expr}
-use Rattle.ms_tasks.specs.Environments.{Tracked, tracked_at, word_of, mask_of, bits_of}
-use Rattle.ms_tasks.specs.ResultMasks.{origin_expr, select_expr}
+use Rattle.ms_pass_tasks.specs.Tasks.{Expr}
+use Rattle.ms_pass_tasks.specs.Environments.{Tracked, tracked_at, word_of, mask_of, bits_of}
+use Rattle.ms_pass_tasks.specs.ResultMasks.{origin_expr, select_expr}
 use Rattle.ms_rules_builder.specs.Made.{with_tasks}
 use Rattle.ms_rules_builder.specs.Steps.{Inputs, inputs_of, tracked_of}
 use Rattle.ms_rules_tables.specs.Rules.{defined}

@@ -1,9 +1,9 @@
 use Rattle.std.proofs.Common.{◌≡◌, ◌-◌, ◌^◌, [], ◌∷◌, map, ap, subst}
 use Rattle.ms_ir.specs.declared.syntax.Ty.{Int}
-use Rattle.ms_tasks.specs.Tasks.{Sets, Pick, mask_name, origin_name}
-use Rattle.ms_tasks.specs.Environments.{number, is_set, tracked_at, mask_of, word_of}
-use Rattle.ms_tasks.specs.ResultMasks.{first_last}
-use Rattle.ms_tasks.specs.ResultTasks.{shift_task}
+use Rattle.ms_pass_tasks.specs.Tasks.{Sets, Pick, mask_name, origin_name}
+use Rattle.ms_pass_tasks.specs.Environments.{number, is_set, tracked_at, mask_of, word_of}
+use Rattle.ms_pass_tasks.specs.ResultMasks.{first_last}
+use Rattle.ms_pass_tasks.specs.ResultTasks.{shift_task}
 use Rattle.ms_rules_builder.specs.Made.{with_tasks}
 use Rattle.ms_rules_builder.specs.Steps.{Inputs, tracked_of, words}
 use Rattle.ms_rules_tables.specs.declared.masks.TheConstants.{SHIFT}

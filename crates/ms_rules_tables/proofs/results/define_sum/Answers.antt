@@ -1,8 +1,8 @@
 use Rattle.std.proofs.Common.{◌≡◌, List, [], ◌∷◌, ◌++◌, ap, sym, ◌∙◌, map, take, drop, subst, OnOk}
 use Rattle.ms_ir.specs.declared.syntax.Ty.{Int}
-use Rattle.ms_tasks.specs.Tasks.{Expr}
-use Rattle.ms_tasks.specs.Environments.{Tracked, tracked_at, mask_of, unknown, joined}
-use Rattle.ms_tasks.specs.ResultMasks.{carry_expr, sum_expr, first_last}
+use Rattle.ms_pass_tasks.specs.Tasks.{Expr}
+use Rattle.ms_pass_tasks.specs.Environments.{Tracked, tracked_at, mask_of, unknown, joined}
+use Rattle.ms_pass_tasks.specs.ResultMasks.{carry_expr, sum_expr, first_last}
 use Rattle.ms_rules_builder.specs.declared.unions.Widening.TheVariants as widening
 use Rattle.ms_rules_builder.specs.Made.{with_tasks}
 use Rattle.ms_rules_builder.specs.Steps.{Inputs, inputs_of, tracked_of, words}

@@ -1,6 +1,6 @@
 use Rattle.std.proofs.Common.{[], ◌∷◌}
 use Rattle.ms_ir.specs.declared.syntax.Ty.{Int}
-use Rattle.ms_tasks.specs.Tasks.{Sets, mask_name, origin_name}
+use Rattle.ms_pass_tasks.specs.Tasks.{Sets, mask_name, origin_name}
 use Rattle.ms_rules_tables.proofs.Tasks.{more_tasks}
 use Rattle.ms_rules_tables.proofs.results.define_word.Goals as goal
 

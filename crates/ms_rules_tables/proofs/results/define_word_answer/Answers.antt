@@ -1,8 +1,8 @@
 use Rattle.std.proofs.Common.{◌≡◌, ◌∙◌, map, sym, subst, OnOk, Option}
 use Rattle.ms_bits.specs.declared.word_functions.BitMove.{BitMove}
 use Rattle.ms_bits.specs.WordFunctions.{bits_of as width_bits, move_of}
-use Rattle.ms_tasks.specs.Environments.{tracked_at}
-use Rattle.ms_tasks.specs.ResultMasks.{word_expr, first_last}
+use Rattle.ms_pass_tasks.specs.Environments.{tracked_at}
+use Rattle.ms_pass_tasks.specs.ResultMasks.{word_expr, first_last}
 use Rattle.ms_rules_builder.specs.Made.{with_tasks}
 use Rattle.ms_rules_builder.specs.Steps.{tracked_of}
 use Rattle.ms_rules_tables.specs.Rules.{answered}

@@ -1,5 +1,5 @@
 use Rattle.std.proofs.Common.{[], ap, ◌∙◌, arith}
-use Rattle.ms_rules_builder.specs.declared.steps.Step.TheVariants as step
+use Rattle.ms_rules_builder.specs.declared.steps.StackOp.TheVariants as step
 use Rattle.ms_rules_builder.specs.Steps.{inputs_of, words}
 use Rattle.ms_rules_tables.proofs.Tables.{last_operation, before_last}
 use Rattle.ms_rules_tables.proofs.rules.set.Goals as goal

@@ -1,7 +1,7 @@
 use Rattle.std.proofs.Common.{◌≡◌, [], ◌∷◌, subst, OnOk}
 use Rattle.ms_ir.specs.declared.syntax.Name.{Name}
 use Rattle.ms_ir.specs.declared.syntax.Ty.{Int}
-use Rattle.ms_tasks.specs.Tasks.{Sets}
+use Rattle.ms_pass_tasks.specs.Tasks.{Sets}
 use Rattle.ms_rules_builder.specs.Made.{with_tasks}
 use Rattle.ms_rules_tables.proofs.rules.set_origin.Goals as goal
 

@@ -10,14 +10,14 @@ returns-in-Some c =
     let u = c.args.setup.now in
     let running = c.loop-running.running in
     c.into_result.ensures (plain m u)
-    (subst (λ (o : Option End). Turned m u (ahead m running) o c.turn.new.self) c.in-Some.is (c.in_ok-end.ensures.turned u refl c.loop-running.invariant))
+    (subst (λ (o : Option End). Turned m u (ahead m running) o c.run_to_pause.new.self) c.in-Some.is (c.in_ok-end.ensures.turned u refl c.loop-running.invariant))
 
 pub loop-running-smaller : goal.loop-running-smaller
 loop-running-smaller c =
     let m = c.args.m.now in
     let u = c.args.setup.now in
     let running = c.loop-running.running in
-    let on = subst (λ (o : Option End). Turned m u (ahead m running) o c.turn.new.self) c.in_default.is (c.in_ok-end.ensures.turned u refl c.loop-running.invariant) in
+    let on = subst (λ (o : Option End). Turned m u (ahead m running) o c.run_to_pause.new.self) c.in_default.is (c.in_ok-end.ensures.turned u refl c.loop-running.invariant) in
     on.1
 
 pub loop-running-preserved : goal.loop-running-preserved
@@ -25,5 +25,5 @@ loop-running-preserved c =
     let m = c.args.m.now in
     let u = c.args.setup.now in
     let running = c.loop-running.running in
-    let on = subst (λ (o : Option End). Turned m u (ahead m running) o c.turn.new.self) c.in_default.is (c.in_ok-end.ensures.turned u refl c.loop-running.invariant) in
+    let on = subst (λ (o : Option End). Turned m u (ahead m running) o c.run_to_pause.new.self) c.in_default.is (c.in_ok-end.ensures.turned u refl c.loop-running.invariant) in
     on.0

@@ -1,7 +1,7 @@
 use Rattle.std.proofs.Common.{IfOk, subst}
 use Rattle.ms_runs.specs.Origins.{check}
 use Rattle.ms_runs.specs.Runtime.{runtime}
-use Rattle.ms_runtime.specs.declared.reports.Use.{Use}
+use Rattle.ms_runtime.specs.declared.reports.ReportedUse.{ReportedUse}
 use Rattle.ms_runtime.specs.Served.{Served}
 use Rattle.ms_runtime.proofs.OnMemory.{from-kind}
 use Rattle.ms_runtime.proofs.serving.report.Goals as goal
@@ -24,5 +24,5 @@ returns-in-CheckFormat-clause-served c = λ setting beside meant for kept shows.
 pub returns-in-Check-clause-served : goal.returns-in-Check-clause-served
 returns-in-Check-clause-served c = λ setting beside meant for kept shows.
     from-kind (λ f. IfOk c.check.result (λ a. Served (runtime setting f c.args.args.now meant) a c.args.world.now c.args.depot.now c.check.new.told)) c.in-Check.is
-    (subst (λ (u : Use). IfOk c.check.result (λ a. Served (check setting u.mask u.width u.origin u.kind u.part u.site meant) a c.args.world.now c.args.depot.now c.check.new.told)) c.use_of-used.ensures
+    (subst (λ (u : ReportedUse). IfOk c.check.result (λ a. Served (check setting u.mask u.width u.origin u.kind u.part u.site meant) a c.args.world.now c.args.depot.now c.check.new.told)) c.use_of-used.ensures
     (c.check.ensures.served setting beside c.args.world.now meant for kept shows))

@@ -14,6 +14,6 @@ returns-then-matches-clause-served c = λ setting types beside meant for kept ca
 
 pub returns-clause-served : goal.returns-clause-served
 returns-clause-served c = λ setting types beside meant for kept can shows.
-    subst (λ (asked : Asked). Served (effect_asked setting c.args.call.now.site asked types c.args.call.now.args meant) (Resumed c.in_ok-value.value) c.change.new.world c.change.new.depot c.change.new.told) (sym c.in-Runtime.is)
-    (subst (λ (args : List ℕ). Served (runtime setting c.in-Runtime.function args meant) (Resumed c.in_ok-value.value) c.change.new.world c.change.new.depot c.change.new.told) c.as_slice-args.ensures
+    subst (λ (asked : Asked). Served (effect_asked setting c.args.call.now.site asked types c.args.call.now.args meant) (Resumed c.in_ok-value.value) c.serve_update.new.world c.serve_update.new.depot c.serve_update.new.told) (sym c.in-Runtime.is)
+    (subst (λ (args : List ℕ). Served (runtime setting c.in-Runtime.function args meant) (Resumed c.in_ok-value.value) c.serve_update.new.world c.serve_update.new.depot c.serve_update.new.told) c.as_slice-args.ensures
     (c.in_ok-value.ensures.served setting beside meant for.same_roots kept (subst (λ (asked : Asked). CanAnswer asked beside) c.in-Runtime.is can) shows))

@@ -1,5 +1,5 @@
 use Rattle.std.proofs.Common.{◌≡◌, map, drop}
-use Rattle.ms_tasks.specs.SlotTasks as slots
+use Rattle.ms_pass_tasks.specs.SlotTasks as slots
 use Rattle.ms_rules_builder.specs.Made.{with_tasks}
 use Rattle.ms_rules_builder.specs.Steps.{tracked_of}
 use Rattle.ms_slots.proofs.handing.hand_arguments.Given as goal

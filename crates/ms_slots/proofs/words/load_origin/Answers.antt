@@ -2,7 +2,7 @@ use Rattle.std.proofs.Common.{[], ◌∷◌, ◌∙◌, ◌≡◌}
 use Rattle.std.proofs.Math.Path.{ap₂}
 use Rattle.std.proofs.lemmas.Result.{on_ok_weaker}
 use Rattle.ms_ir.specs.declared.syntax.Ty.{Int}
-use Rattle.ms_tasks.specs.Tasks.{Leaf, Fetches}
+use Rattle.ms_pass_tasks.specs.Tasks.{Leaf, Fetches}
 use Rattle.ms_rules_builder.specs.Made.{with_tasks}
 use Rattle.ms_slots.proofs.words.load_origin.Goals as goal
 

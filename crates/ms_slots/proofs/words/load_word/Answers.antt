@@ -1,7 +1,7 @@
 use Rattle.std.proofs.Common.{ℕ, ◌+◌, [], ◌∷◌, ap, ◌∙◌}
 use Rattle.ms_ir.specs.declared.syntax.Ty.{Int}
 use Rattle.ms_ir.specs.Layout.{width_of}
-use Rattle.ms_tasks.specs.Tasks.{msan_name, Leaf, Fetches}
+use Rattle.ms_pass_tasks.specs.Tasks.{msan_name, Leaf, Fetches}
 use Rattle.ms_rules_builder.specs.Made.{with_tasks}
 use Rattle.ms_slots.specs.Places.{mask_slot, origin_slot}
 use Rattle.ms_slots.proofs.Growing.{both_done}

@@ -2,8 +2,8 @@ use Rattle.std.proofs.Common.{ℕ, List}
 use Rattle.std.proofs.lemmas.Result.{IfOk-weaker}
 use Rattle.ms_runs.specs.declared.runs.Setup.{Setup}
 use Rattle.ms_runs.specs.Faithful.{Fair}
-use Rattle.ms_elide_laws.specs.Elided.{IsElided}
-use Rattle.ms_threads_runs.specs.PlainFibers.{plain_threads}
+use Rattle.ms_pass_form_laws.specs.Elided.{IsElided}
+use Rattle.ms_runs_threads.specs.PlainFibers.{plain_threads}
 use Rattle.ms_threads.specs.Faithful.{FaithfulThreads, IsSchedule}
 use Rattle.ms_threads.specs.Fills.{ThreadsHoldUnderFills}
 use Rattle.ms_threads.proofs.FaithfulRuns.{faithful_threads, threads_hold}
@@ -12,8 +12,8 @@ use Rattle.ms_threads.proofs.instruments.instrumented_threads.Goals as goal
 pub returns : goal.returns
 returns g c =
     let m = c.args.m.now in
-    let formed = c.is_valid.ensures.formed in
-    let valid = c.is_valid.ensures.valid in
+    let formed = c.law_valid.ensures.formed in
+    let valid = c.law_valid.ensures.valid in
     let made = c.instrumented.ensures in
     record {
       threads = IfOk-weaker c.instrumented.result (λ j. IsElided m j) (λ j. FaithfulThreads m j) (λ j elided. faithful_threads m formed valid c.requires j elided) made.pass;

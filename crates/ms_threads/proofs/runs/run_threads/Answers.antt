@@ -1,13 +1,13 @@
 use Rattle.std.proofs.Common.{Option, refl, subst}
 use Rattle.ms_runs.specs.declared.runs.End.{End}
-use Rattle.ms_threads_runs.specs.PlainFibers.{plain_threads}
+use Rattle.ms_runs_threads.specs.PlainFibers.{plain_threads}
 use Rattle.ms_runtime.specs.Going.{ahead}
 use Rattle.ms_threads.specs.Going.{Turned}
 use Rattle.ms_threads.proofs.Begun.{going_begun}
 use Rattle.ms_threads.proofs.runs.run_threads.Goals as goal
 
 pub loop-threads-init : goal.loop-threads-init
-loop-threads-init c = going_begun c.args.m.now c.args.setup.now c.args.schedule.now c.requires.scheduled _ c.in_ok-running.ensures.begins c.in_ok-guests.ensures
+loop-threads-init c = going_begun c.args.m.now c.args.setup.now c.args.schedule.now c.requires.scheduled _ c.in_ok-running.ensures.begins c.in_ok-table.ensures
 
 pub returns-in-Some : goal.returns-in-Some
 returns-in-Some c =
@@ -16,7 +16,7 @@ returns-in-Some c =
     let schedule = c.args.schedule.now in
     let threads = c.loop-threads.threads in
     c.into_result.ensures (plain_threads m u schedule)
-    (subst (λ (o : Option End). Turned m u schedule (ahead m threads.running) o c.turn.new.self) c.in-Some.is (c.in_ok-end.ensures.turned u refl c.loop-threads.invariant))
+    (subst (λ (o : Option End). Turned m u schedule (ahead m threads.running) o c.run_to_pause.new.self) c.in-Some.is (c.in_ok-end.ensures.turned u refl c.loop-threads.invariant))
 
 pub loop-threads-smaller : goal.loop-threads-smaller
 loop-threads-smaller c =
@@ -24,7 +24,7 @@ loop-threads-smaller c =
     let u = c.args.setup.now in
     let schedule = c.args.schedule.now in
     let threads = c.loop-threads.threads in
-    let on = subst (λ (o : Option End). Turned m u schedule (ahead m threads.running) o c.turn.new.self) c.in_default.is (c.in_ok-end.ensures.turned u refl c.loop-threads.invariant) in
+    let on = subst (λ (o : Option End). Turned m u schedule (ahead m threads.running) o c.run_to_pause.new.self) c.in_default.is (c.in_ok-end.ensures.turned u refl c.loop-threads.invariant) in
     on.1
 
 pub loop-threads-preserved : goal.loop-threads-preserved
@@ -33,5 +33,5 @@ loop-threads-preserved c =
     let u = c.args.setup.now in
     let schedule = c.args.schedule.now in
     let threads = c.loop-threads.threads in
-    let on = subst (λ (o : Option End). Turned m u schedule (ahead m threads.running) o c.turn.new.self) c.in_default.is (c.in_ok-end.ensures.turned u refl c.loop-threads.invariant) in
+    let on = subst (λ (o : Option End). Turned m u schedule (ahead m threads.running) o c.run_to_pause.new.self) c.in_default.is (c.in_ok-end.ensures.turned u refl c.loop-threads.invariant) in
     on.0

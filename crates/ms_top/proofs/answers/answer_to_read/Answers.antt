@@ -1,8 +1,8 @@
 use Rattle.std.proofs.Common.{subst, sym}
 use Rattle.ms_text_grammar.specs.Texts.{HasTokens, Reads}
-use Rattle.ms_places.specs.Marks.{AreMarks}
+use Rattle.ms_where_places.specs.Marks.{AreMarks}
 use Rattle.ms_report.specs.WithLines.{no_lines}
-use Rattle.ms_source_map.specs.Lines.{lines_at}
+use Rattle.ms_where.specs.Lines.{lines_at}
 use Rattle.ms_top.proofs.Answering.{lines_shown, none_shown}
 use Rattle.ms_top.proofs.answers.answer_to_read.Goals as goal
 use Rattle.ms_runtime.proofs.Fitting.{if_ok}

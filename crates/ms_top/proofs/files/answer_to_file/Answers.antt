@@ -2,24 +2,24 @@ use Rattle.std.proofs.Common.{refl, sym, subst}
 use Rattle.ms_io.specs.Reading.{IsWholeFile}
 use Rattle.ms_top.specs.Files.{Counted, counted}
 use Rattle.ms_top.specs.Parts.{IsAnswerToFault}
-use Rattle.ms_top.proofs.Reading.{Unread, behind_first, unread, unread_first}
+use Rattle.ms_top.proofs.Reading.{Unread, after_first, unread, unread_first}
 use Rattle.ms_top.proofs.files.answer_to_file.Goals as goal
 use Rattle.ms_runtime.proofs.Fitting.{if_ok}
 
 pub returns-in-Ok-clause-said : goal.returns-in-Ok-clause-said
 returns-in-Ok-clause-said g c =
-    let before : Counted = counted (g.F.Files.held c.args.files.now) (g.F.Files.faults c.args.files.now) (g.F.Files.faults c.answer_behind.new.files) (g.F.Files.taken c.args.files.now) (g.F.Files.taken c.answer_behind.new.files) in
-    let between : Counted = counted (g.F.Files.held c.read_whole.new.self) (g.F.Files.faults c.read_whole.new.self) (g.F.Files.faults c.answer_behind.new.files) (g.F.Files.taken c.read_whole.new.self) (g.F.Files.taken c.answer_behind.new.files) in
+    let before : Counted = counted (g.F.Files.held c.args.files.now) (g.F.Files.faults c.args.files.now) (g.F.Files.faults c.answer_after.new.files) (g.F.Files.taken c.args.files.now) (g.F.Files.taken c.answer_after.new.files) in
+    let between : Counted = counted (g.F.Files.held c.read_whole.new.self) (g.F.Files.faults c.read_whole.new.self) (g.F.Files.faults c.answer_after.new.files) (g.F.Files.taken c.read_whole.new.self) (g.F.Files.taken c.answer_after.new.files) in
     let held = g.F.Files.held c.args.files.now in
     let bytes = c.in-Ok.text.items in
     let named = subst (λ n. IsWholeFile held n c.module_limit.result bytes) c.as_str.ensures c.in-Ok.ensures.whole in
     let whole = subst (λ l. IsWholeFile held c.args.file.now l bytes) c.module_limit.ensures named in
     let e = c.read_whole.ensures in
-    if_ok c.answer_behind.result
-    (λ a is. behind_first before between
+    if_ok c.answer_after.result
+    (λ a is. after_first before between
     (record { told = sym e.holdings_stay; faults = e.faults_never_fall; faults_after = refl; taken = e.taken_never_falls; taken_after = refl })
     g.P.Pass.gives c.args.command.now c.args.file.now bytes c.deref.result.now a c.requires.named whole c.deref.ensures.value is)
-    c.answer_behind.ensures.said
+    c.answer_after.ensures.said
 
 pub returns-in-Err-clause-said : goal.returns-in-Err-clause-said
 returns-in-Err-clause-said g c =

@@ -4,5 +4,5 @@ use Rattle.ms_top.proofs.Answering.{formed}
 use Rattle.ms_top_tests.proofs.site_lines.agrees.Goals as goal
 
 pub are_printed-requires : goal.are_printed-requires
-are_printed-requires c = formed Plain c.args.text.now c.read.result c.in-Ok.m (λ i. omega (arith, c.type_inv.text i))
+are_printed-requires g c = formed Plain c.args.text.now c.read.result c.in-Ok.m (λ i. omega (arith, c.type_inv.text i))
     (record { «module» = c.read.ensures.«module»; lex = c.read.ensures.lex; refused = c.read.ensures.refused; wanting = c.read.ensures.wanting }) c.in-Ok.is

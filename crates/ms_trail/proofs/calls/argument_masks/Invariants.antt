@@ -1,5 +1,5 @@
 use Rattle.std.proofs.Common.{◌≡◌, take}
-use Rattle.ms_shades.specs.Shades.{masks_of}
+use Rattle.ms_trail_masks.specs.Shades.{masks_of}
 use Rattle.ms_trail.proofs.calls.argument_masks.Given as goal
 
 abbrev pub invariant-loop-arg : goal.invariant-loop-arg

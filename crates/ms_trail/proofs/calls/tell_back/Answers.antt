@@ -1,12 +1,12 @@
 use Rattle.std.proofs.Common.{◌≡◌, List, [], ◌++◌, ap, sym, subst, append-nil, Option}
 use Rattle.std.specs.Prelude.{OnOk, unwrap_or}
 use Rattle.ms_ir.specs.declared.syntax.Name.TheVariants.{Number}
-use Rattle.ms_moves.specs.declared.moves.Target.TheVariants.{Value}
+use Rattle.ms_trail_moves.specs.declared.moves.Target.TheVariants.{Value}
 use Rattle.ms_trail.specs.Telling.{masked_move}
 use Rattle.ms_ir.specs.declared.syntax.Name.{Name}
 use Rattle.ms_ir.specs.Instructions.{operands}
-use Rattle.ms_moves.specs.declared.moves.Move.{Move}
-use Rattle.ms_moves.specs.Sources.{sources, source_at}
+use Rattle.ms_trail_moves.specs.declared.moves.Move.{Move}
+use Rattle.ms_trail_moves.specs.Sources.{sources, source_at}
 use Rattle.ms_trail.specs.Calling.{returned_told}
 use Rattle.ms_trail_bytes.specs.Logs.{IsLog}
 use Rattle.ms_trail.proofs.calls.tell_back.Goals as goal

@@ -1,6 +1,6 @@
 use Rattle.std.proofs.Common.{get_or, refl, arith}
 use Rattle.ms_ir.specs.Instructions.{operands}
-use Rattle.ms_moves.specs.Sources.{sources}
+use Rattle.ms_trail_moves.specs.Sources.{sources}
 use Rattle.ms_trail.proofs.Called.{params_none, params_more, params_all}
 use Rattle.ms_trail.proofs.calls.tell_params.Goals as goal
 

@@ -1,5 +1,5 @@
 use Rattle.ms_ir.specs.Instructions.{operands}
-use Rattle.ms_moves.specs.Sources.{sources}
+use Rattle.ms_trail_moves.specs.Sources.{sources}
 use Rattle.ms_trail.proofs.Called.{ParamsSoFar}
 use Rattle.ms_trail.proofs.calls.tell_params.Given as goal
 

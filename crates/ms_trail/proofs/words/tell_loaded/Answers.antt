@@ -1,7 +1,7 @@
 use Rattle.std.proofs.Common.{refl}
 use Rattle.std.specs.Prelude.{unwrap_or}
 use Rattle.ms_ir.specs.declared.syntax.Name.TheVariants.{Number}
-use Rattle.ms_moves.specs.declared.moves.Target.TheVariants as place
+use Rattle.ms_trail_moves.specs.declared.moves.Target.TheVariants as place
 use Rattle.ms_trail.proofs.Told.{told_none, told_one}
 use Rattle.ms_trail.proofs.words.tell_loaded.Goals as goal
 use Rattle.std.proofs.lemmas.Result.{on_ok_weaker}

@@ -1,7 +1,7 @@
 use Rattle.std.proofs.Common.{ap}
 use Rattle.ms_ir.specs.Instructions.{operands}
-use Rattle.ms_moves.specs.declared.moves.Target.TheVariants as place
-use Rattle.ms_moves.specs.Sources.{sources, source_at}
+use Rattle.ms_trail_moves.specs.declared.moves.Target.TheVariants as place
+use Rattle.ms_trail_moves.specs.Sources.{sources, source_at}
 use Rattle.ms_trail.proofs.Told.{told_none, told_one}
 use Rattle.ms_trail.proofs.words.tell_param.Goals as goal
 use Rattle.std.proofs.lemmas.Result.{on_ok_weaker}

@@ -1,8 +1,8 @@
 use Rattle.std.specs.Prelude.{unwrap_or}
 use Rattle.ms_ir.specs.declared.syntax.Name.TheVariants.{Number}
 use Rattle.ms_ir.specs.Instructions.{operands}
-use Rattle.ms_moves.specs.declared.moves.Target.TheVariants as place
-use Rattle.ms_moves.specs.Sources.{sources, source_at}
+use Rattle.ms_trail_moves.specs.declared.moves.Target.TheVariants as place
+use Rattle.ms_trail_moves.specs.Sources.{sources, source_at}
 use Rattle.ms_trail.proofs.Told.{told_none, told_one}
 use Rattle.ms_trail.proofs.words.tell_return.Goals as goal
 use Rattle.std.proofs.lemmas.Result.{on_ok_weaker}

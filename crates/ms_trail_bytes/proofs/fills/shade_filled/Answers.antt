@@ -1,7 +1,7 @@
 use Rattle.std.proofs.Common.{◌≡◌, ◌++◌, true, List, sym, ◌∙◌, subst, arith, true≢false}
 use Rattle.ms_host.proofs.Tables.{good-same}
 use Rattle.ms_runs.specs.Memory.{is_good, set_cells, set_shadow}
-use Rattle.ms_moves.specs.declared.moves.Move.{Move}
+use Rattle.ms_trail_moves.specs.declared.moves.Move.{Move}
 use Rattle.ms_trail_bytes.specs.Logs.{IsLog}
 use Rattle.ms_trail_bytes.proofs.Filling.{filled_same, good_filled}
 use Rattle.ms_trail_bytes.proofs.fills.shade_filled.Goals as goal

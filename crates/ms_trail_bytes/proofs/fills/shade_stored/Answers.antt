@@ -1,12 +1,12 @@
 use Rattle.std.proofs.Common.{◌++◌, List, sym, ap, ◌∙◌, subst, true≢false}
 use Rattle.ms_bits.specs.Maps.{byte_of}
 use Rattle.ms_runs.specs.Memory.{is_good, set_shadow}
-use Rattle.ms_good_laws.specs.GoodWorlds.{FitsCell}
-use Rattle.ms_good_laws.proofs.WorldChanges.{set_shadow_good}
-use Rattle.ms_moves.specs.declared.moves.Source.{Source}
-use Rattle.ms_moves.specs.declared.moves.Move.{Move}
-use Rattle.ms_moves.specs.Written.{Filled}
-use Rattle.ms_moves.specs.Events.{written_moves}
+use Rattle.ms_runs_good_laws.specs.GoodWorlds.{FitsCell}
+use Rattle.ms_runs_good_laws.proofs.WorldChanges.{set_shadow_good}
+use Rattle.ms_trail_moves.specs.declared.moves.Source.{Source}
+use Rattle.ms_trail_moves.specs.declared.moves.Move.{Move}
+use Rattle.ms_trail_moves.specs.Written.{Filled}
+use Rattle.ms_trail_moves.specs.Events.{written_moves}
 use Rattle.ms_trail_bytes.specs.Logs.{IsLog}
 use Rattle.ms_trail_bytes.proofs.Filling.{filled_same, stored_good}
 use Rattle.ms_trail_bytes.proofs.Refilled.{stored_clean}

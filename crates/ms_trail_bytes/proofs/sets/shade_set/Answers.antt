@@ -15,17 +15,17 @@ shade_filled-requires-clause-live c = sym c.covers-good.ensures.table ∙ c.if-g
 pub shade_filled-requires-clause-some : goal.shade_filled-requires-clause-some
 shade_filled-requires-clause-some c = λ z. true≢false (sym (not_clean c.args.mask c.args.n (sym c.is_clean-clean.ensures ∙ c.if-clean.false) z))
 
-pub is_range-requires-clause-live : goal.is_range-requires-clause-live
-is_range-requires-clause-live c = sym c.covers-good.ensures.table ∙ c.if-good.true
+pub law_range-requires-clause-live : goal.law_range-requires-clause-live
+law_range-requires-clause-live c = sym c.covers-good.ensures.table ∙ c.if-good.true
 
-pub is_range-requires-clause-some : goal.is_range-requires-clause-some
-is_range-requires-clause-some c = positive c.args.n (λ z. true≢false (sym (some_bytes c.args.mask c.args.n (sym c.is_clean-clean.ensures ∙ c.if-clean.false) z)))
+pub law_range-requires-clause-some : goal.law_range-requires-clause-some
+law_range-requires-clause-some c = positive c.args.n (λ z. true≢false (sym (some_bytes c.args.mask c.args.n (sym c.is_clean-clean.ensures ∙ c.if-clean.false) z)))
 
 pub shade_filled-requires-clause-few : goal.shade_filled-requires-clause-few
-shade_filled-requires-clause-few c = omega (arith, c.requires.few, c.is_range.ensures.few)
+shade_filled-requires-clause-few c = omega (arith, c.requires.few, c.law_range.ensures.few)
 
 pub returns-then-good-clause-count : goal.returns-then-good-clause-count
-returns-then-good-clause-count c = omega (arith, c.shade_filled.ensures.count, c.is_range.ensures.few)
+returns-then-good-clause-count c = omega (arith, c.shade_filled.ensures.count, c.law_range.ensures.few)
 
 pub returns-then-good-clause-set : goal.returns-then-good-clause-set
 returns-then-good-clause-set c = λ beside meant moves shows whole good is.

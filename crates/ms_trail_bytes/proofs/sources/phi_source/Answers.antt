@@ -1,6 +1,6 @@
 use Rattle.std.proofs.Common.{◌≡◌, ap, subst, ◌∙◌, IfOk, arith}
 use Rattle.ms_ir.specs.Instructions.{operands, count_undefs}
-use Rattle.ms_moves.specs.Edges.{count_edges, edge_source}
+use Rattle.ms_trail_moves.specs.Edges.{count_edges, edge_source}
 use Rattle.ms_trail_bytes.proofs.PhiEdges.{same_edges, counted_as}
 use Rattle.ms_trail_bytes.proofs.sources.phi_source.Goals as goal
 

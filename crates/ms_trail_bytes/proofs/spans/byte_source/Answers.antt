@@ -1,5 +1,5 @@
 use Rattle.std.proofs.Common.{sym, ap}
-use Rattle.ms_moves.specs.declared.moves.Source.TheVariants.{Byte}
+use Rattle.ms_trail_moves.specs.declared.moves.Source.TheVariants.{Byte}
 use Rattle.ms_trail_bytes.specs.Spans.{source_in}
 use Rattle.ms_trail_bytes.proofs.spans.byte_source.Goals as goal
 

@@ -6,7 +6,7 @@ use Rattle.ms_trail_bytes.proofs.Runs.{full_bytes}
 use Rattle.ms_trail_bytes.proofs.spans.is_full.Goals as goal
 
 pub overflow_add-here : goal.overflow_add-here
-overflow_add-here c = omega (arith, fits-word c.args.world.now.planes.table c.args.addr c.args.n c.args.k c.is_laid_out.ensures c.requires.live (omega (arith, c.requires.within)))
+overflow_add-here c = omega (arith, fits-word c.args.world.now.planes.table c.args.addr c.args.n c.args.k c.law_laid_out.ensures c.requires.live (omega (arith, c.requires.within)))
 
 pub returns-in-Some : goal.returns-in-Some
 returns-in-Some c = λ beside meant shows whole full j le lt.

@@ -6,7 +6,7 @@ use Rattle.ms_trail_bytes.proofs.Runs.{found_some, found_none}
 use Rattle.ms_trail_bytes.proofs.spans.past_clean.Goals as goal
 
 pub overflow_add-here : goal.overflow_add-here
-overflow_add-here c = omega (arith, fits-word c.args.world.now.planes.table c.args.addr c.args.n c.args.first c.is_laid_out.ensures c.requires.live c.requires.within)
+overflow_add-here c = omega (arith, fits-word c.args.world.now.planes.table c.args.addr c.args.n c.args.first c.law_laid_out.ensures c.requires.live c.requires.within)
 
 pub first_poisoned-requires : goal.first_poisoned-requires
 first_poisoned-requires c = range-live c.args.world.now.planes.table c.args.addr c.args.n c.args.first (c.args.n - c.args.first) c.requires.live (omega (arith, c.requires.within))

@@ -1,6 +1,6 @@
 use Rattle.std.proofs.Common.{◌≢◌, ◌≤◌, ◌<◌, ◌+◌, ℕ}
 use Rattle.ms_runs.specs.World.{World}
-use Rattle.ms_good_laws.specs.GoodWorlds.{GoodWorld, FitsCell}
+use Rattle.ms_runs_good_laws.specs.GoodWorlds.{GoodWorld, FitsCell}
 use Rattle.ms_host.specs.State.{Beside}
 use Rattle.ms_host.specs.Shows.{Shows}
 use Rattle.ms_trail_bytes.proofs.spans.past_poisoned.Given as goal

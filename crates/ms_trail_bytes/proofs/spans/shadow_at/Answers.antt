@@ -5,7 +5,7 @@ use Rattle.ms_host.proofs.Tables.{good-same}
 use Rattle.ms_trail_bytes.proofs.spans.shadow_at.Goals as goal
 
 pub overflow_add-here : goal.overflow_add-here
-overflow_add-here c = omega (arith, fits-word c.args.world.now.planes.table c.args.addr c.args.n c.args.k c.is_laid_out.ensures c.requires.live c.requires.within)
+overflow_add-here c = omega (arith, fits-word c.args.world.now.planes.table c.args.addr c.args.n c.args.k c.law_laid_out.ensures c.requires.live c.requires.within)
 
 pub returns-in-Some : goal.returns-in-Some
 returns-in-Some c = λ beside meant shows.

@@ -7,7 +7,7 @@ pub run_source-requires : goal.run_source-requires
 run_source-requires c = λ a e. omega (arith, c.requires.low a e, c.requires.within)
 
 pub overflow_add-first : goal.overflow_add-first
-overflow_add-first c = omega (arith, fits-word c.args.world.now.planes.table c.args.addr c.args.n c.args.k c.is_laid_out.ensures c.requires.live c.requires.within)
+overflow_add-first c = omega (arith, fits-word c.args.world.now.planes.table c.args.addr c.args.n c.args.k c.law_laid_out.ensures c.requires.live c.requires.within)
 
 pub returns-in_ok-add-clause-told : goal.returns-in_ok-add-clause-told
 returns-in_ok-add-clause-told c = λ beside meant moves shows whole t.

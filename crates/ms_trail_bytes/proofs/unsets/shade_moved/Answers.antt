@@ -2,8 +2,8 @@ use Rattle.std.proofs.Common.{◌≡◌, ◌++◌, ℕ, List, [], ◌∷◌, min
 use Rattle.ms_ir.specs.Areas.{Heap}
 use Rattle.ms_runs.specs.Memory.{fits, is_good, next_base}
 use Rattle.ms_runs.specs.Origins.{poison}
-use Rattle.ms_moves.specs.Written.{Written, Copied, made}
-use Rattle.ms_moves.specs.Events.{memory_moves}
+use Rattle.ms_trail_moves.specs.Written.{Written, Copied, made}
+use Rattle.ms_trail_moves.specs.Events.{memory_moves}
 use Rattle.ms_trail_bytes.specs.Logs.{IsLog}
 use Rattle.ms_trail_bytes.proofs.Filling.{good_poison}
 use Rattle.ms_trail_bytes.proofs.Unsetting.{poison_same, poisoned_as, both_told}

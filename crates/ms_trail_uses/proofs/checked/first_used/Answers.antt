@@ -1,8 +1,8 @@
 use Rattle.std.proofs.Common.{length, sym, subst, ap, ◌∙◌}
 use Rattle.std.specs.Prelude.{All}
-use Rattle.ms_code.specs.declared.code.Code.{Code}
-use Rattle.ms_code.specs.declared.code.Code.TheVariants as code
-use Rattle.ms_code.specs.Fits.{IsSource}
+use Rattle.ms_machine_code.specs.declared.code.Code.{Code}
+use Rattle.ms_machine_code.specs.declared.code.Code.TheVariants as code
+use Rattle.ms_machine_code.specs.Fits.{IsSource}
 use Rattle.ms_trail_uses.specs.Used.{seen, arguments_read, code_read, IsUsing}
 use Rattle.ms_trail_uses.proofs.checked.first_used.Goals as goal
 

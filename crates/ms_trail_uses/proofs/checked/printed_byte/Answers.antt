@@ -2,7 +2,7 @@ use Rattle.std.proofs.Common.{◌≤◌, length, refl, sym, ◌∙◌}
 use Rattle.ms_trail_uses.specs.Used.{seen}
 use Rattle.ms_trail_uses.proofs.Uses.{strings_stop, strings_pass, strings_end}
 use Rattle.ms_trail_uses.proofs.checked.printed_byte.Goals as goal
-use Rattle.ms_tables.proofs.Items.{none_left}
+use Rattle.ms_check_tables.proofs.Items.{none_left}
 
 pub loop-k-init : goal.loop-k-init
 loop-k-init c = λ beside meant shows. refl

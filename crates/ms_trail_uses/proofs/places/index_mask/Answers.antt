@@ -1,6 +1,6 @@
 use Rattle.std.proofs.Common.{length, sym, subst}
-use Rattle.ms_code.specs.Fits.{IsSource}
-use Rattle.ms_code.specs.declared.code.Stride.{Stride}
+use Rattle.ms_machine_code.specs.Fits.{IsSource}
+use Rattle.ms_machine_code.specs.declared.code.Stride.{Stride}
 use Rattle.ms_trail_uses.proofs.Placing.{head_is, head_past}
 use Rattle.ms_trail_uses.proofs.places.index_mask.Goals as goal
 

@@ -7,11 +7,11 @@ loop-k-init c = record { near = omega arith; best = refl }
 
 pub loop-k-preserved : goal.loop-k-preserved
 loop-k-preserved c = record {
-  near = omega (arith, c.loop-k.invariant.near, c.behind-next.ensures.near);
+  near = omega (arith, c.loop-k.invariant.near, c.place_after-next.ensures.near);
   best =
       c.loop-k.invariant.best
-      ∙ stride_more c.args.view.now.masks.now c.args.typed.now c.args.strides.now c.loop-k.k c.loop-k.next c.loop-k.best c.index_mask-mask.result c.better-best.result c.behind-next.result c.is_integer-integer.result c.typed_at.result.now
-      c.loop-k-test.true c.typed_at.ensures c.is_integer-integer.ensures c.index_mask-mask.ensures c.better-best.ensures c.behind-next.ensures.is;
+      ∙ stride_more c.args.view.now.masks.now c.args.typed.now c.args.strides.now c.loop-k.k c.loop-k.next c.loop-k.best c.index_mask-mask.result c.better-best.result c.place_after-next.result c.is_integer-integer.result c.typed_at.result.now
+      c.loop-k-test.true c.typed_at.ensures c.is_integer-integer.ensures c.index_mask-mask.ensures c.better-best.ensures c.place_after-next.ensures.is;
 }
 
 pub returns : goal.returns

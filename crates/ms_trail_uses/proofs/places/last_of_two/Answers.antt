@@ -1,6 +1,6 @@
 use Rattle.std.proofs.Common.{Bool, sym, ap, ◌∙◌, if◌then◌else◌, eq-eqb}
 use Rattle.std.proofs.lemmas.Bool.{ne_eqb}
-use Rattle.ms_shades.specs.Shades.{mask_of}
+use Rattle.ms_trail_masks.specs.Shades.{mask_of}
 use Rattle.ms_trail_uses.proofs.places.last_of_two.Goals as goal
 
 pub returns-then-mask-ne0 : goal.returns-then-mask-ne0

@@ -1,9 +1,9 @@
 use Rattle.std.proofs.Common.{length, sym, subst, ap, ◌∙◌}
 use Rattle.std.specs.Prelude.{All}
-use Rattle.ms_code.specs.declared.code.Code.{Code}
-use Rattle.ms_code.specs.declared.code.Code.TheVariants as code
-use Rattle.ms_code.specs.Fits.{IsStride}
-use Rattle.ms_shades.specs.Results.{IsComputed}
+use Rattle.ms_machine_code.specs.declared.code.Code.{Code}
+use Rattle.ms_machine_code.specs.declared.code.Code.TheVariants as code
+use Rattle.ms_machine_code.specs.Fits.{IsStride}
+use Rattle.ms_trail_masks.specs.Results.{IsComputed}
 use Rattle.ms_trail_uses.specs.Origins.{index_read, place_read}
 use Rattle.ms_trail_uses.proofs.Placing.{other_place}
 use Rattle.ms_trail_uses.proofs.places.result_place.Goals as goal

@@ -1,9 +1,9 @@
 use Rattle.std.proofs.Common.{◌≡◌, ◌+◌, length, take, refl, ap, ◌∙◌, arith}
 use Rattle.ms_ir.specs.Instructions.{roots_in, over_insts, over_blocks}
-use Rattle.ms_tables.specs.FirstPlace.{first_place}
-use Rattle.ms_compile.specs.Flat.{EachBlock}
-use Rattle.ms_compile.proofs.Pushes.{pushing_none, pushing_all}
-use Rattle.ms_compile.proofs.Routing.{blocks_all}
+use Rattle.ms_check_tables.specs.FirstPlace.{first_place}
+use Rattle.ms_machine_compile.specs.Flat.{EachBlock}
+use Rattle.ms_machine_compile.proofs.Pushes.{pushing_none, pushing_all}
+use Rattle.ms_machine_compile.proofs.Routing.{blocks_all}
 use Rattle.ms_trail_uses.specs.Tabled.{IsRow}
 use Rattle.ms_trail_uses.proofs.Sums.{blocks_taken, blocks_within, no_blocks}
 use Rattle.ms_trail_uses.proofs.Rows.{block_rows_more}
@@ -38,7 +38,7 @@ loop-block-preserved c =
       roots =
           let sum = blocks_taken count bs i k c.loop-block-test.true c.block-item.is in
           let here : over_insts count c.as_slice.result.now ≡ over_insts count k.insts = ap (over_insts count) c.as_slice.ensures in
-          omega (arith, sum, here, c.loop-block.invariant.roots, c.in_ok-roots.ensures.behind);
+          omega (arith, sum, here, c.loop-block.invariant.roots, c.in_ok-roots.ensures.after);
       few = c.loop-block.invariant.few;
       pushing = λ m n found here begins.
           block_rows_more m n i c.args.first c.loop-block.roots (first_place c.args.functions.now) c.args.rows.now.items c.loop-block.rows.items c.push_insts.new.rows.items bs k c.as_slice.result.now k.name c.loop-block-test.true
@@ -51,7 +51,7 @@ returns c =
     let bs = c.args.blocks.now in
     let e : length bs ≡ c.loop-block.block-index = omega arith in
     record {
-      behind = c.loop-block.invariant.roots ∙ ap (λ l. c.args.first + over_blocks count l) (blocks_all bs c.loop-block.block-index e);
+      after = c.loop-block.invariant.roots ∙ ap (λ l. c.args.first + over_blocks count l) (blocks_all bs c.loop-block.block-index e);
       rows = λ m n found here begins.
           pushing_all (EachBlock (IsRow m n)) c.args.rows.now.items c.loop-block.rows.items c.loop-block.block-index bs e refl (c.loop-block.invariant.pushing m n found here begins);
     }

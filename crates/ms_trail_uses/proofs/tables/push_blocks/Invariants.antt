@@ -1,9 +1,9 @@
 use Rattle.std.proofs.Common.{◌≡◌, ◌<◌, ◌+◌, ◌^◌, ℕ, take}
 use Rattle.ms_ir.specs.declared.syntax.Module.{Module}
 use Rattle.ms_ir.specs.Instructions.{blocks_at, root_at, roots_in, func_index, over_blocks}
-use Rattle.ms_tables.specs.FirstPlace.{first_place}
-use Rattle.ms_compile.specs.Flat.{EachBlock}
-use Rattle.ms_compile.proofs.Pushes.{Pushing}
+use Rattle.ms_check_tables.specs.FirstPlace.{first_place}
+use Rattle.ms_machine_compile.specs.Flat.{EachBlock}
+use Rattle.ms_machine_compile.proofs.Pushes.{Pushing}
 use Rattle.ms_trail_uses.specs.Tabled.{IsRow}
 use Rattle.ms_trail_uses.proofs.tables.push_blocks.Given as goal
 

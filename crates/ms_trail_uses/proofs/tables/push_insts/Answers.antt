@@ -1,9 +1,9 @@
 use Rattle.std.proofs.Common.{◌≡◌, ◌+◌, length, take, refl, ap, ◌∙◌, arith}
 use Rattle.ms_ir.specs.Instructions.{roots_in, over_insts}
-use Rattle.ms_tables.specs.FirstPlace.{first_place}
-use Rattle.ms_compile.specs.Flat.{EachInst}
-use Rattle.ms_compile.proofs.Pushes.{pushing_none, pushing_all}
-use Rattle.ms_compile.proofs.Sited.{insts_all}
+use Rattle.ms_check_tables.specs.FirstPlace.{first_place}
+use Rattle.ms_machine_compile.specs.Flat.{EachInst}
+use Rattle.ms_machine_compile.proofs.Pushes.{pushing_none, pushing_all}
+use Rattle.ms_machine_compile.proofs.Sited.{insts_all}
 use Rattle.ms_trail_uses.specs.Tabled.{IsRow}
 use Rattle.ms_trail_uses.proofs.Sums.{insts_taken, insts_within, no_insts}
 use Rattle.ms_trail_uses.proofs.Rows.{rows_more}
@@ -18,8 +18,8 @@ loop-inst-init c = record {
   pushing = λ m n b found here named begins. pushing_none (EachInst (IsRow m n b)) c.args.rows.now.items c.args.insts.now;
 }
 
-pub roots_behind-roots-requires : goal.roots_behind-roots-requires
-roots_behind-roots-requires c =
+pub roots_after-roots-requires : goal.roots_after-roots-requires
+roots_after-roots-requires c =
     let count = roots_in (first_place c.args.functions.now) in
     let is = c.args.insts.now in
     let i = c.loop-inst.inst-index in
@@ -33,7 +33,7 @@ loop-inst-preserved c =
     let i = c.loop-inst.inst-index in
     let x = c.inst-item.result in
     record {
-      roots = let sum = insts_taken count is i x c.loop-inst-test.true c.inst-item.is in omega (arith, sum, c.loop-inst.invariant.roots, c.roots_behind-roots.ensures);
+      roots = let sum = insts_taken count is i x c.loop-inst-test.true c.inst-item.is in omega (arith, sum, c.loop-inst.invariant.roots, c.roots_after-roots.ensures);
       few = c.loop-inst.invariant.few;
       pushing = λ m n b found here named begins.
           rows_more m n b i c.args.first (first_place c.args.functions.now) c.args.rows.now.items c.loop-inst.rows.items c.push.new.self.items is c.args.block.now x _ c.loop-inst-test.true c.inst-item.is found here named begins refl
@@ -46,7 +46,7 @@ returns c =
     let is = c.args.insts.now in
     let e : length is ≡ c.loop-inst.inst-index = omega arith in
     record {
-      behind = c.loop-inst.invariant.roots ∙ ap (λ l. c.args.first + over_insts count l) (insts_all is c.loop-inst.inst-index e);
+      after = c.loop-inst.invariant.roots ∙ ap (λ l. c.args.first + over_insts count l) (insts_all is c.loop-inst.inst-index e);
       rows = λ m n b found here named begins.
           pushing_all (EachInst (IsRow m n b)) c.args.rows.now.items c.loop-inst.rows.items c.loop-inst.inst-index is e tt (c.loop-inst.invariant.pushing m n b found here named begins);
     }

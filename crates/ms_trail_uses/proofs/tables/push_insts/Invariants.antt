@@ -2,9 +2,9 @@ use Rattle.std.proofs.Common.{◌≡◌, ◌<◌, ◌+◌, ◌^◌, ℕ, take}
 use Rattle.ms_ir.specs.declared.syntax.Module.{Module}
 use Rattle.ms_ir.specs.Instructions.{insts_at, root_at, roots_in, func_index, over_insts}
 use Rattle.ms_runs.specs.Control.{block_name}
-use Rattle.ms_tables.specs.FirstPlace.{first_place}
-use Rattle.ms_compile.specs.Flat.{EachInst}
-use Rattle.ms_compile.proofs.Pushes.{Pushing}
+use Rattle.ms_check_tables.specs.FirstPlace.{first_place}
+use Rattle.ms_machine_compile.specs.Flat.{EachInst}
+use Rattle.ms_machine_compile.proofs.Pushes.{Pushing}
 use Rattle.ms_trail_uses.specs.Tabled.{IsRow}
 use Rattle.ms_trail_uses.proofs.tables.push_insts.Given as goal
 

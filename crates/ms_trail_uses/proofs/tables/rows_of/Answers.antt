@@ -1,9 +1,9 @@
 use Rattle.std.proofs.Common.{◌≡◌, ◌<◌, ◌+◌, ◌^◌, List, [], length, get_or, refl, sym, ap, subst, ◌∙◌, arith}
 use Rattle.ms_ir.specs.Instructions.{roots_in, over_blocks, over_funcs}
-use Rattle.ms_tables.specs.FirstPlace.{first_place}
-use Rattle.ms_compile.specs.Flat.{EachFunc}
-use Rattle.ms_compile.proofs.Pushes.{Pushing, pushing_none, pushing_all}
-use Rattle.ms_trail_uses.specs.declared.tables.Row.{Row}
+use Rattle.ms_check_tables.specs.FirstPlace.{first_place}
+use Rattle.ms_machine_compile.specs.Flat.{EachFunc}
+use Rattle.ms_machine_compile.proofs.Pushes.{Pushing, pushing_none, pushing_all}
+use Rattle.ms_trail_uses.specs.declared.tables.InstRow.{InstRow}
 use Rattle.ms_trail_uses.specs.Tabled.{IsRow}
 use Rattle.ms_trail_uses.proofs.Sums.{funcs_taken, funcs_within, no_funcs}
 use Rattle.ms_trail_uses.proofs.Rows.{functions_found, func_rows_more, tables_are}
@@ -18,7 +18,7 @@ loop-func-init c =
       found = found;
       roots = sym (no_funcs (roots_in (first_place functions)) m.funcs);
       few = subst (λ f. over_funcs (roots_in f) m.funcs < 2 ^ 32) (sym found) c.requires.few;
-      pushing = subst (λ (rs : List Row). Pushing (EachFunc (IsRow m)) [] rs 0 m.funcs) (sym c.new-rows.ensures.items) (pushing_none (EachFunc (IsRow m)) [] m.funcs);
+      pushing = subst (λ (rs : List InstRow). Pushing (EachFunc (IsRow m)) [] rs 0 m.funcs) (sym c.new-rows.ensures.items) (pushing_none (EachFunc (IsRow m)) [] m.funcs);
     }
 
 pub push_blocks-requires : goal.push_blocks-requires
@@ -47,7 +47,7 @@ loop-func-preserved c =
       roots =
           let sum = funcs_taken count m.funcs i f lt is in
           let here : over_blocks count c.as_slice.result.now ≡ over_blocks count f.blocks = ap (over_blocks count) c.as_slice.ensures in
-          omega (arith, sum, here, c.loop-func.invariant.roots, c.in_ok-roots.ensures.behind);
+          omega (arith, sum, here, c.loop-func.invariant.roots, c.in_ok-roots.ensures.after);
       few = c.loop-func.invariant.few;
       pushing = func_rows_more m i c.loop-func.roots (first_place functions) [] c.loop-func.rows.items c.push_blocks.new.rows.items f c.as_slice.result.now lt is c.loop-func.invariant.found c.as_slice.ensures c.loop-func.invariant.roots
           c.in_ok-roots.ensures.rows c.loop-func.invariant.pushing;

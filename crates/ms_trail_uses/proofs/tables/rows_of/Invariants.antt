@@ -1,8 +1,8 @@
 use Rattle.std.proofs.Common.{◌≡◌, ◌<◌, ◌^◌, [], take}
 use Rattle.ms_ir.specs.Instructions.{roots_in, func_index, over_funcs}
-use Rattle.ms_tables.specs.FirstPlace.{first_place}
-use Rattle.ms_compile.specs.Flat.{EachFunc}
-use Rattle.ms_compile.proofs.Pushes.{Pushing}
+use Rattle.ms_check_tables.specs.FirstPlace.{first_place}
+use Rattle.ms_machine_compile.specs.Flat.{EachFunc}
+use Rattle.ms_machine_compile.proofs.Pushes.{Pushing}
 use Rattle.ms_trail_uses.specs.Tabled.{IsRow}
 use Rattle.ms_trail_uses.proofs.tables.rows_of.Given as goal
 

@@ -1,12 +1,12 @@
 use Rattle.std.proofs.Common.{length, sym, subst}
-use Rattle.ms_code.specs.declared.code.Source.{Source}
-use Rattle.ms_code.specs.Fits.{IsSource}
+use Rattle.ms_machine_code.specs.declared.code.WordSource.{WordSource}
+use Rattle.ms_machine_code.specs.Fits.{IsSource}
 use Rattle.ms_trail_uses.proofs.Uses.{arg_fits, seen_value}
 use Rattle.ms_trail_uses.proofs.used.arg_number.Goals as goal
 
 pub value_of-requires-clause-source : goal.value_of-requires-clause-source
 value_of-requires-clause-source c =
-    subst (λ (s : Source). IsSource (length c.args.view.now.values.now) 64 s) (sym c.arg-source.ensures) (arg_fits (length c.args.view.now.values.now) c.args.args.now c.args.k c.requires.args)
+    subst (λ (s : WordSource). IsSource (length c.args.view.now.values.now) 64 s) (sym c.arg-source.ensures) (arg_fits (length c.args.view.now.values.now) c.args.args.now c.args.k c.requires.args)
 
 pub returns : goal.returns
 returns c =

@@ -2,7 +2,7 @@ use Rattle.std.proofs.Common.{◌≡◌, ◌<◌, ◌+◌, ◌-◌, suc, length,
 use Rattle.ms_trail_uses.specs.Used.{seen}
 use Rattle.ms_trail_uses.proofs.Uses.{words_stop, words_pass, words_end}
 use Rattle.ms_trail_uses.proofs.used.printed_word.Goals as goal
-use Rattle.ms_tables.proofs.Items.{none_left}
+use Rattle.ms_check_tables.proofs.Items.{none_left}
 
 pub returns-in-Some : goal.returns-in-Some
 returns-in-Some c =

@@ -10,7 +10,7 @@ pub returns-then-good : goal.returns-then-good
 returns-then-good c = λ beside meant shows.
     let live : IsTrue (is_live c.args.addr c.args.n c.args.world.now.planes.table) = sym c.covers-good.ensures.table ∙ c.if-good.true in
     c.byte_found.ensures
-    ∙ range_found c.args.world.now.planes.table meant c.args.addr c.args.n c.first_poisoned-found.result c.is_laid_out.ensures live (sym (c.covers-good.ensures.good beside meant shows) ∙ c.if-good.true)
+    ∙ range_found c.args.world.now.planes.table meant c.args.addr c.args.n c.first_poisoned-found.result c.law_laid_out.ensures live (sym (c.covers-good.ensures.good beside meant shows) ∙ c.if-good.true)
     (c.first_poisoned-found.ensures beside meant shows)
 
 pub returns-else-good : goal.returns-else-good

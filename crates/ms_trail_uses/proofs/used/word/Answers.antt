@@ -1,13 +1,13 @@
 use Rattle.std.proofs.Common.{length, sym, subst}
-use Rattle.ms_code.specs.declared.code.Source.{Source}
-use Rattle.ms_code.specs.Fits.{IsSource}
+use Rattle.ms_machine_code.specs.declared.code.WordSource.{WordSource}
+use Rattle.ms_machine_code.specs.Fits.{IsSource}
 use Rattle.ms_trail_uses.specs.Used.{seen}
 use Rattle.ms_trail_uses.proofs.Uses.{arg_fits, seen_mask, word_found, word_clean}
 use Rattle.ms_trail_uses.proofs.used.word.Goals as goal
 
 pub mask_of-mask-requires-clause-source : goal.mask_of-mask-requires-clause-source
 mask_of-mask-requires-clause-source c =
-    subst (λ (s : Source). IsSource (length c.args.view.now.values.now) 64 s) (sym c.arg-source.ensures) (arg_fits (length c.args.view.now.values.now) c.args.args.now c.args.k c.requires.args)
+    subst (λ (s : WordSource). IsSource (length c.args.view.now.values.now) 64 s) (sym c.arg-source.ensures) (arg_fits (length c.args.view.now.values.now) c.args.args.now c.args.k c.requires.args)
 
 pub returns-then-mask-ne0 : goal.returns-then-mask-ne0
 returns-then-mask-ne0 c =

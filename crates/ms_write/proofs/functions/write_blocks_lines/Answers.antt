@@ -1,5 +1,5 @@
 use Rattle.std.proofs.Common.{◌++◌, sym, append_assoc}
-use Rattle.ms_text_layout.specs.Modules.{entry_label, body_lines, block_lines, blocks_lines}
+use Rattle.ms_text_grammar.specs.LayoutModules.{entry_label, body_lines, block_lines, blocks_lines}
 use Rattle.std.specs.Prelude.{flat_map}
 use Rattle.ms_write_values.proofs.Loops.{lines_first}
 use Rattle.ms_write.proofs.functions.write_blocks_lines.Goals as goal

@@ -1,4 +1,4 @@
-use Rattle.ms_text_layout.specs.Modules.{block_lines}
+use Rattle.ms_text_grammar.specs.LayoutModules.{block_lines}
 use Rattle.ms_write_values.proofs.Loops.{lines_step}
 use Rattle.ms_write.proofs.functions.write_more_blocks.Goals as goal
 

@@ -1,4 +1,4 @@
-use Rattle.ms_text_layout.specs.Modules.{parameter_tokens}
+use Rattle.ms_text_grammar.specs.LayoutModules.{parameter_tokens}
 use Rattle.ms_write_values.proofs.Loops.{commas_step}
 use Rattle.ms_write.proofs.functions.write_more_parameters.Goals as goal
 

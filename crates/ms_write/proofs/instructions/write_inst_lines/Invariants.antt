@@ -1,5 +1,5 @@
 use Rattle.std.proofs.Common.{◌≡◌, map, drop}
-use Rattle.ms_text_layout.specs.Insts.{inst_line}
+use Rattle.ms_text_grammar.specs.LayoutInsts.{inst_line}
 use Rattle.ms_write_values.specs.Sheets.{put_lines}
 use Rattle.ms_write.proofs.instructions.write_inst_lines.Given as goal
 

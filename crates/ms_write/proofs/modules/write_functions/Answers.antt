@@ -1,4 +1,4 @@
-use Rattle.ms_text_layout.specs.Modules.{function_lines}
+use Rattle.ms_text_grammar.specs.LayoutModules.{function_lines}
 use Rattle.ms_write_values.proofs.Loops.{lines_step}
 use Rattle.ms_write.proofs.modules.write_functions.Goals as goal
 

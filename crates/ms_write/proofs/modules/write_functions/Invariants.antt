@@ -1,6 +1,6 @@
 use Rattle.std.proofs.Common.{◌≡◌, drop}
 use Rattle.std.specs.Prelude.{flat_map}
-use Rattle.ms_text_layout.specs.Modules.{function_lines}
+use Rattle.ms_text_grammar.specs.LayoutModules.{function_lines}
 use Rattle.ms_write_values.specs.Sheets.{put_lines}
 use Rattle.ms_write.proofs.modules.write_functions.Given as goal
 

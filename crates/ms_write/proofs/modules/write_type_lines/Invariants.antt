@@ -1,5 +1,5 @@
 use Rattle.std.proofs.Common.{◌≡◌, map, drop}
-use Rattle.ms_text_layout.specs.Modules.{type_line}
+use Rattle.ms_text_grammar.specs.LayoutModules.{type_line}
 use Rattle.ms_write_values.specs.Sheets.{put_lines}
 use Rattle.ms_write.proofs.modules.write_type_lines.Given as goal
 

@@ -1,4 +1,4 @@
-use Rattle.ms_text_layout.specs.Insts.{case_tokens}
+use Rattle.ms_text_grammar.specs.LayoutInsts.{case_tokens}
 use Rattle.ms_write_values.proofs.Loops.{tokens_step}
 use Rattle.ms_write.proofs.operations.write_cases.Goals as goal
 

@@ -1,6 +1,6 @@
 use Rattle.std.proofs.Common.{◌≡◌, drop}
 use Rattle.std.specs.Prelude.{flat_map}
-use Rattle.ms_text_layout.specs.Insts.{case_tokens}
+use Rattle.ms_text_grammar.specs.LayoutInsts.{case_tokens}
 use Rattle.ms_write_values.specs.Sheets.{put}
 use Rattle.ms_write.proofs.operations.write_cases.Given as goal
 

@@ -1,4 +1,4 @@
-use Rattle.ms_text_layout.specs.Insts.{edge_tokens}
+use Rattle.ms_text_grammar.specs.LayoutInsts.{edge_tokens}
 use Rattle.ms_write_values.proofs.Loops.{commas_first}
 use Rattle.ms_write.proofs.operations.write_edges.Goals as goal
 

@@ -24,4 +24,4 @@ returns-in-Stack c =
     ∙ ap (λ (t : Allocations). find (covers c.args.addr c.args.n) (listed t)) c.self.view_is
 
 pub returns-in_err-kind : goal.returns-in_err-kind
-returns-in_err-kind c = c.from_residual.ensures ∙ sym (listed-below c.args.self.now c.args.addr c.args.n c.requires c.is_laid_out.ensures c.in_err-kind.ensures)
+returns-in_err-kind c = c.from_residual.ensures ∙ sym (listed-below c.args.self.now c.args.addr c.args.n c.requires c.law_laid_out.ensures c.in_err-kind.ensures)

@@ -33,4 +33,4 @@ returns-in-Stack c =
 pub returns-in_err-kind : goal.returns-in_err-kind
 returns-in_err-kind c =
     none-matches _ _ c.from_residual.result c.from_residual.ensures
-    (none-good c.args.self.now c.args.addr c.args.n c.requires (listed-below c.args.self.now c.args.addr c.args.n c.requires c.is_laid_out.ensures c.in_err-kind.ensures))
+    (none-good c.args.self.now c.args.addr c.args.n c.requires (listed-below c.args.self.now c.args.addr c.args.n c.requires c.law_laid_out.ensures c.in_err-kind.ensures))

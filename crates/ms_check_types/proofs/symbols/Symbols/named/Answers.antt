@@ -1,5 +1,5 @@
 use Rattle.std.proofs.Common.{ap, ◌∙◌, Some, None}
-use Rattle.ms_tables.specs.FirstPlace.{first_place, at_place}
+use Rattle.ms_check_tables.specs.FirstPlace.{first_place, at_place}
 use Rattle.ms_check_types.proofs.NamedRows.{named_row}
 use Rattle.ms_check_types.proofs.symbols.Symbols.named.Goals as goal
 

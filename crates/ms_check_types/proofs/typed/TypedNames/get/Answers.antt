@@ -1,7 +1,7 @@
 use Rattle.std.proofs.Common.{ap, ◌∙◌, Some, None}
 use Rattle.ms_ir.specs.Names.{lookup}
 use Rattle.ms_ir.specs.ValueTypes.{type_of}
-use Rattle.ms_tables.specs.FirstPlace.{first_place, at_place}
+use Rattle.ms_check_tables.specs.FirstPlace.{first_place, at_place}
 use Rattle.ms_check_types.proofs.NamedRows.{by_rows}
 use Rattle.ms_check_types.proofs.typed.TypedNames.get.Goals as goal
 

@@ -8,13 +8,13 @@ use Rattle.ms_host.proofs.StringSteps.{fits-word, compared-same, compared-less, 
 use Rattle.ms_host.proofs.worlds.World.compare.Goals as goal
 
 pub overflow_add-a : goal.overflow_add-a
-overflow_add-a c = omega (arith, fits-word c.args.self.now.planes.table c.args.a c.args.n c.loop-k.k (subst (λ (h : WorldState). IsLaidOut h.planes.table) c.self.view_is c.is_laid_out.ensures) c.requires.first c.loop-k-test.true)
+overflow_add-a c = omega (arith, fits-word c.args.self.now.planes.table c.args.a c.args.n c.loop-k.k (subst (λ (h : WorldState). IsLaidOut h.planes.table) c.self.view_is c.law_laid_out.ensures) c.requires.first c.loop-k-test.true)
 
 pub byte-x-requires : goal.byte-x-requires
 byte-x-requires c = part-live c.args.self.now.planes.table c.args.a c.args.n c.loop-k.k c.requires.first c.loop-k-test.true
 
 pub overflow_add-b : goal.overflow_add-b
-overflow_add-b c = omega (arith, fits-word c.args.self.now.planes.table c.args.b c.args.n c.loop-k.k (subst (λ (h : WorldState). IsLaidOut h.planes.table) c.self.view_is c.is_laid_out.ensures) c.requires.second c.loop-k-test.true)
+overflow_add-b c = omega (arith, fits-word c.args.self.now.planes.table c.args.b c.args.n c.loop-k.k (subst (λ (h : WorldState). IsLaidOut h.planes.table) c.self.view_is c.law_laid_out.ensures) c.requires.second c.loop-k-test.true)
 
 pub byte-y-requires : goal.byte-y-requires
 byte-y-requires c = part-live c.args.self.now.planes.table c.args.b c.args.n c.loop-k.k c.requires.second c.loop-k-test.true

@@ -19,7 +19,7 @@ returns-in_default c = λ beside world shows.
 pub overflow_add-here : goal.overflow_add-here
 overflow_add-here c =
     let good : IsTrue (is_live c.args.addr c.args.n c.self.inside.planes.table) = subst (λ (h : WorldState). IsTrue (is_live c.args.addr c.args.n h.planes.table)) (sym c.self.view_is) c.requires in
-    omega (arith, fits-word c.self.inside.planes.table c.args.addr c.args.n c.in-Some.part c.is_laid_out.ensures good (found-within (shadow_of c.self.inside.planes) c.args.addr c.args.n c.in-Some.part c.in-Some.ensures))
+    omega (arith, fits-word c.self.inside.planes.table c.args.addr c.args.n c.in-Some.part c.law_laid_out.ensures good (found-within (shadow_of c.self.inside.planes) c.args.addr c.args.n c.in-Some.part c.in-Some.ensures))
 
 pub poisoned_at-requires-clause-live : goal.poisoned_at-requires-clause-live
 poisoned_at-requires-clause-live c =
@@ -29,7 +29,7 @@ pub poisoned_at-requires-clause-near : goal.poisoned_at-requires-clause-near
 poisoned_at-requires-clause-near c =
     let good : IsTrue (is_live c.args.addr c.args.n c.self.inside.planes.table) = subst (λ (h : WorldState). IsTrue (is_live c.args.addr c.args.n h.planes.table)) (sym c.self.view_is) c.requires in
     let part : c.in-Some.part < c.args.n = found-within (shadow_of c.self.inside.planes) c.args.addr c.args.n c.in-Some.part c.in-Some.ensures in
-    let size : c.args.n ≤ 2 ^ 26 = live-size c.self.inside.planes.table c.args.addr c.args.n c.is_laid_out.ensures good in
+    let size : c.args.n ≤ 2 ^ 26 = live-size c.self.inside.planes.table c.args.addr c.args.n c.law_laid_out.ensures good in
     omega (arith, part, size)
 
 pub returns : goal.returns

@@ -16,7 +16,7 @@ loop-k-init c = λ beside world shows.
     ap (λ (a : ℕ). first_in_string world a (c.bytes_left-room.result - 0)) x ∙ ap (first_in_string world c.args.addr) n
 
 pub overflow_add-here : goal.overflow_add-here
-overflow_add-here c = omega (arith, fits-word c.args.self.now.planes.table c.args.addr c.bytes_left-room.result c.loop-k.k (subst (λ (h : WorldState). IsLaidOut h.planes.table) c.self.view_is c.is_laid_out.ensures) c.bytes_left-room.ensures.good c.loop-k-test.true)
+overflow_add-here c = omega (arith, fits-word c.args.self.now.planes.table c.args.addr c.bytes_left-room.result c.loop-k.k (subst (λ (h : WorldState). IsLaidOut h.planes.table) c.self.view_is c.law_laid_out.ensures) c.bytes_left-room.ensures.good c.loop-k-test.true)
 
 pub shadow_at-requires : goal.shadow_at-requires
 shadow_at-requires c = part-live c.args.self.now.planes.table c.args.addr c.bytes_left-room.result c.loop-k.k c.bytes_left-room.ensures.good c.loop-k-test.true
@@ -29,7 +29,7 @@ poisoned_at-requires-clause-live c = part-live c.args.self.now.planes.table c.ar
 
 pub poisoned_at-requires-clause-near : goal.poisoned_at-requires-clause-near
 poisoned_at-requires-clause-near c =
-    let few : c.bytes_left-room.result ≤ 2 ^ 26 = live-size c.args.self.now.planes.table c.args.addr c.bytes_left-room.result (subst (λ (h : WorldState). IsLaidOut h.planes.table) c.self.view_is c.is_laid_out.ensures) c.bytes_left-room.ensures.good in
+    let few : c.bytes_left-room.result ≤ 2 ^ 26 = live-size c.args.self.now.planes.table c.args.addr c.bytes_left-room.result (subst (λ (h : WorldState). IsLaidOut h.planes.table) c.self.view_is c.law_laid_out.ensures) c.bytes_left-room.ensures.good in
     let part : c.loop-k.k < c.bytes_left-room.result = c.loop-k-test.true in
     omega (arith, part, few)
 

@@ -15,7 +15,7 @@ returns-then-is_none-clause-answered c = λ beside world shows.
 
 pub returns-clause-answered : goal.returns-clause-answered
 returns-clause-answered c = λ beside world shows.
-    free-some beside world c.args.site c.args.base c.end.new.self c.if-base-eq0.false (ap is_some (sym (c.heap_size.ensures.size beside world shows)) ∙ some c.heap_size.result c.is_none.result c.is_none.ensures c.if-is_none.false) (c.end.ensures.ended beside world shows)
+    free-some beside world c.args.site c.args.base c.free_block.new.self c.if-base-eq0.false (ap is_some (sym (c.heap_size.ensures.size beside world shows)) ∙ some c.heap_size.result c.is_none.result c.is_none.ensures c.if-is_none.false) (c.free_block.ensures.ended beside world shows)
   where
     some : (o : Option ℕ) (b : Bool) → is_some o ≡ not b → b ≡ false → is_some o ≡ true
     some o b e f = e ∙ ap not f

@@ -34,7 +34,7 @@ pub returns-in_default-clause-written : goal.returns-in_default-clause-written
 returns-in_default-clause-written c = λ a beside world at shows.
     let s = subst (λ (h : WorldState). Shows h beside world) (sym c.self.view_is) shows in
     subst (λ (h : WorldState). Shows h beside (store_number a c.args.n c.args.v world)) c.self.view_is
-    (dead-range _ beside world a c.args.n (byte_of c.args.v) c.is_laid_out.ensures (reaches-none c.args.at a c.in_default.is at) s)
+    (dead-range _ beside world a c.args.n (byte_of c.args.v) c.law_laid_out.ensures (reaches-none c.args.at a c.in_default.is at) s)
 
 pub returns-clause-written : goal.returns-clause-written
 returns-clause-written c = λ a beside world at shows.

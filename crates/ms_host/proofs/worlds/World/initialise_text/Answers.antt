@@ -30,7 +30,7 @@ pub returns-in_default-clause-written : goal.returns-in_default-clause-written
 returns-in_default-clause-written c = λ a beside world at shows.
     let s = subst (λ (h : WorldState). Shows h beside world) (sym c.self.view_is) shows in
     subst (λ (h : WorldState). Shows h beside (set_bytes a (length c.args.bytes.now) (λ j. get_or c.args.bytes.now j 0) world)) c.self.view_is
-    (dead-range _ beside world a (length c.args.bytes.now) (λ j. get_or c.args.bytes.now j 0) c.is_laid_out.ensures (reaches-none c.args.at a c.in_default.is at) s)
+    (dead-range _ beside world a (length c.args.bytes.now) (λ j. get_or c.args.bytes.now j 0) c.law_laid_out.ensures (reaches-none c.args.at a c.in_default.is at) s)
 
 pub returns-clause-written : goal.returns-clause-written
 returns-clause-written c = λ a beside world at shows.

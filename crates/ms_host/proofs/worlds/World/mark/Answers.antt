@@ -8,4 +8,4 @@ use Rattle.ms_host.proofs.worlds.World.mark.Goals as goal
 pub returns : goal.returns
 returns c = λ beside world shows.
     let s = subst (λ (h : WorldState). Shows h beside world) (sym c.self.view_is) shows in
-    c.mark.ensures ∙ sym (base-same c.self.inside.planes.table world kind.Stack c.is_laid_out.ensures s.allocs)
+    c.mark.ensures ∙ sym (base-same c.self.inside.planes.table world kind.Stack c.law_laid_out.ensures s.allocs)

@@ -9,7 +9,7 @@ use Rattle.ms_host.proofs.StringSteps.{fits-word, bytes-more}
 use Rattle.ms_host.proofs.worlds.World.print_range.Goals as goal
 
 pub overflow_add-addr : goal.overflow_add-addr
-overflow_add-addr c = omega (arith, fits-word c.args.self.now.planes.table c.args.addr c.args.n c.loop-k.k (subst (λ (h : WorldState). IsLaidOut h.planes.table) c.self.view_is c.is_laid_out.ensures) c.requires c.loop-k-test.true)
+overflow_add-addr c = omega (arith, fits-word c.args.self.now.planes.table c.args.addr c.args.n c.loop-k.k (subst (λ (h : WorldState). IsLaidOut h.planes.table) c.self.view_is c.law_laid_out.ensures) c.requires c.loop-k-test.true)
 
 pub byte-byte-requires : goal.byte-byte-requires
 byte-byte-requires c =

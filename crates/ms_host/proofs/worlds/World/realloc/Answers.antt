@@ -36,5 +36,5 @@ copy_all-requires-clause-from c =
 pub returns-clause-answered : goal.returns-clause-answered
 returns-clause-answered c = λ beside world shows.
     let made = c.in-Ok.ensures.allocated beside world shows in
-    realloc-some beside world c.args.site c.args.base c.args.n c.in-Some.old c.in-Ok.new c.smaller.result c.end.new.self c.args.self.now.fill c.if-base-eq0.false (sym (c.heap_size.ensures.size beside world shows) ∙ c.in-Some.is) made.0 made.1 c.smaller.ensures
-    (c.end.ensures.ended beside _ (c.in_ok-copy_all.ensures.copied beside _ (subst (λ (fill : List ℕ). Shows c.make_uninit.new.self beside (make_unset fill Heap c.args.n world)) c.make_uninit.ensures.keeps.fill made.2)))
+    realloc-some beside world c.args.site c.args.base c.args.n c.in-Some.old c.in-Ok.new c.smaller.result c.free_block.new.self c.args.self.now.fill c.if-base-eq0.false (sym (c.heap_size.ensures.size beside world shows) ∙ c.in-Some.is) made.0 made.1 c.smaller.ensures
+    (c.free_block.ensures.ended beside _ (c.in_ok-copy_all.ensures.copied beside _ (subst (λ (fill : List ℕ). Shows c.make_uninit.new.self beside (make_unset fill Heap c.args.n world)) c.make_uninit.ensures.keeps.fill made.2)))

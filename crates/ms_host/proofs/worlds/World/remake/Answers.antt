@@ -9,19 +9,19 @@ use Rattle.ms_host.proofs.worlds.World.remake.Goals as goal
 
 pub write_unset-requires-clause-few : goal.write_unset-requires-clause-few
 write_unset-requires-clause-few c =
-    let n : c.args.n ≤ 2 ^ 26 = live-size c.self.inside.planes.table c.args.addr c.args.n c.is_laid_out.ensures (sym c.covers-good.ensures ∙ c.if-good.true) in
+    let n : c.args.n ≤ 2 ^ 26 = live-size c.self.inside.planes.table c.args.addr c.args.n c.law_laid_out.ensures (sym c.covers-good.ensures ∙ c.if-good.true) in
     let few : c.self.inside.made + 2 ^ 26 < 2 ^ 64 = subst (λ (h : WorldState). h.made + 2 ^ 26 < 2 ^ 64) (sym c.self.view_is) c.requires in
     omega (arith, n, few)
 
 pub overflow_add-self : goal.overflow_add-self
 overflow_add-self c =
-    let n : c.args.n ≤ 2 ^ 26 = live-size c.self.inside.planes.table c.args.addr c.args.n c.is_laid_out.ensures (sym c.covers-good.ensures ∙ c.if-good.true) in
+    let n : c.args.n ≤ 2 ^ 26 = live-size c.self.inside.planes.table c.args.addr c.args.n c.law_laid_out.ensures (sym c.covers-good.ensures ∙ c.if-good.true) in
     let few : c.self.inside.made + 2 ^ 26 < 2 ^ 64 = subst (λ (h : WorldState). h.made + 2 ^ 26 < 2 ^ 64) (sym c.self.view_is) c.requires in
     omega (arith, n, few)
 
 pub returns-then-good-clause-made : goal.returns-then-good-clause-made
 returns-then-good-clause-made c =
-    let n : c.args.n ≤ 2 ^ 26 = live-size c.self.inside.planes.table c.args.addr c.args.n c.is_laid_out.ensures (sym c.covers-good.ensures ∙ c.if-good.true) in
+    let n : c.args.n ≤ 2 ^ 26 = live-size c.self.inside.planes.table c.args.addr c.args.n c.law_laid_out.ensures (sym c.covers-good.ensures ∙ c.if-good.true) in
     subst (λ (h : WorldState). c.self.inside.made + c.args.n ≤ h.made + 2 ^ 26) c.self.view_is (omega (arith, n))
 
 pub returns-then-good-clause-made_again : goal.returns-then-good-clause-made_again

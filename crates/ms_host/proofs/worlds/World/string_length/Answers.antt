@@ -9,7 +9,7 @@ use Rattle.ms_host.proofs.StringSteps.{fits-word, string-next, string-here}
 use Rattle.ms_host.proofs.worlds.World.string_length.Goals as goal
 
 pub overflow_add-addr : goal.overflow_add-addr
-overflow_add-addr c = omega (arith, fits-word c.args.self.now.planes.table c.args.addr c.bytes_left-room.result c.loop-k.k (subst (λ (h : WorldState). IsLaidOut h.planes.table) c.self.view_is c.is_laid_out.ensures) c.bytes_left-room.ensures.good c.loop-k-test.true)
+overflow_add-addr c = omega (arith, fits-word c.args.self.now.planes.table c.args.addr c.bytes_left-room.result c.loop-k.k (subst (λ (h : WorldState). IsLaidOut h.planes.table) c.self.view_is c.law_laid_out.ensures) c.bytes_left-room.ensures.good c.loop-k-test.true)
 
 pub byte-requires : goal.byte-requires
 byte-requires c = part-live c.args.self.now.planes.table c.args.addr c.bytes_left-room.result c.loop-k.k c.bytes_left-room.ensures.good c.loop-k-test.true
@@ -46,8 +46,8 @@ returns-clause-string c = λ beside world shows.
 
 pub returns-then-byte-eq0-clause-short : goal.returns-then-byte-eq0-clause-short
 returns-then-byte-eq0-clause-short c =
-    let few : c.bytes_left-room.result ≤ 2 ^ 26 = live-size c.args.self.now.planes.table c.args.addr c.bytes_left-room.result (subst (λ (h : WorldState). IsLaidOut h.planes.table) c.self.view_is c.is_laid_out.ensures) c.bytes_left-room.ensures.good in
+    let few : c.bytes_left-room.result ≤ 2 ^ 26 = live-size c.args.self.now.planes.table c.args.addr c.bytes_left-room.result (subst (λ (h : WorldState). IsLaidOut h.planes.table) c.self.view_is c.law_laid_out.ensures) c.bytes_left-room.ensures.good in
     let e : c.loop-k.k ≤ 2 ^ 26 = omega (arith, c.loop-k-test.true, few) in e
 
 pub returns-then-byte-eq0-clause-low : goal.returns-then-byte-eq0-clause-low
-returns-then-byte-eq0-clause-low c = fits-word c.args.self.now.planes.table c.args.addr c.bytes_left-room.result c.loop-k.k (subst (λ (h : WorldState). IsLaidOut h.planes.table) c.self.view_is c.is_laid_out.ensures) c.bytes_left-room.ensures.good c.loop-k-test.true
+returns-then-byte-eq0-clause-low c = fits-word c.args.self.now.planes.table c.args.addr c.bytes_left-room.result c.loop-k.k (subst (λ (h : WorldState). IsLaidOut h.planes.table) c.self.view_is c.law_laid_out.ensures) c.bytes_left-room.ensures.good c.loop-k-test.true

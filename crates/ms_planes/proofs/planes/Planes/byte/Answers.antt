@@ -1,6 +1,6 @@
 use Rattle.std.proofs.Common.{sym, ◌∙◌, subst, arith}
 use Rattle.ms_raw.specs.Blocks.{Lists}
-use Rattle.ms_planes.specs.declared.parts.Part.TheVariants.{Bytes}
+use Rattle.ms_planes.specs.declared.parts.Plane.TheVariants.{Bytes}
 use Rattle.ms_planes.specs.Memory.{Memory}
 use Rattle.ms_planes.proofs.Standing.{Stands, stands, held-block, never-none}
 use Rattle.ms_planes.proofs.planes.Planes.byte.Goals as goal

@@ -3,7 +3,7 @@ use Rattle.std.proofs.lemmas.List.{take_at}
 use Rattle.ms_alloc.specs.Allocations.{IsLaidOut, with_made, next_base}
 use Rattle.ms_bits.specs.Maps.{with_range, with_cells}
 use Rattle.ms_raw.specs.Blocks.{Lists, blank}
-use Rattle.ms_planes.specs.declared.parts.Part.TheVariants.{Bytes, Shadow}
+use Rattle.ms_planes.specs.declared.parts.Plane.TheVariants.{Bytes, Shadow}
 use Rattle.ms_planes.specs.Memory.{Memory, IsMemory, lists, area_index, bytes_of, shadow_of, origins_of}
 use Rattle.ms_planes.specs.contracts.planes.Planes.{the_view}
 use Rattle.ms_planes.proofs.Standing.{index-low, vector-at}

@@ -8,7 +8,7 @@ use Rattle.ms_alloc.specs.Allocations.{of_kind}
 use Rattle.ms_planes.specs.Memory.{IsMemory}
 use Rattle.ms_planes.proofs.Readings.{part-number}
 use Rattle.ms_planes.proofs.Good.{placed-good}
-use Rattle.ms_planes.specs.declared.parts.Part.TheVariants as part
+use Rattle.ms_planes.specs.declared.parts.Plane.TheVariants as part
 use Rattle.ms_alloc.specs.Allocations.{is_good}
 
 pub block-requires : goal.block-requires

@@ -2,7 +2,7 @@ use Rattle.std.proofs.Common.{◌≡◌, ◌+◌, ◌<◌, length, get_or, refl,
 use Rattle.std.specs.Vec.{with_item}
 use Rattle.ms_bits.specs.Fill.{made_byte}
 use Rattle.ms_raw.specs.Blocks.{Lists}
-use Rattle.ms_planes.specs.declared.parts.Part.TheVariants.{Bytes}
+use Rattle.ms_planes.specs.declared.parts.Plane.TheVariants.{Bytes}
 use Rattle.ms_planes.specs.Memory.{Memory, lists, area_index}
 use Rattle.ms_planes.specs.contracts.planes.Planes.{the_view}
 use Rattle.ms_planes.proofs.Standing.{Stands, stands, PartWritten, part-written, index-low, block-read, blocks-put, row-long, held-block, never-none, with_block}

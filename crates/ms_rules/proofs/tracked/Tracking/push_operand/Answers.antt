@@ -23,10 +23,10 @@ unreachable-requires c =
 
 pub returns-clause-are : goal.returns-clause-are
 returns-clause-are c =
-    subst (λ o. OnOk c.push.result (map tracked_of c.push.new.self.operands.items ≡ map tracked_of c.args.self.now.operands.items ++ tracked_one (env_of c.args.scope.now) c.args.self.now.behind o ∷ []))
+    subst (λ o. OnOk c.push.result (map tracked_of c.push.new.self.operands.items ≡ map tracked_of c.args.self.now.operands.items ++ tracked_one (env_of c.args.scope.now) c.args.self.now.after o ∷ []))
     (both_found (operands c.args.op.now) c.args.place _ _ c.in-Some-Some.ensures' c.in-Some-Some.ensures) c.push.ensures.are
 
-pub returns-clause-behind : goal.returns-clause-behind
-returns-clause-behind c =
-    subst (λ o. OnOk c.push.result (c.push.new.self.behind ≡ c.args.self.now.behind + one_undef o))
-    (operand_found (operands c.args.op.now) c.args.place _ c.in-Some-Some.ensures) c.push.ensures.behind
+pub returns-clause-after : goal.returns-clause-after
+returns-clause-after c =
+    subst (λ o. OnOk c.push.result (c.push.new.self.after ≡ c.args.self.now.after + one_undef o))
+    (operand_found (operands c.args.op.now) c.args.place _ c.in-Some-Some.ensures) c.push.ensures.after

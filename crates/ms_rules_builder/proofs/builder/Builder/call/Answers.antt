@@ -4,7 +4,7 @@ use Rattle.ms_ir.specs.Signatures.{runtime_signature}
 use Rattle.ms_ir.specs.declared.syntax.Ty.{Ty}
 use Rattle.ms_ir.specs.declared.syntax.Operand.{Operand}
 use Rattle.ms_ir.specs.declared.syntax.Op.TheVariants as op
-use Rattle.ms_tasks.specs.Tasks.{InsertedCode}
+use Rattle.ms_pass_tasks.specs.Tasks.{InsertedCode}
 use Rattle.ms_rules_builder.specs.Steps.{inputs_of}
 use Rattle.ms_rules_builder.proofs.Tasks.{with_inserted, calls}
 use Rattle.ms_rules_builder.proofs.builder.Builder.call.Goals as goal

@@ -3,7 +3,7 @@ use Rattle.ms_ir.specs.Signatures.{runtime_signature}
 use Rattle.ms_ir.specs.declared.syntax.Name.{Name}
 use Rattle.ms_ir.specs.declared.syntax.Ty.{Ty}
 use Rattle.ms_ir.specs.declared.syntax.Op.TheVariants as op
-use Rattle.ms_tasks.specs.Tasks.{InsertedCode}
+use Rattle.ms_pass_tasks.specs.Tasks.{InsertedCode}
 use Rattle.ms_rules_builder.proofs.Tasks.{with_inserted}
 use Rattle.ms_rules_builder.proofs.builder.Builder.put_call.Goals as goal
 

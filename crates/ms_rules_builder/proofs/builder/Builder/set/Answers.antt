@@ -1,6 +1,6 @@
 use Rattle.std.proofs.Common.{◌≡◌, OnOk, subst, ap, ◌∙◌, Some}
 use Rattle.ms_ir.specs.declared.syntax.Ty.{Int}
-use Rattle.ms_tasks.specs.Tasks.{InsertedCode}
+use Rattle.ms_pass_tasks.specs.Tasks.{InsertedCode}
 use Rattle.ms_rules_builder.specs.Steps.{inputs_of}
 use Rattle.ms_rules_builder.proofs.Tasks.{with_inserted, sets}
 use Rattle.ms_rules_builder.proofs.builder.Builder.set.Goals as goal

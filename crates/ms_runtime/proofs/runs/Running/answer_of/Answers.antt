@@ -3,8 +3,8 @@ use denote.Enum.Declared.{tag_of}
 use Rattle.ms_ir.specs.contracts.calls.External.{the_type}
 use Rattle.ms_ir.specs.declared.calls.External.TheVariants as external
 use Rattle.ms_ir.specs.declared.syntax.Module.{Module}
-use Rattle.ms_valid.specs.Formed.{Formed}
-use Rattle.ms_valid.proofs.SmallNumbers.{small_numbers}
+use Rattle.ms_check_valid.specs.Formed.{Formed}
+use Rattle.ms_check_valid.proofs.SmallNumbers.{small_numbers}
 use Rattle.ms_runs.specs.Externals.{formatted, prints}
 use Rattle.ms_runs.specs.Plain.{setting_of}
 use Rattle.ms_host.specs.Answers.{Answered, effect_asked}
@@ -17,7 +17,7 @@ use Rattle.ms_runtime.proofs.runs.Running.answer_of.Goals as goal
 
 pub answer_printf-requires : goal.answer_printf-requires
 answer_printf-requires c = record {
-  small = small_numbers c.«module».result.now (subst Formed (sym c.«module».ensures) c.is_valid.ensures.formed);
+  small = small_numbers c.«module».result.now (subst Formed (sym c.«module».ensures) c.law_valid.ensures.formed);
   sites = subst (λ (m : Module). AreCallSites m c.args.self.now.printf.calls) (sym c.«module».ensures) c.requires.asking.1.1.keeping.printf;
 }
 
@@ -29,13 +29,13 @@ answer-requires-clause-external c =
 pub answer-requires-clause-first : goal.answer-requires-clause-first
 answer-requires-clause-first c =
     let q = c.requires.asking in
-    let a = arguments_of c.args.m.now c.is_valid.ensures.valid q.0 c.args.call.now c.args.self.now q.1.1 in
+    let a = arguments_of c.args.m.now c.law_valid.ensures.valid q.0 c.args.call.now c.args.self.now q.1.1 in
     fits_first c.args.call.now.asked a.0 c.args.call.now.args a.1.words
 
 pub serve-requires-clause-fits : goal.serve-requires-clause-fits
 serve-requires-clause-fits c =
     let q = c.requires.asking in
-    let a = arguments_of c.args.m.now c.is_valid.ensures.valid q.0 c.args.call.now c.args.self.now q.1.1 in
+    let a = arguments_of c.args.m.now c.law_valid.ensures.valid q.0 c.args.call.now c.args.self.now q.1.1 in
     fits_asked c.args.call.now.asked a.0 c.args.call.now.args c.in-Runtime.field-0 c.in-Runtime.is a.1.count a.1.words
 
 pub returns-in-External-Printf : goal.returns-in-External-Printf

@@ -1,9 +1,9 @@
 use Rattle.std.proofs.Common.{◌≡◌, List, ◌∙◌, ap, subst, sym}
 use Rattle.std.specs.Prelude.{IfOk, codes, map}
 use Rattle.ms_text_grammar.specs.Lexemes.{Lexeme}
-use Rattle.ms_text_layout.specs.Pieces.{enclosed}
-use Rattle.ms_text_layout.specs.Types.{struct_tokens}
-use Rattle.ms_text_layout.specs.Values.{init_tokens}
+use Rattle.ms_text_grammar.specs.LayoutPieces.{enclosed}
+use Rattle.ms_text_grammar.specs.LayoutTypes.{struct_tokens}
+use Rattle.ms_text_grammar.specs.LayoutValues.{init_tokens}
 use Rattle.ms_write_values.specs.Parts.{item_tokens}
 use Rattle.ms_write_values.specs.Sheets.{put}
 use Rattle.ms_write_values.proofs.Loops.{commas_step, commas_first}

@@ -1,7 +1,7 @@
 use Rattle.std.proofs.Common.{◌≡◌, List, ◌∙◌, ap, subst, sym}
 use Rattle.std.specs.Prelude.{IfOk, map}
 use Rattle.ms_text_grammar.specs.Lexemes.{Lexeme}
-use Rattle.ms_text_layout.specs.Types.{type_tokens, array_tokens, struct_tokens}
+use Rattle.ms_text_grammar.specs.LayoutTypes.{type_tokens, array_tokens, struct_tokens}
 use Rattle.ms_write_values.specs.Sheets.{put}
 use Rattle.ms_write_values.proofs.Loops.{commas_step, commas_first}
 use Rattle.ms_write_values.proofs.Shapes.{type_array, type_struct}

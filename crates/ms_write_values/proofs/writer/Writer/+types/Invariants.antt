@@ -1,8 +1,8 @@
 use Rattle.std.proofs.Common.{◌≡◌, ◌+◌, ◌*◌, map, drop}
 use denote.Param.Weighed.{most}
 use Rattle.ms_ir.specs.declared.syntax.Ty.{size-Ty}
-use Rattle.ms_text_layout.specs.Pieces.{behind_commas}
-use Rattle.ms_text_layout.specs.Types.{type_tokens}
+use Rattle.ms_text_grammar.specs.LayoutPieces.{after_commas}
+use Rattle.ms_text_grammar.specs.LayoutTypes.{type_tokens}
 use Rattle.ms_write_values.specs.Sheets.{put}
 use Rattle.ms_write_values.proofs.writer.Writer.+types.Given as goal
 
@@ -22,4 +22,4 @@ abbrev pub decreases-more_types : goal.decreases-more_types
 decreases-more_types l = 4 * most size-Ty l.types.now + 1
 
 abbrev pub invariant-more_types-loop-ty : goal.invariant-more_types-loop-ty
-invariant-more_types-loop-ty l = put l.self (behind_commas (map type_tokens (drop l.ty-index l.types))) ≡ put l.fn.self (behind_commas (map type_tokens l.types))
+invariant-more_types-loop-ty l = put l.self (after_commas (map type_tokens (drop l.ty-index l.types))) ≡ put l.fn.self (after_commas (map type_tokens l.types))

@@ -1,4 +1,4 @@
-use Rattle.ms_text_layout.specs.Values.{constant_index_tokens}
+use Rattle.ms_text_grammar.specs.LayoutValues.{constant_index_tokens}
 use Rattle.ms_write_values.proofs.Loops.{commas_step}
 use Rattle.ms_write_values.proofs.writer.Writer.constant_indices.Goals as goal
 

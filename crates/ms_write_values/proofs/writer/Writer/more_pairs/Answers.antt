@@ -1,4 +1,4 @@
-use Rattle.ms_text_layout.specs.Values.{pair_tokens}
+use Rattle.ms_text_grammar.specs.LayoutValues.{pair_tokens}
 use Rattle.ms_write_values.proofs.Loops.{commas_step}
 use Rattle.ms_write_values.proofs.writer.Writer.more_pairs.Goals as goal
 

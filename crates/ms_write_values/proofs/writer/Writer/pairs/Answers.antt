@@ -1,4 +1,4 @@
-use Rattle.ms_text_layout.specs.Values.{pair_tokens}
+use Rattle.ms_text_grammar.specs.LayoutValues.{pair_tokens}
 use Rattle.ms_write_values.proofs.Loops.{commas_first}
 use Rattle.ms_write_values.proofs.writer.Writer.pairs.Goals as goal
 

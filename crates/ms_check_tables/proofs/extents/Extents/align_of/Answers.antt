@@ -1,0 +1,13 @@
+use Rattle.std.proofs.Common.{ap, ◌∙◌}
+use Rattle.std.specs.Prelude.{option_map}
+use Rattle.ms_ir.specs.Names.{lookup}
+use Rattle.ms_ir.specs.Layout.{type_extent, named_extent, extent_in}
+use Rattle.ms_ir.specs.Extents.{limit_extent}
+use Rattle.ms_check_tables.proofs.extents.Extents.align_of.Goals as goal
+
+pub returns-clause-is : goal.returns-clause-is
+returns-clause-is c =
+    c.align_in_layout.ensures.is (extent_in c.args.self.now c.args.ty.now)
+    (c.layout_of.ensures.is
+    ∙ ap (λ n. option_map limit_extent (type_extent (named_extent (lookup c.self.inside.kept.types) n) c.args.ty.now)) c.self.invariant
+    ∙ ap (λ types. option_map limit_extent (extent_in types c.args.ty.now)) c.self.view_is)

@@ -1,6 +1,0 @@
-use Rattle.std.proofs.Common.{◌≡◌}
-use Rattle.ms_debug.specs.Nodes.{first_spelled}
-use Rattle.ms_debug.proofs.nodes.Debug.field.Given as goal
-
-abbrev pub invariant-loop-token : goal.invariant-loop-token
-invariant-loop-token l = first_spelled l.self l.word l.token l.within.behind ≡ first_spelled l.self l.word l.within.first l.within.behind

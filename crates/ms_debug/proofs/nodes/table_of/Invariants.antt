@@ -1,5 +1,0 @@
-use Rattle.ms_debug.proofs.Tables.{IsTableFrom}
-use Rattle.ms_debug.proofs.nodes.table_of.Given as goal
-
-abbrev pub invariant-loop-place : goal.invariant-loop-place
-invariant-loop-place l = IsTableFrom l.marked l.place l.nodes.items

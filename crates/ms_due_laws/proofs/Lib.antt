@@ -1,4 +1,0 @@
-pub mod Reaching
-pub mod Returning
-pub mod Beginning
-pub mod Performing

@@ -1,5 +1,0 @@
-use Rattle.ms_elide_laws.proofs.CheckCount.{checks_counted}
-use Rattle.ms_elide_laws.proofs.checks.checks_left.Goals as goal
-
-pub returns : goal.returns
-returns c = checks_counted

@@ -1,5 +1,0 @@
-use Rattle.ms_elide_laws.proofs.Elided.{faithful}
-use Rattle.ms_elide_laws.proofs.modules.elided_faithful.Goals as goal
-
-pub returns : goal.returns
-returns c = λ m clean formed valid can. faithful m formed valid can clean

@@ -1,4 +1,0 @@
-pub mod Eliding
-pub mod Checks
-pub mod ExampleSayings
-pub mod Elided

@@ -1,4 +1,0 @@
-pub mod Light
-pub mod Frames
-pub mod Planes
-pub mod Steps

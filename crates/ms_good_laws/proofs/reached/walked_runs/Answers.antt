@@ -1,5 +1,0 @@
-use Rattle.ms_good_laws.proofs.Walks.{from_walk}
-use Rattle.ms_good_laws.proofs.reached.walked_runs.Goals as goal
-
-pub returns : goal.returns
-returns c = from_walk

@@ -1,5 +1,0 @@
-use Rattle.ms_moves.proofs.EdgeWalks.{Passed}
-use Rattle.ms_moves.proofs.edges.edge_source.Given as goal
-
-abbrev pub invariant-loop-number : goal.invariant-loop-number
-invariant-loop-number l = Passed l.frame l.from l.edges l.before l.number l.count

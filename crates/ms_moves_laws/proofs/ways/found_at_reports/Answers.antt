@@ -1,8 +1,0 @@
-use Rattle.ms_moves_laws.proofs.Found.{where_reported, where_found}
-use Rattle.ms_moves_laws.proofs.ways.found_at_reports.Goals as goal
-
-pub returns-clause-reported : goal.returns-clause-reported
-returns-clause-reported c = where_reported
-
-pub returns-clause-found : goal.returns-clause-found
-returns-clause-found c = where_found

@@ -1,5 +1,0 @@
-use Rattle.ms_moves_laws.proofs.AllMoves.{complete}
-use Rattle.ms_moves_laws.proofs.ways.moves_are_complete.Goals as goal
-
-pub returns : goal.returns
-returns c = complete

@@ -1,5 +1,0 @@
-use Rattle.ms_moves_laws.proofs.Whole.{ordered}
-use Rattle.ms_moves_laws.proofs.ways.moves_are_in_order.Goals as goal
-
-pub returns : goal.returns
-returns c = ordered

@@ -1,4 +1,0 @@
-pub mod FromReached
-pub mod ExampleTraces
-pub mod Complete
-pub mod Staying

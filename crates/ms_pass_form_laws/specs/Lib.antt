@@ -1,0 +1,4 @@
+pub mod Numbers
+pub mod Eliding
+pub mod Checks
+pub mod Elided

@@ -1,0 +1,24 @@
+use Rattle.std.proofs.Common.{refl}
+use Rattle.ms_bits.specs.Words.{words}
+use Rattle.ms_runs.specs.Origins.{depth_limit}
+use Rattle.ms_runs_examples.proofs.thread_runs.plain_rows.Goals as goal
+
+pub returns-clause-deadlock : goal.returns-clause-deadlock
+unfolding words depth_limit
+returns-clause-deadlock c = refl
+
+pub returns-clause-spent_at_a_join : goal.returns-clause-spent_at_a_join
+unfolding words depth_limit
+returns-clause-spent_at_a_join c = refl
+
+pub returns-clause-unset : goal.returns-clause-unset
+unfolding words depth_limit
+returns-clause-unset c = refl
+
+pub returns-clause-room_ends : goal.returns-clause-room_ends
+unfolding words depth_limit
+returns-clause-room_ends c = refl
+
+pub returns-clause-room_freed : goal.returns-clause-room_freed
+unfolding words depth_limit
+returns-clause-room_freed c = refl

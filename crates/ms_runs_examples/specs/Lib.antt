@@ -1,0 +1,17 @@
+pub mod Programs
+pub mod Marks
+pub mod Externals
+pub mod Setups
+pub mod Faults
+pub mod Threads
+pub mod Instrumented
+pub mod Walks
+pub mod Traces
+pub mod Sayings
+pub mod Texts
+pub mod ReadModules
+pub mod WrittenModules
+pub mod UndefinedTexts
+pub mod RunPrograms
+pub mod CallFrames
+pub mod Carriers

@@ -1,0 +1,51 @@
+//! Runs that are the same whatever uninitialised memory holds.
+ghost use Rattle.std.specs.Prelude.{◌≡◌, ◌<◌, ℕ, List, [], ◌∷◌, All, false};
+ghost use Rattle.ms_ir.specs.{ThreadCalls.{is_threaded}, declared.syntax.Module.{Module}, Instructions.{NoMarks}};
+ghost use Rattle.ms_runs.specs.{declared.runs.Setup.{Setup}, declared.runs.Report.{Report}, Plain.{setting_of, plain}};
+ghost use Rattle.ms_runs.specs.{Masks.{by_completions}, Shadow.{ShadowState, shadow_step, shadow}, LowEqual.{LowEqual}};
+ghost use Rattle.ms_runs.specs.{Faithful.{Fair, Faithful}, Shadow.{shadow_start}};
+ghost use Rattle.ms_check_valid.specs.{Formed.{Formed}, Valid.{Valid}};
+ghost use Rattle.ms_runs_good_laws.specs.Fills.{IsFill, refilled, to_first_report, NoBlindUse, SameShown, SameUnderFills, InsertedUnderFills};
+ghost use Rattle.ms_runs_good_laws.specs.{GoodWorlds.{GivesBytes}, GoodRuns.{LeadsTo}};
+ghost use Rattle.ms_runs_fills_laws.specs.{Placed.{SoundPlaced}, First.{FirstOf}, Alike.{StepsAlike, CountsNone}};
+ghost use Rattle.ms_runs_fills_laws.specs.Checked.{HoldsUnderFills};
+
+/// Two runs of a formed and valid module under two fills start in low equal states. From low equal states a step that
+/// counts no blind use leads to low equal states, or ends both runs alike, where one report ends a run. The states that
+/// are spoken of are good ones, in whose worlds the heap's blocks stand one after the other; runs start in such states,
+/// and steps lead to such states.
+pub fn low_steps()
+    ensures starts { (m : Module) (setup : Setup) (fill : List ℕ) → LowEqual (shadow_start m setup) (shadow_start m (refilled setup fill)) }
+    ensures steps { (m : Module) → Formed m → Valid m → is_threaded m ≡ false → (setup : Setup) (fill : List ℕ) → setup.reports ≡ 1
+        → (c d : ShadowState) → SoundPlaced m c → SoundPlaced m d → LowEqual c d → CountsNone c (shadow_step by_completions (setting_of m setup) m c)
+        → StepsAlike (shadow_step by_completions (setting_of m setup) m c) (shadow_step by_completions (setting_of m (refilled setup fill)) m d) }
+    ensures good_starts { (m : Module) → Formed m → Valid m → is_threaded m ≡ false → (setup : Setup) → GivesBytes setup → SoundPlaced m (shadow_start m setup) }
+    ensures good_steps { (m : Module) → Formed m → Valid m → is_threaded m ≡ false → (setup : Setup) → GivesBytes setup → (c : ShadowState) → SoundPlaced m c
+        → LeadsTo (SoundPlaced m) (λ w. Unit {0}) (shadow_step by_completions (setting_of m setup) m c) }
+{}
+
+/// Where a shadow run that ends at its first report has no blind use, every other fill gives the same output, end, report
+/// and count. Where it has no report, the program itself prints the same and ends in the same way. Of inserted code that
+/// is faithful the plain run says the same.
+pub fn two_fills()
+    ensures shadow_runs { (m : Module) → Formed m → Valid m → is_threaded m ≡ false → NoMarks m → (setup : Setup) → GivesBytes setup → NoBlindUse m setup → SameUnderFills m setup }
+    ensures instrumented { (m : Module) → Formed m → Valid m → is_threaded m ≡ false → (j : Module) → Faithful m j → (setup : Setup) → Fair setup → InsertedUnderFills j setup }
+{}
+
+/// A run up to its first report is the beginning of the run that goes on. So where a run has neither a report nor a blind
+/// use, the program prints what the run prints and ends as it ends under every fill; and where it has no blind use, its
+/// first report is the report under every fill.
+pub fn first_reports()
+    ensures first { (m : Module) (setup : Setup) → FirstOf (shadow m (to_first_report setup)) (shadow m setup) }
+    ensures clean { (m : Module) → Formed m → Valid m → is_threaded m ≡ false → NoMarks m → (setup : Setup) → GivesBytes setup → (shadow m setup).blind ≡ 0 → (shadow m setup).reports ≡ []
+        → (fill : List ℕ) → IsFill fill → SameShown (plain m (refilled setup fill)) (shadow m setup) }
+    ensures reported { (m : Module) → Formed m → Valid m → is_threaded m ≡ false → NoMarks m → (setup : Setup) → GivesBytes setup → (shadow m setup).blind ≡ 0
+        → (report : Report) (rest : List Report) → (shadow m setup).reports ≡ report ∷ rest
+        → (fill : List ℕ) → IsFill fill → (shadow m (refilled (to_first_report setup) fill)).reports ≡ report ∷ [] }
+{}
+
+/// What a plain run of a faithful form says of a module holds under every fill: a clean verdict of the program itself, and
+/// the first report where no blind use was counted.
+pub fn checked_runs()
+    ensures { (m : Module) → Formed m → Valid m → is_threaded m ≡ false → NoMarks m → (j : Module) → Faithful m j → (setup : Setup) → Fair setup → HoldsUnderFills m setup (plain j setup) }
+{}

@@ -1,0 +1,9 @@
+pub mod GoodStates
+pub mod GoodEffects
+pub mod GoodWorlds
+pub mod Straight
+pub mod GoodRules
+pub mod GoodRuns
+pub mod Sited
+pub mod Reached
+pub mod Fills

@@ -1,0 +1,5 @@
+pub mod Fibers
+pub mod Alike
+pub mod Scripts
+pub mod PlainFibers
+pub mod ShadowFibers

@@ -1,4 +1,0 @@
-mod Fills
-pub mod Reading
-pub mod Indices
-pub mod Computing

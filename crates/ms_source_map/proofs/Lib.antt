@@ -1,5 +1,0 @@
-pub mod Newlines
-pub mod Ranges
-pub mod Chosen
-pub mod Indents
-pub mod Numbered

@@ -1,5 +1,0 @@
-pub mod Sites
-pub mod Shown
-pub mod Lines
-pub mod Views
-pub mod Numbered

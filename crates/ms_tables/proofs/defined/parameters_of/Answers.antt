@@ -1,7 +1,0 @@
-use Rattle.std.proofs.Common.{◌∙◌}
-use Rattle.std.proofs.lemmas.Result.{IfOk-weaker}
-use Rattle.ms_tables.proofs.Given.{given_is}
-use Rattle.ms_tables.proofs.defined.parameters_of.Goals as goal
-
-pub returns : goal.returns
-returns c = IfOk-weaker c.names_of.result _ _ (λ _ is. is ∙ given_is (λ p. p.1) c.as_slice.result.now c.args.func.now.params c.as_slice.ensures) c.names_of.ensures

@@ -1,8 +1,0 @@
-use Rattle.ms_tasks.proofs.SlotLists.{call_alone, return_alone}
-use Rattle.ms_tasks.proofs.instructions.slots_are_filled_alone.Goals as goal
-
-pub returns-clause-calls : goal.returns-clause-calls
-returns-clause-calls c = call_alone
-
-pub returns-clause-returns : goal.returns-clause-returns
-returns-clause-returns c = return_alone

@@ -1,8 +1,0 @@
-use Rattle.ms_tasks.proofs.InsertedNames.{msan_name_one, msan_reserved}
-use Rattle.ms_tasks.proofs.language.inserted_names_differ.Goals as goal
-
-pub returns-clause-apart : goal.returns-clause-apart
-returns-clause-apart c = msan_name_one
-
-pub returns-clause-reserved : goal.returns-clause-reserved
-returns-clause-reserved c = msan_reserved

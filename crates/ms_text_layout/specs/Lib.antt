@@ -1,9 +1,0 @@
-pub mod Pieces
-pub mod Names
-pub mod Types
-pub mod Values
-pub mod Insts
-pub mod Modules
-pub mod Apart
-pub mod Layout
-pub mod ExampleModules

@@ -1,0 +1,270 @@
+-- After the answer to a call a run of threads goes on, or has ended, as its definition does.
+use Rattle.std.proofs.Common.{◌≡◌, ◌<◌, ◌≤◌, ◌+◌, ◌-◌, ◌*◌, ◌^◌, ℕ, suc, Bool, true, false, not, eqb, if◌then◌else◌, List, ◌∷◌, length, slice_get, refl, sym, ap, subst, ◌∙◌, arith, Option, Some, None, inl}
+use Rattle.ms_ir.specs.declared.syntax.Module.{Module}
+use Rattle.ms_ir.specs.declared.calls.External.{External}
+use Rattle.ms_ir.specs.Instructions.{over_funcs}
+use Rattle.ms_ir.specs.Signatures.{is_thread_call}
+use Rattle.ms_check_valid.specs.Formed.{Formed}
+use Rattle.ms_check_valid.specs.Valid.{Valid}
+use Rattle.ms_runs.specs.declared.runs.End.{End}
+use Rattle.ms_runs.specs.declared.runs.Setup.{Setup}
+use Rattle.ms_runs.specs.World.{World}
+use Rattle.ms_runs.specs.Control.{Frame}
+use Rattle.ms_runs.specs.Plain.{PlainState, Stepped, setting_of}
+use Rattle.ms_runs.specs.Threads.{Fibers}
+use Rattle.ms_runs_good_laws.specs.GoodStates.{IsStart}
+use Rattle.ms_runs_threads.specs.Fibers.{goes_on, moves}
+use Rattle.ms_runs_threads.specs.PlainFibers.{plain_threads, plain_going}
+use Rattle.ms_machine_code.specs.declared.code.Program.{Program}
+use Rattle.ms_machine_code.specs.Compiled.{Compiled}
+use Rattle.ms_host.specs.State.{WorldState}
+use Rattle.ms_host.specs.declared.calls.Asked.{Asked}
+use Rattle.ms_host.specs.declared.calls.Asked.TheVariants as asked
+use Rattle.ms_host.specs.declared.calls.Answer.{Answer}
+use Rattle.ms_host.specs.declared.calls.Answer.TheVariants as answer
+use Rattle.ms_host.specs.declared.calls.HostCall.{HostCall}
+use Rattle.ms_host.specs.State.{Keeps}
+use Rattle.ms_host.specs.Answers.{Answered, asked_effect}
+use Rattle.ms_printf.specs.CallSites.{AreCallSites}
+use Rattle.ms_machine_frames.specs.declared.fibers.Fiber.{Fiber}
+use Rattle.ms_machine_frames.specs.Owning.{KeepsOwn}
+use Rattle.ms_machine_frames.specs.Standing.{frames_of, IsState}
+use Rattle.ms_machine_steps.specs.Waiting.{Waits, types_due, answered}
+use Rattle.ms_machine_steps.specs.Advances.{Resumes, Stops, HasResumed}
+use Rattle.ms_machine_steps.proofs.Answered.{waiter, below_it, waits, waiter_stands, answered_on, answered_ends, HasStopped}
+use Rattle.ms_machine.specs.Running.{AllStandFor, IsRunning}
+use Rattle.ms_machine.proofs.Programs.{frames_to, frames_from, state_to, state_from}
+use Rattle.ms_runtime.specs.declared.runs.Running.{Running}
+use Rattle.ms_runtime.specs.Served.{IsBeside}
+use Rattle.ms_runtime.specs.Answering.{HasRoom, AnsweredFor}
+use Rattle.ms_runtime.specs.Going.{ahead, Answers, LeftAfter}
+use Rattle.ms_runtime.proofs.Fitting.{has_room}
+use Rattle.ms_runtime.proofs.Goings.{one_nearer, at_within}
+use Rattle.ms_threads.specs.declared.runs.ThreadedRun.{ThreadedRun}
+use Rattle.ms_threads.specs.ThreadTables.{standing_of, IsThreadCall, asked_starts, Shares, KeepsStands, SharesOn, Did}
+use Rattle.ms_threads.specs.Going.{Standings, fiber_of, goes_at, ends_from, ends_after, last_of, Going, Asking, After, Performing, Turned, most_ahead, far_of}
+use Rattle.ms_threads.proofs.Kept.{standings_kept}
+use Rattle.ms_threads.proofs.FiberSteps.{same_step, own_step, step_ends}
+use Rattle.ms_threads.proofs.Turns.{ends_so}
+
+-- an external that is no thread call
+pub not_thread : (e : External) → (IsThreadCall (asked.External e) → ⊥) → is_thread_call e ≡ false
+not_thread e none = by_test (is_thread_call e) refl
+  where
+    by_test : (b : Bool) → is_thread_call e ≡ b → is_thread_call e ≡ false
+    by_test true h = absurd (none h)
+    by_test false h = h
+
+module _ (m : Module) (u : Setup) (schedule : List ℕ) where
+  -- it is nearer to the end than an external's answer may be
+  pub far_least : (of : Asked) (r : Running) → ahead m r ≤ far_of m of r
+  far_least (asked.External e) r = omega arith
+  far_least (asked.Runtime f) r = omega arith
+
+  pub far_call : (of : Asked) (r r' : Running) → IsThreadCall of → r'.budget ≡ r.budget → suc (most_ahead m r') ≤ far_of m of r
+  far_call (asked.External e) r r' is same = let most : most_ahead m r' ≡ most_ahead m r = ap (λ b. b.left * (over_funcs (λ inst. 1) m.funcs + 1) + over_funcs (λ inst. 1) m.funcs) same in omega (arith, most)
+  far_call (asked.Runtime f) r r' is same = absurd is
+
+  -- ---- a call that is no thread call was answered
+
+  module _ (t t' : ThreadedRun) (call : HostCall) (a : Asking m u schedule call t) (other : IsThreadCall call.asked → ⊥) (x : Answer) (f : AnsweredFor m u call a.within x t.running t'.running) (guests : t'.table ≡ t.table) where
+    left_is : t'.running.budget.left ≡ t.running.budget.left
+    left_is = ap (λ b. b.left) f.budget
+
+    ahead_is : ahead m t'.running ≡ ahead m t.running
+    ahead_is =
+        ap (λ (n : ℕ). n * (over_funcs (λ inst. 1) m.funcs + 1) + (over_funcs (λ inst. 1) m.funcs - t'.running.fiber.frame.at)) left_is
+        ∙ ap (λ (g : Fiber). t.running.budget.left * (over_funcs (λ inst. 1) m.funcs + 1) + (over_funcs (λ inst. 1) m.funcs - g.frame.at)) f.fiber
+
+    goes_by : (of : Asked) → (IsThreadCall of → ⊥) → LeftAfter of a.rest t.running.budget.left → (next : PlainState) → Resumes m u of a.within next → ends_from m u schedule t.running.budget.left (goes_at next a.others) ≡ last_of m u schedule
+    goes_by (asked.External e) none c next r =
+        ap (λ n. ends_from m u schedule n (goes_at next a.others)) (sym c)
+        ∙ sym (ap (ends_after m u schedule a.rest) (own_step m u schedule a.within next a.others (r.1 (not_thread e none)) r.0)) ∙ a.same
+    goes_by (asked.Runtime g) none c next r =
+        ap (λ n. ends_from m u schedule n (goes_at next a.others)) (sym c)
+        ∙ sym (ap (ends_after m u schedule a.rest) (same_step m u schedule a.within next a.others r)) ∙ a.same
+
+    stops_by : (of : Asked) → (IsThreadCall of → ⊥) → (e : End) (last : World) → Stops m u of a.within e last → (e, last) ≡ last_of m u schedule
+    stops_by (asked.External g) none e last s =
+        sym (ap (ends_after m u schedule a.rest) (step_ends m u schedule a.within a.others e last (record { step = s.0; early = inl (s.1 (not_thread g none)) }))) ∙ a.same
+    stops_by (asked.Runtime g) none e last s = sym (ap (ends_after m u schedule a.rest) (step_ends m u schedule a.within a.others e last s)) ∙ a.same
+
+    pub answered_after : After m u schedule call x t'
+    answered_after = record {
+      before = t.running.world;
+      old = a.beside;
+      within = a.within;
+      others = a.others;
+      stands = subst (λ (g : Fiber). IsRunning m u a.beside g t.running.world a.within) (sym f.fiber) a.stands;
+      waits = a.waits;
+      beside = f.beside;
+      told = f.told;
+      answered = f.answered;
+      fill = f.keeps.fill;
+      slots = f.keeps.slots;
+      few = f.few;
+      blind = let e = ahead_is in omega (arith, e, f.blind, a.keeping.blind);
+      roots = f.roots ∙ a.keeping.roots;
+      room = f.room;
+      printf = subst (λ p. AreCallSites m p.calls) (sym f.printf) a.keeping.printf;
+      shares = λ v e. subst (λ g. Shares g f.beside.fibers) (sym guests) (subst (λ (y : Fibers). Shares t.table y) (sym (f.fibers ∙ a.stands.shows.fibers)) a.shares);
+      standings = subst (λ g. Standings m u schedule g a.others) (sym guests) a.standings;
+      goes = λ next r. ap (λ n. ends_from m u schedule n (goes_at next a.others)) left_is ∙ goes_by call.asked other a.counted next r;
+      stops = λ e last s. stops_by call.asked other e last s;
+    }
+
+    -- it is no further to the end
+    pub answered_far : ahead m t'.running ≤ ahead m t.running
+    answered_far = let e = ahead_is in omega (arith, e)
+
+  -- ---- a thread call was answered
+
+  module _ (t t' : ThreadedRun) (call : HostCall) (p : Performing m u schedule (standing_of t.running.fiber call) t) (x : Answer) (w : WorldState) (world : t'.running.world ≡ w) (d : Did (asked_effect (setting_of m u) (types_due m p.frames) call p.shared.world) x p.beside t'.table w)
+      (keeps : Keeps t.running.world w) (made : w.made ≡ t.running.world.made) (kept : KeepsStands (asked_starts call.asked call.args) t.table t'.table)
+      (begin : (k f : ℕ) → slice_get (asked_starts call.asked call.args) k ≡ Some f → IsStart m f)
+      (fiber : t'.running.fiber ≡ t.running.fiber) (depot : t'.running.depot ≡ t.running.depot) (told : t'.running.told ≡ t.running.told) (budget : t'.running.budget ≡ t.running.budget) (printf : t'.running.printf ≡ t.running.printf) where
+    -- the state in which it does the call
+    abbrev within : PlainState
+    within = record { frames = p.frames; slots = p.shared.slots; world = p.shared.world }
+
+    turn_is : p.shared.world.turn ≡ t.table.turn
+    turn_is = ap (λ f. f.turn) p.between.shows.fibers ∙ p.between.shares.turn
+
+    stands_there : IsRunning m u p.beside t.running.fiber t.running.world within
+    stands_there = record {
+      bytes = p.between.bytes;
+      frames = p.stood.frames;
+      shows = p.between.shows;
+      slots = p.between.slots;
+      fill = p.between.fill;
+      sound = record { frames = p.stood.good; slots = p.between.held; world = p.between.good };
+      owns = record { spawned = p.stood.spawned ∙ ap (λ (n : ℕ). not (eqb n 0)) (sym turn_is); blocks = p.stood.blocks };
+    }
+
+    left_there : t'.running.budget.left ≡ suc p.left
+    left_there = ap (λ b. b.left) budget ∙ p.some
+
+    same_blind : t'.running.told.blind ≡ t.running.told.blind
+    same_blind = ap (λ r. r.blind) told
+
+    most_is : most_ahead m t'.running ≡ most_ahead m t.running
+    most_is = ap (λ b. b.left * (over_funcs (λ inst. 1) m.funcs + 1) + over_funcs (λ inst. 1) m.funcs) budget
+
+    pub performed_far : ahead m t'.running ≤ most_ahead m t.running
+    performed_far = let e = most_is in omega (arith, e)
+
+    -- what the step of a pick comes to
+    abbrev on_perform : Stepped PlainState → End × World
+    on_perform r = ends_after m u schedule p.left (goes_on (plain_going r) (moves (fiber_of m u) p.others))
+
+    goes_call : (of : Asked) → IsThreadCall of → (next : PlainState) → Resumes m u of within next → ends_from m u schedule (suc p.left) (goes_at next p.others) ≡ last_of m u schedule
+    goes_call (asked.External e) is next r = sym (ap on_perform r.0) ∙ p.same
+    goes_call (asked.Runtime g) is next r = absurd is
+
+    stops_call : (of : Asked) → IsThreadCall of → (e : End) (last : World) → Stops m u of within e last → (e, last) ≡ last_of m u schedule
+    stops_call (asked.External g) is e last s = sym (ap on_perform s.0) ∙ p.same
+    stops_call (asked.Runtime g) is e last s = absurd is
+
+    shares_by : (a : Answer) → SharesOn a t'.table d.0 → (v : Option ℕ) → a ≡ answer.Resumed v → Shares t'.table d.0
+    shares_by (answer.Resumed w) h v e = h
+    shares_by (answer.Ended e) h v is = absurd (cc)
+
+    pub performed_after : After m u schedule call x t'
+    performed_after = record {
+      before = t.running.world;
+      old = p.beside;
+      within = within;
+      others = p.others;
+      stands = subst (λ (g : Fiber). IsRunning m u p.beside g t.running.world within) (sym fiber) stands_there;
+      waits = p.stood.waits;
+      beside = record p.beside { fibers = d.0 };
+      told = subst (λ d'. IsBeside d' t'.running.told (record p.beside { fibers = d.0 })) (sym depot) (subst (λ r. IsBeside t.running.depot r (record p.beside { fibers = d.0 })) (sym told)
+          (record { pairs = p.between.told.pairs; reports = p.between.told.reports; blind = p.between.told.blind }));
+      answered = subst (λ (w' : WorldState). Answered (record p.beside { fibers = d.0 }) (asked_effect (setting_of m u) (types_due m p.frames) call p.shared.world) x w') (sym world) d.1.0;
+      fill = ap (λ (w' : WorldState). w'.fill) world ∙ keeps.fill;
+      slots = ap (λ (w' : WorldState). w'.slots) world ∙ keeps.slots;
+      few = has_room u x t'.running (subst (λ r. length r.reports < u.reports) (sym told) p.between.few);
+      blind = let b = same_blind in let e = most_is in omega (arith, b, e, p.blind);
+      roots = ap (λ d'. d'.roots) depot ∙ p.between.roots;
+      room = let same : t'.running.world.made ≡ t.running.world.made = ap (λ (w' : WorldState). w'.made) world ∙ made in let left : t'.running.budget.left ≡ t.running.budget.left = ap (λ b. b.left) budget in
+          omega (arith, same, left, p.between.room);
+      printf = subst (λ q. AreCallSites m q.calls) (sym printf) p.between.printf;
+      shares = shares_by x d.1.1;
+      standings = standings_kept m u schedule (asked_starts call.asked call.args) t.table t'.table p.others p.between.stands kept begin;
+      goes = λ next r. ap (λ n. ends_from m u schedule n (goes_at next p.others)) left_there ∙ goes_call call.asked p.stood.call next r;
+      stops = λ e last st. stops_call call.asked p.stood.call e last st;
+    }
+
+  -- ---- after it
+
+  module _ (p : Program) (compiled : Compiled m p) (formed : Formed m) (valid : Valid m) (t : ThreadedRun) (call : HostCall) (a : Answer) (b : After m u schedule call a t) where
+    stands : IsState m p u b.old t.running.fiber b.before b.within
+    stands = state_to m p compiled formed valid u b.old t.running.fiber b.before b.within b.stands
+
+    at_below : t.running.fiber.frame.at < over_funcs (λ inst. 1) m.funcs
+    at_below = at_within m u t.running call b.within.frames b.stands.frames b.waits
+
+    some_ahead : 0 < ahead m t.running
+    some_ahead = let lt = at_below in omega (arith, lt)
+
+    -- the answer ended the run
+    pub after_ends : (e : End) → a ≡ answer.Ended e → Answers (plain_threads m u schedule) e t.running
+    after_ends e is =
+        let stopped : HasStopped m u b.beside call.asked b.within e t.running.world =
+        answered_ends m p u b.old t.running.fiber b.before b.within stands call b.waits b.beside t.running.world b.fill b.slots e
+        (subst (λ (x : Answer). Answered b.beside (asked_effect (setting_of m u) (types_due m b.within.frames) call b.within.world) x t.running.world) is b.answered) in
+        let low = some_ahead in
+        ends_so m u schedule e stopped.last b.beside t (b.stops e stopped.last stopped.ends) stopped.shows b.told (omega (arith, b.blind, low))
+
+    -- or it goes on
+    module _ (value : Option ℕ) (is : a ≡ answer.Resumed value) (t' : ThreadedRun) (world : t'.running.world ≡ t.running.world) (depot : t'.running.depot ≡ t.running.depot) (told : t'.running.told ≡ t.running.told)
+        (budget : t'.running.budget ≡ t.running.budget) (printf : t'.running.printf ≡ t.running.printf) (guests : t'.table ≡ t.table) (at : t'.running.fiber.frame.at ≡ t.running.fiber.frame.at + 1) (own : KeepsOwn t.running.fiber t'.running.fiber)
+        (frames : (frame : Frame ℕ) (below : List (Frame ℕ)) → AllStandFor m (frames_of t.running.fiber) (frame ∷ below) → Waits m u frame call → AllStandFor m (frames_of t'.running.fiber) (answered m value frame ∷ below)) where
+      first : Frame ℕ
+      first = waiter m p u b.old t.running.fiber b.before b.within stands call b.waits
+
+      rest : List (Frame ℕ)
+      rest = below_it m p u b.old t.running.fiber b.before b.within stands call b.waits
+
+      on : HasResumed (IsState m p u b.beside) m u call.asked b.within t'.running.fiber t.running.world
+      unfolding first rest
+      on = answered_on m p u b.old t.running.fiber b.before b.within stands call b.waits b.beside t.running.world b.fill b.slots t'.running.fiber own value
+          (subst (λ (x : Answer). Answered b.beside (asked_effect (setting_of m u) (types_due m b.within.frames) call b.within.world) x t.running.world) is b.answered)
+          (frames_to m p compiled (frames_of t'.running.fiber) (answered m value first ∷ rest)
+          (frames first rest
+          (frames_from m p compiled (frames_of t.running.fiber) (first ∷ rest) (waiter_stands m p u b.old t.running.fiber b.before b.within stands call b.waits))
+          (waits m p u b.old t.running.fiber b.before b.within stands call b.waits)))
+
+      left_on : t'.running.budget.left ≡ t.running.budget.left
+      left_on = ap (λ x. x.left) budget
+
+      -- it is nearer to the end
+      pub after_nearer : ahead m t'.running < ahead m t.running
+      after_nearer = one_nearer t.running.budget.left t'.running.budget.left t.running.fiber.frame.at t'.running.fiber.frame.at (over_funcs (λ inst. 1) m.funcs) left_on at at_below
+
+      room_on : HasRoom u (answer.Resumed value) t.running
+      room_on = subst (λ (x : Answer). HasRoom u x t.running) is b.few
+
+      pub after_goes : Going m u schedule t'
+      after_goes = record {
+        beside = b.beside;
+        state = on.next;
+        others = b.others;
+        stands = subst (λ (w : WorldState). IsRunning m u b.beside t'.running.fiber w on.next) (sym world) (state_from m p compiled u b.beside t'.running.fiber t.running.world on.next on.stands);
+        told = subst (λ d. IsBeside d t'.running.told b.beside) (sym depot) (subst (λ r. IsBeside t.running.depot r b.beside) (sym told) b.told);
+        keeping = record {
+          roots = ap (λ d. d.roots) depot ∙ b.roots;
+          few = subst (λ r. length r.reports < u.reports) (sym told) room_on;
+          room = let made : t'.running.world.made ≡ t.running.world.made = ap (λ (w : WorldState). w.made) world in let left = left_on in omega (arith, made, left, b.room);
+          blind = let same : t'.running.told.blind ≡ t.running.told.blind = ap (λ r. r.blind) told in let less = after_nearer in omega (arith, same, less, b.blind);
+          printf = subst (λ q. AreCallSites m q.calls) (sym printf) b.printf;
+        };
+        shares = subst (λ g. Shares g b.beside.fibers) (sym guests) (b.shares value is);
+        standings = subst (λ g. Standings m u schedule g b.others) (sym guests) b.standings;
+        same = ap (λ n. ends_from m u schedule n (goes_at on.next b.others)) left_on ∙ b.goes on.next on.goes;
+      }
+
+-- a run that is nearer to its end than so far is nearer than any number that isn't less
+pub turned_so : (m : Module) (u : Setup) (schedule : List ℕ) (far far' : ℕ) (e : Option End) (t : ThreadedRun) → far' ≤ far → Turned m u schedule far' e t → Turned m u schedule far e t
+turned_so m u schedule far far' None t le h = (h.0, omega (arith, le, h.1))
+turned_so m u schedule far far' (Some e) t le h = h

@@ -1,7 +1,0 @@
-use Rattle.std.proofs.Common.{Some, ap}
-use Rattle.ms_threads.specs.Guests.{Standing}
-use Rattle.ms_threads.proofs.Places.{same_standing}
-use Rattle.ms_threads.proofs.guests.Place.stand.Goals as goal
-
-pub returns : goal.returns
-returns c = ap (λ (s : Standing). Some s) (same_standing c.args.fiber.now c.exchange.new.other c.args.call c.exchange.ensures.other)

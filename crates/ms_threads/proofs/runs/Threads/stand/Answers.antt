@@ -1,9 +1,0 @@
-use Rattle.std.proofs.Common.{refl}
-use Rattle.ms_threads.proofs.Picks.{stood_picks}
-use Rattle.ms_threads.proofs.runs.Threads.stand.Goals as goal
-
-pub returns : goal.returns
-returns c = record {
-  picking = λ m u schedule is a. stood_picks m u schedule c.args.self.now _ c.args.call a is c.stand.ensures refl refl refl refl refl;
-  budget = refl;
-}

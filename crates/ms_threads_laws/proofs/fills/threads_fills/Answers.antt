@@ -1,0 +1,14 @@
+use Rattle.ms_threads_laws.proofs.UnderFills.{first_threads, alone_threads, same_threads, shown_threads}
+use Rattle.ms_threads_laws.proofs.fills.threads_fills.Goals as goal
+
+pub returns-clause-same : goal.returns-clause-same
+returns-clause-same c = λ m formed valid can setup bytes schedule quiet fill is. same_threads m formed valid can setup bytes schedule quiet fill is
+
+pub returns-clause-shown : goal.returns-clause-shown
+returns-clause-shown c = λ m formed valid can setup bytes schedule quiet none fill is. shown_threads m formed valid can setup bytes schedule quiet none fill is
+
+pub returns-clause-first : goal.returns-clause-first
+returns-clause-first c = first_threads
+
+pub returns-clause-alone : goal.returns-clause-alone
+returns-clause-alone c = alone_threads

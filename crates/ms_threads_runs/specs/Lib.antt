@@ -1,6 +1,0 @@
-pub mod Fibers
-pub mod Alike
-pub mod Scripts
-pub mod PlainFibers
-pub mod ShadowFibers
-pub mod Examples

@@ -1,0 +1,120 @@
+//! A traced run, one step at a time, with the masks of its values beside it.
+ghost use Rattle.std.specs.Prelude.{◌≡◌, ◌<◌, length, IfOk, false};
+ghost use Rattle.ms_ir.specs.ThreadCalls.{is_threaded};
+ghost use Rattle.ms_runs.specs.Limits.{WithinLimits};
+ghost use Rattle.ms_check_valid.specs.Uninstrumented.{CanInstrument};
+ghost use Rattle.ms_machine_code.specs.{Fits.{IsSource}, Words.{word_of}};
+ghost use Rattle.ms_trail_moves.specs.Traces.{one_report, traced_start};
+ghost use Rattle.ms_trail_masks.specs.Shades.{mask_of as mask_read};
+ghost use Rattle.ms_trail.specs.Following.{IsFollowed};
+
+use ms_bits::NoMemory;
+use ms_check::CheckedModule;
+use ms_host::World;
+use ms_machine::start;
+use ms_machine_code::WordSource;
+use ms_machine_frames::Fiber;
+use ms_printf::CallSites;
+use ms_runs::Setup;
+use ms_trail_bytes::logs::Log;
+use ms_trail_masks::{View, mask_of, value_of};
+use ms_trail_moves::moves::Source;
+use ms_trail_uses::frame_masks::FrameMasks;
+use ms_trail_uses::tables::InstRows;
+use std::alloc::Global;
+
+/// How a traced run goes on after a step.
+#[derive(Debug, Drop)]
+pub enum StepEnd {
+    /// It goes on.
+    On,
+    /// It ended without a report.
+    Over,
+    /// A use is reported, which reads this.
+    Reported(Source),
+}
+
+/// A run that is followed: the machine's fiber and world, whose planes hold the shadow of memory; the masks of the calls
+/// that stand, the innermost apart and the last of `below` its caller; how many calls were made, and how many steps; and the
+/// moves so far.
+#[derive(Drop)]
+pub struct TracedRun<'m> {
+    pub m: &'m CheckedModule,
+    pub fill: &'m [u8],
+    pub tables: InstRows<'m>,
+    pub fiber: Fiber,
+    pub world: World,
+    /// The calls of `printf` in the module.
+    pub printf: CallSites,
+    pub shade: FrameMasks,
+    pub below: Vec<FrameMasks>,
+    pub made: u64,
+    pub event: u64,
+    pub log: Log,
+}
+
+impl<'m> TracedRun<'m> {
+    /// The start of a run that ends at its first report.
+    pub fn new(alloc: Global, m: &'m CheckedModule, setup: &'m Setup) -> Result<Self, NoMemory>
+        requires plain { CanInstrument m.now }
+        requires limits { WithinLimits setup.now }
+        requires alone { is_threaded m.now ≡ false }
+        ensures is { IfOk result (λ f. IsFollowed m.now (one_report setup.now) (traced_start m.now setup.now) f) }
+        ensures made { IfOk result (λ f. f.world.made ≡ 0) }
+    {
+        m.law_valid();
+        let code = m.module();
+        let tables = InstRows::of(alloc, code)?;
+        let printf = CallSites::of(alloc, code)?;
+        let (fiber, world) = start(alloc, m, setup)?;
+        let shade = FrameMasks::new(alloc, 0, fiber.frame.values.len())?;
+        Ok(TracedRun {
+            m,
+            fill: setup.fill.as_slice(),
+            tables,
+            fiber,
+            world,
+            printf,
+            shade,
+            below: Vec::new(alloc),
+            made: 1,
+            event: 0,
+            log: Log::new(alloc),
+        })
+    }
+
+    /// What an instruction reads.
+    pub(crate) fn view(&self) -> View<'_>
+        ensures values { result.values.now ≡ self.now.fiber.frame.values.items }
+        ensures masks { result.masks.now ≡ self.now.shade.masks.items }
+        ensures fill { result.fill.now ≡ self.now.fill.now }
+    {
+        View {
+            values: &self.fiber.frame.values,
+            masks: &self.shade.masks,
+            fill: self.fill,
+        }
+    }
+
+    /// The number that is read.
+    pub(crate) fn value(&self, source: WordSource) -> u64
+        requires same { length self.now.shade.masks.items ≡ length self.now.fiber.frame.values.items }
+        requires filled { 0 < length self.now.fill.now }
+        requires source { IsSource (length self.now.fiber.frame.values.items) 64 source }
+        ensures { result ≡ word_of self.now.fill.now self.now.fiber.frame.values.items source }
+    {
+        let view = self.view();
+        value_of(&view, 64, source)
+    }
+
+    /// The mask that is read.
+    pub(crate) fn mask(&self, source: WordSource) -> u64
+        requires same { length self.now.shade.masks.items ≡ length self.now.fiber.frame.values.items }
+        requires filled { 0 < length self.now.fill.now }
+        requires source { IsSource (length self.now.fiber.frame.values.items) 64 source }
+        ensures { result ≡ mask_read self.now.shade.masks.items source }
+    {
+        let view = self.view();
+        mask_of(&view, 64, source)
+    }
+}

@@ -1,0 +1,3 @@
+pub mod FromReached
+pub mod Complete
+pub mod Staying

@@ -1,0 +1,156 @@
+//! Whether hops are a way over moves, told from what a way is: nothing but the types is shared with how one is found.
+ghost use Rattle.std.specs.Prelude.{◌≡◌, ◌≤◌, ◌&&◌, MatchBool, eqb, length, slice_get, Some as Held};
+ghost use Rattle.ms_ir.specs.Names.{name_eq};
+ghost use Rattle.ms_trail_moves.specs.{Leads.{Leads}, Scanned.{Ascending, is_before}};
+ghost use Rattle.ms_trail_moves.specs.Checked.{distance_in, is_reached, is_written, counts_there, NoneBetween, IsNext, is_root_at};
+
+use crate::moves::{Hop, Move, Source, Target};
+use ms_ir::Name;
+
+/// Whether a value of a frame is another one.
+fn is_value(frame: u64, name: &Name, other: u64, read: &Name) -> bool
+    ensures { result ≡ (eqb frame other && name_eq name.now read.now) }
+{
+    frame == other && name == read
+}
+
+/// Whether byte `byte` of a target is what is read: a source, or the byte at a distance from one.
+fn reaches(target: &Target, byte: u64, read: &Source, distance: u64) -> bool
+    ensures { result ≡ is_reached target.now byte read.now distance }
+{
+    match (target, read) {
+        (
+            Target::Value { frame, name },
+            Source::Value {
+                frame: other,
+                name: read,
+            },
+        ) => { byte == 0 && is_value(*frame, name, *other, read) }
+        (Target::Bytes { addr, len }, Source::Byte { addr: read }) => {
+            byte < *len && *addr as u128 + byte as u128 == *read as u128 + distance as u128
+        }
+        _ => false,
+    }
+}
+
+/// Whether some byte of a target is what is read.
+fn covers(target: &Target, read: &Source, distance: u64) -> bool
+    ensures { result ≡ is_written target.now read.now distance }
+{
+    match (target, read) {
+        (
+            Target::Value { frame, name },
+            Source::Value {
+                frame: other,
+                name: read,
+            },
+        ) => { is_value(*frame, name, *other, read) }
+        (Target::Bytes { addr, len }, Source::Byte { addr: read }) => {
+            let first = *addr as u128;
+            let there = *read as u128 + distance as u128;
+            first <= there && there < first + *len as u128
+        }
+        _ => false,
+    }
+}
+
+/// Whether a move is of a step before one, if one is given.
+fn is_earlier(made: &Move, event: Option<u64>) -> bool
+    ensures { result ≡ is_before event made.now }
+{
+    match event {
+        Some(event) => made.event < event,
+        None => true,
+    }
+}
+
+/// Whether a move of a step before one writes what is read.
+fn writes(made: &Move, event: Option<u64>, read: &Source, distance: u64) -> bool
+    ensures { result ≡ counts_there event read.now distance made.now }
+{
+    is_earlier(made, event) && covers(&made.to, read, distance)
+}
+
+/// Whether none of the moves from one number to another does.
+fn none_writes(
+    moves: &[Move],
+    first: usize,
+    bound: usize,
+    event: Option<u64>,
+    read: &Source,
+    distance: u64,
+) -> bool
+    requires { bound ≤ length moves.now }
+    ensures { MatchBool result (NoneBetween moves.now first bound event read.now distance) (NoneBetween moves.now first bound event read.now distance → ⊥) }
+{
+    for number in first..bound {
+        if writes(&moves[number], event, read, distance) {
+            return false;
+        }
+    }
+    true
+}
+
+/// Whether a hop's move is the last one, of the moves before a number and of the steps before one, that writes what is read.
+fn is_next(
+    moves: &[Move],
+    bound: usize,
+    event: Option<u64>,
+    read: &Source,
+    distance: u64,
+    hop: Hop,
+) -> bool
+    requires { bound ≤ length moves.now }
+    ensures { MatchBool result (IsNext moves.now bound event read.now distance hop) (IsNext moves.now bound event read.now distance hop → ⊥) }
+{
+    let index = hop.index as usize;
+    if bound <= index {
+        return false;
+    }
+    let made = &moves[index];
+    is_earlier(made, event)
+        && reaches(&made.to, hop.byte, read, distance)
+        && none_writes(moves, index + 1, bound, event, read, distance)
+}
+
+/// The distance of what a byte of a target comes from.
+fn distance_of(target: &Target, byte: u64) -> u64
+    ensures { result ≡ distance_in target.now byte }
+{
+    match target {
+        Target::Value { .. } => 0,
+        Target::Bytes { .. } => byte,
+    }
+}
+
+fn is_root(source: &Source) -> bool
+    ensures { result ≡ is_root_at source.now }
+{
+    matches!(source, Source::Root { .. })
+}
+
+/// Whether hops lead to what a use reads: each is the last move that wrote what the next one reads, and the first one reads a root.
+/// Linear in the number of moves. It takes no memory.
+pub fn check_trail(moves: &[Move], at: &Source, hops: &[Hop]) -> bool
+    requires { Ascending moves.now }
+    ensures { MatchBool result (Leads moves.now at.now hops.now) (Leads moves.now at.now hops.now → ⊥) }
+{
+    let mut read = at;
+    let mut distance = 0;
+    let mut event = None;
+    let mut bound = moves.len();
+    let mut left = hops.len();
+    while 0 < left {
+        left -= 1;
+        let hop = hops[left];
+        if !is_next(moves, bound, event, read, distance, hop) {
+            return false;
+        }
+        bound = hop.index as usize;
+        let made = &moves[bound];
+        event = Some(made.event);
+        distance = distance_of(&made.to, hop.byte);
+        read = &made.from;
+    }
+    is_root(read)
+}

@@ -1,0 +1,24 @@
+//! The masks of a frame's values.
+ghost use Rattle.std.specs.Prelude.{◌≡◌, replicate, IfOk};
+
+use ms_bits::NoMemory;
+use std::alloc::Global;
+
+/// The masks of a call's values, each by its number. Calls are numbered from 0 as they are made.
+#[derive(Drop)]
+pub struct FrameMasks {
+    pub number: u64,
+    pub masks: Vec<u64>,
+}
+
+impl FrameMasks {
+    /// A call with so many values, of which none is poisoned.
+    pub fn new(alloc: Global, number: u64, values: usize) -> Result<FrameMasks, NoMemory>
+        ensures number { IfOk result (λ s. s.number ≡ number) }
+        ensures masks { IfOk result (λ s. s.masks.items ≡ replicate values 0) }
+    {
+        let mut masks = Vec::new(alloc);
+        masks.resize(values, 0)?;
+        Ok(FrameMasks { number, masks })
+    }
+}

@@ -1,8 +1,0 @@
-use Rattle.ms_valid.proofs.Refused.{invalid, decided}
-use Rattle.ms_valid.proofs.laws.refusals.Goals as goal
-
-pub returns-clause-invalid : goal.returns-clause-invalid
-returns-clause-invalid c = invalid
-
-pub returns-clause-either : goal.returns-clause-either
-returns-clause-either c = decided

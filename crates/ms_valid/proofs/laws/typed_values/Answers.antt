@@ -1,8 +1,0 @@
-use Rattle.ms_valid.proofs.TypedValues.{result_typed, param_typed}
-use Rattle.ms_valid.proofs.laws.typed_values.Goals as goal
-
-pub returns-clause-results : goal.returns-clause-results
-returns-clause-results c = result_typed
-
-pub returns-clause-parameters : goal.returns-clause-parameters
-returns-clause-parameters c = param_typed

@@ -1,4 +1,0 @@
-pub mod LastSpelled
-pub mod Functions
-pub mod Noting
-pub mod Tables

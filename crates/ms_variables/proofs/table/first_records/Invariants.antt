@@ -1,7 +1,0 @@
-use Rattle.std.proofs.Common.{◌≡◌}
-use Rattle.ms_variables.specs.Noted.{HasFirst}
-use Rattle.ms_variables.specs.Variables.{function_at}
-use Rattle.ms_variables.proofs.table.first_records.Given as goal
-
-abbrev pub invariant-loop-place : goal.invariant-loop-place
-invariant-loop-place l = HasFirst l.marked l.place l.records × (l.function ≡ function_at l.marked l.place)

@@ -1,4 +1,0 @@
-pub mod Choices
-pub mod Variables
-pub mod Noted
-pub mod Views

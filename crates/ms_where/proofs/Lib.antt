@@ -1,0 +1,14 @@
+pub mod NodePlaces
+pub mod NodeTables
+pub mod NodeFields
+pub mod Scopes
+pub mod Calls
+pub mod LastSpelled
+pub mod VariableFunctions
+pub mod Noting
+pub mod VariableTables
+pub mod Newlines
+pub mod Ranges
+pub mod Chosen
+pub mod Indents
+pub mod Numbered

@@ -1,0 +1,12 @@
+pub mod Nodes
+pub mod Positions
+pub mod NodeTables
+pub mod VariableChoices
+pub mod Variables
+pub mod NotedRecords
+pub mod VariableViews
+pub mod Sites
+pub mod Shown
+pub mod Lines
+pub mod SourceMapViews
+pub mod Numbered

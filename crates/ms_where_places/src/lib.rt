@@ -1,0 +1,13 @@
+//! Where the functions, the instructions, the debug records and the nodes of metadata of a text stand.
+#![tactic(auto)]
+
+mod entities;
+mod inside;
+mod laws;
+mod marked_texts;
+mod marks;
+
+pub use entities::marks_in;
+pub use laws::{law_instructions_are_told, law_marks_are_one};
+pub use marked_texts::MarkedText;
+pub use marks::{Mark, MarkKind};
