@@ -3,14 +3,14 @@
 #
 # - runs the commands in the fenced blocks of README.md and docs/MANUAL.md, in a folder for each document, and compares what they
 #   print with what is shown. A file that `cat` shows before it exists is created from what is shown. Commands with `rt` prove
-#   everything, so only their paths are checked
+#   everything, and `make` builds, so only their paths are checked
 # - runs a small program for each row of MANUAL's two tables of refusals, and for some flags of its command; and commands that
 #   are wrong
 # - looks for each path, file, crate, function, clause and section that the documents and the forms for issues name
 # - counts words: CONTRIBUTING.md has at most 2500, and all other documents but docs/CC.md together at most 14000
 #
 # Usage: documents.sh [PROGRAM], by default crates/msan/out/msan as `rt ci` builds it. The status is 1 if anything is wrong.
-# Needs python3, awk, and clang and llvm-link of release 19, or of $RELEASE. Outside the gate.
+# Needs python3, awk, clang and llvm-link of release 19, or of $RELEASE, and msan-cc as `make -C cc` builds it. Outside the gate.
 source "$(dirname "$0")/frame.sh"
 
 program=$(realpath -m "${1:-$top/crates/msan/out/msan}")
@@ -21,7 +21,9 @@ mkdir "$work/bin"
 ln -s "$program" "$work/bin/msan"
 ln -s "$(command -v "clang-$release")" "$work/bin/clang"
 ln -s "$(command -v "llvm-link-$release")" "$work/bin/llvm-link-19"
+ln -s "$top/cc/msan-cc" "$work/bin/msan-cc"
 PATH=$work/bin:$PATH
+export MSAN=$program
 
 python3 - "$top" "$work" <<'PYTHON'
 import glob, os, re, subprocess, sys
@@ -35,7 +37,8 @@ FORMS = ".github/ISSUE_TEMPLATE/*.yml"
 MOST_WORDS = {"CONTRIBUTING.md": 2500}
 MOST_OF_OTHERS = 14000
 NOT_COUNTED = {"docs/CC.md"}
-FENCE = re.compile(r"^```\n(.*?)^```$", re.M | re.S)
+# A block; those with a language are shown and not run.
+FENCE = re.compile(r"^```(\w*)\n(.*?)^```$", re.M | re.S)
 faults = []
 
 
@@ -84,8 +87,8 @@ def check_transcript(document, block, folder):
 
 def check_command(document, command, folder):
     """A command that is shown without what it prints."""
-    if re.search(r"\brt\b", command):
-        below = re.search(r"\bcd (\S+)", command)
+    if re.search(r"\b(?:rt|make)\b", command):
+        below = re.search(r"(?:\bcd|\bmake -C) (\S+)", command)
         below = os.path.join(top, below[1] if below else "")
         for path in re.findall(r"(?:\.\./)+\S+?(?=[)\s]|$)", command) + [""]:
             if not os.path.exists(os.path.join(below, path)):
@@ -105,7 +108,7 @@ def check_commands(document):
     for name in "examples", "library":
         os.symlink(f"{top}/{name}", f"{folder}/{name}")
     count = 0
-    for block in FENCE.findall(read(document)):
+    for block in [block for language, block in FENCE.findall(read(document)) if not language]:
         if block.startswith("$ "):
             check_transcript(document, block, folder)
             count += len(commands_of(block))
@@ -209,7 +212,7 @@ def compiled(source, command):
 
 def check_refusals():
     manual = read("docs/MANUAL.md")
-    command = FENCE.search(manual)[1].strip()
+    command = FENCE.search(manual)[2].strip()
     said = [(source, message(compiled(source, command)), told) for source, told in C.items()]
     said += [(text[:60], message(text), told) for text, told in TEXTS.items()]
     said.append((MARKED, message(MARKED, "run"), "16: mark"))
@@ -336,7 +339,8 @@ def check_names(document, files, shown):
     paths = {word for word in words if re.search(r"\.(?:md|sh|py|c|rt|antt|ll|txt|edit)$", word) or re.match(r"(?:crates|docs|bench|examples|library|ms_\w+)/", word)}
     crates = set(re.findall(r"(?<![\w/%@:.])ms_\w+\*?", prose))
     for path in sorted(paths):
-        if not exists(path, files, shown):
+        # `x.c` and the like stand for any file
+        if not re.fullmatch(r"[a-z]\.\w+", path) and not exists(path, files, shown):
             fault(document, f"no {path}")
     for crate in sorted(crates):
         if not glob.glob(f"{top}/crates/{crate}"):

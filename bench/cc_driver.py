@@ -1,0 +1,146 @@
+"""cc_driver.py WORK: what `msan-cc` is besides a lowering: a compiler for a makefile, a first report in one command, options of its own."""
+import os
+import sys
+
+import cc_run
+
+unset = '''#include <stdio.h>
+int main(int argc, char **argv) {
+  int wanted;
+  if (argc > 3)
+    wanted = 1;
+  if (wanted > 0)
+    puts(argv[0]);
+  printf("%d\\n", argc);
+  return 3;
+}
+'''
+files = {
+    'unset.c': unset,
+    'clean.c': unset.replace('int wanted;', 'int wanted = 0;'),
+    'broken.c': 'int main(void) { return x; }\n',
+    'add.c': '#include "sum.h"\nint add(int a, int b) { return a + b + OFFSET; }\n',
+    'sub.c': '#include "sum.h"\nint sub(int a, int b) { return a - b; }\n',
+    'include/sum.h': 'int add(int, int);\nint sub(int, int);\n',
+    'main.c': '#include <stdio.h>\n#include "sum.h"\nint main(void) { printf("%d %d\\n", add(2, 3), sub(9, 4)); return 0; }\n',
+    'Makefile': 'CFLAGS = -O2 -g -Iinclude -DOFFSET=100 -MD -Wall\nAR = llvm-ar-19\nall: program\nlibsum.a: add.o sub.o\n\t$(AR) rcs $@ $^\n'
+                'program: main.o libsum.a\n\t$(CC) $(LDFLAGS) -o $@ main.o -L. -lsum -lm -Wl,--as-needed\n',
+    'own.c': '#include <stdio.h>\n#include <string.h>\nchar *strcpy(char *to, const char *from) { puts("own"); *to = *from; return to; }\n'
+             'int main(void) { char t[4] = ""; strcpy(t, "abc"); puts(t); return 0; }\n',
+    'missing.c': '#include <stdio.h>\nint lost(int);\nint main(int argc, char **argv) { if (argc > 1) return lost(argc); puts(argv[0] ? "kept" : "?"); return 0; }\n',
+    'words.c': '#include <stdio.h>\nint main(int argc, char **argv) { for (int k = 1; k < argc; k++) printf("[%s]", argv[k]); putchar(10); return 0; }\n',
+    'two.c': 'int add(int a, int b) { return a; }\nint sub(int a, int b) { return b; }\n',
+    'many.c': 'int puts(const char *);\nint main(void) { int a, b; if (a) puts("a"); if (b) puts("b"); return 0; }\n',
+    'kept.c': 'extern int puts(const char *);\nint main(void) { puts("kept"); return 0; }\n',
+}
+
+
+class Checks:
+    def __init__(self, folder):
+        self.folder, self.table = folder, cc_run.Table('msan-cc', 'what')
+        for name, text in files.items():
+            path = f'{folder}/{name}'
+            os.makedirs(os.path.dirname(path), exist_ok=True)
+            with open(path, 'w') as out:
+                out.write(text)
+
+    def cc(self, *words):
+        return cc_run.run([cc_run.msan_cc, *words], folder=self.folder, environment={'MSAN': cc_run.msan})
+
+    def is_so(self, what, good, *seen):
+        self.table.row(good, 'ok' if good else 'not so', what, why=seen)
+
+    def check_word(self):
+        here = set(os.listdir(self.folder))
+        ended = self.cc('--check', 'unset.c')
+        self.is_so('--check: a report with its place, the output, status 77',
+                   ended.status == 77 and 'report 1: branch at site' in ended.said and '\n    unset.c:6:7\n' in ended.said and ended.out == b'', ended.status, ended.said)
+        self.is_so('--check: the root and the verdict', 'unset.c:3:3' in ended.said and ended.said.rstrip().endswith('verdict: poisoned'), ended.said)
+        ended = self.cc('--check', 'clean.c')
+        self.is_so('--check of a clean program: its output, status 0', (ended.status, ended.out) == (0, b'1\n') and 'verdict: clean' in ended.said, ended.status, ended.out, ended.said)
+        ended = self.cc('--check', '--arg', 'a', '--arg', 'b', 'clean.c')
+        self.is_so('--check with --arg', ended.out == b'3\n', ended.out)
+        ended = self.cc('--check', 'many.c', '--', '--reports', '2')
+        self.is_so('--check FILE -- options of msan', 'report 2: ' in ended.said, ended.said)
+        ended = self.cc('--run', 'clean.c')
+        self.is_so('--run: the output, no verdict', ended.out == b'1\n' and ended.status == 0 and 'verdict' not in ended.said, ended.status, ended.said)
+        ended = self.cc('--check', 'broken.c')
+        self.is_so('--check of what does not compile: clang\'s error, no report, status 1', ended.status == 1 and "broken.c:1:25: error: use of undeclared identifier 'x'" in ended.said,
+                   ended.status, ended.said)
+        self.is_so('--check, --run leave nothing behind', set(os.listdir(self.folder)) == here, sorted(set(os.listdir(self.folder)) - here))
+        self.cc('unset.c', '-o', 'unset.ll')
+        by_hand = cc_run.run([cc_run.msan, 'check', '--where', 'unset.ll'], folder=self.folder)
+        places = lambda said: [line for line in said.splitlines() if '.ll:' not in line]
+        ended = self.cc('--check', 'unset.c')
+        self.is_so('--check says what msan check --where of the text says', places(ended.said) == places(by_hand.said) and ended.status == by_hand.status, ended.said, by_hand.said)
+
+    def makefile(self):
+        ended = cc_run.run(['make', '-s', f'CC={cc_run.msan_cc}', 'LDFLAGS='], folder=self.folder)
+        checked = cc_run.Checked(cc_run.run([cc_run.msan, 'check', '--where', 'program'], folder=self.folder))
+        self.is_so('make CC=msan-cc AR=llvm-ar-19, with an archive', ended.status == 0 and checked.out == b'105 5\n' and checked.verdict == 'clean', ended.said, checked.said)
+        made = f'{self.folder}/add.d'
+        self.is_so('-MD writes what add.o hangs on', os.path.exists(made) and 'include/sum.h' in open(made).read())
+        ended = cc_run.run(['make', '-s', f'CC={cc_run.msan_cc}'], folder=self.folder)
+        self.is_so('a second make has nothing to do', ended.status == 0 and ended.out == b'', ended.out)
+
+    def words(self):
+        ended = self.cc('--run', '--arg', 'one word', '--arg', '', '--arg', '-x', 'words.c')
+        self.is_so('--arg: words with spaces, empty ones, with a minus', ended.out == b'[one word][][-x]\n', ended.out, ended.said)
+        ended = self.cc('--check', 'own.c')
+        self.is_so('a function of the program wins over the library\'s', ended.out == b'own\na\n', ended.out, ended.said)
+        ended = self.cc('main.c', 'add.c', 'two.c', '-Iinclude', '-DOFFSET=1', '-o', 'twice.ll')
+        self.is_so('two functions of one name: refused by the linker, nothing written', ended.status not in (0, None) and not os.path.exists(f'{self.folder}/twice.ll'), ended.status, ended.said)
+        ended = self.cc('--check', 'missing.c')
+        self.is_so('a function that is missing: an error', ended.status == 1 and 'missing.c:3:' in ended.said and "'lost'" in ended.said, ended.status, ended.said)
+        ended = self.cc('--check', '--missing-trap', 'missing.c')
+        self.is_so('--missing-trap: not where it is not reached', ended.status == 0 and ended.out == b'kept\n', ended.status, ended.said)
+        ended = self.cc('--check', '--missing-trap', '--arg', 'x', 'missing.c')
+        self.is_so('--missing-trap: a trap at its place where it is reached', ended.status == 3 and 'end: trap abort' in ended.said and 'missing.c:3:' in ended.said, ended.status, ended.said)
+        ended = self.cc('kept.c', '-o', 'no/such/folder.ll')
+        self.is_so('a text that can\'t be written: told, a status', ended.status not in (0, None) and ended.said, ended.status, ended.said)
+        ended = self.cc('-DNAME=1', '-c', 'kept.c')
+        self.is_so('-c without -o writes kept.o', ended.status == 0 and os.path.exists(f'{self.folder}/kept.o'), ended.said)
+        ended = self.cc('kept.o', '-o', 'kept.ll')
+        again = self.cc('kept.c', '-o', 'again.ll')
+        self.is_so('a text by -c and one at once are the same but for the name of the file', ended.status == again.status == 0 and
+                   open(f'{self.folder}/kept.ll').read().replace('kept.ll', '') == open(f'{self.folder}/again.ll').read().replace('again.ll', ''))
+
+    def pointers(self):
+        """Steps that a call through a pointer takes, for functions of one type."""
+        for count in (1, 10, 200):
+            text = 'static int (*volatile f)(int);\n' + ''.join(f'static int f{k}(int n) {{ return n + {k}; }}\n' for k in range(count))
+            text += 'static int (*const all[])(int) = {' + ', '.join(f'f{k}' for k in range(count)) + '};\n'
+            call = 'int main(void) { int n = 0; for (int k = 0; k < 1000; k++) { f = all[%s]; n = %s; } return n != %d; }\n'
+            total = sum(k % count for k in range(1000))
+            with open(f'{self.folder}/through.c', 'w') as out:
+                out.write(text + call % (f'k % {count}', 'f(n)', total))
+            with open(f'{self.folder}/direct.c', 'w') as out:
+                out.write(text + call % (f'k % {count}', f'f{count - 1}(n)', (count - 1) * 1000))
+            taken = []
+            for name in ('through', 'direct'):
+                self.cc(f'{name}.c', '-o', f'{name}.ll')
+                taken.append(self.steps(f'{self.folder}/{name}.ll'))
+            each = (taken[0] - taken[1]) / 1000
+            self.is_so(f'a call through a pointer among {count} functions of its type: {each:.1f} steps more than a direct one', 0 < each < 60, taken)
+
+    def steps(self, text):
+        """The least number of steps with which a run ends."""
+        low, high = 0, 10000000
+        while low + 1 < high:
+            middle = (low + high) // 2
+            ended = cc_run.run([cc_run.msan, 'run', '--steps', str(middle), text])
+            low, high = (middle, high) if ended.status == 4 else (low, middle)
+        return high
+
+
+def main():
+    checks = Checks(sys.argv[1])
+    checks.check_word()
+    checks.makefile()
+    checks.words()
+    checks.pointers()
+    return checks.table.end()
+
+
+if __name__ == '__main__':
+    sys.exit(main())

@@ -1,0 +1,2 @@
+int f(void) { return 1; }
+// error: there is no 'main'
