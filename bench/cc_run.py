@@ -3,6 +3,7 @@
 The programs are named by the environment: MSAN (crates/msan/out/msan), MSAN_CC (cc/msan-cc), RELEASE of clang (19)."""
 import os
 import re
+import signal
 import subprocess
 
 top = os.path.dirname(os.path.dirname(os.path.abspath(__file__)))
@@ -11,6 +12,10 @@ msan_cc = os.path.abspath(os.environ.get('MSAN_CC') or top + '/cc/msan-cc')
 clang = 'clang-' + os.environ.get('RELEASE', '19')
 native_flags = ['-w', '-O0', '-g', '-fwrapv', '-pthread']
 memory_sanitizer = ['-fsanitize=memory', '-fsanitize-memory-track-origins']
+
+# Jobs in the background of a shell ignore these, and so would the programs that are run here.
+for _ignored in (signal.SIGINT, signal.SIGQUIT):
+    signal.signal(_ignored, signal.SIG_DFL)
 
 
 class Ended:
