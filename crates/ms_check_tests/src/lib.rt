@@ -1,5 +1,5 @@
-//! What the check returns on modules, and their layouts, sites, roots and copies. Each module is the text that stands
-//! for it; each answer was worked out by hand.
+//! What the check returns on modules, and their layouts, sites, roots and copies; and calls that take a checked module and that the
+//! program makes in another form. Each module is the text that stands for it; each answer was worked out by hand.
 #![tactic(auto)]
 
 #[cfg(test)]
@@ -11,6 +11,8 @@ mod edges;
 #[cfg(test)]
 mod externals;
 #[cfg(test)]
+mod inserted;
+#[cfg(test)]
 mod layouts;
 #[cfg(test)]
 mod marks;
@@ -18,6 +20,8 @@ mod marks;
 mod names;
 #[cfg(test)]
 mod order;
+#[cfg(test)]
+mod pieces;
 #[cfg(test)]
 mod sites;
 #[cfg(test)]

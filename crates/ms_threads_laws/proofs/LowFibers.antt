@@ -28,6 +28,10 @@ use Rattle.ms_runs.specs.Uses.{Word, uses, check_uses}
 use Rattle.ms_runs.specs.Shadow.{ShadowState, read_poisoned, shadow_reading, planes, poisoned_result, shadow_moved, shadow_act, after_checks, shadow_step}
 use Rattle.ms_runs.specs.LowEqual.{SameBits, LowWord, LowFrames, LowWorld}
 use Rattle.ms_runs.proofs.HeapBlocks.{no_blocks}
+use Rattle.ms_runs.specs.Calls.{call_sites}
+use Rattle.ms_runs_threads.specs.Calls.{none_told, shadow_threads_calls_by}
+use Rattle.ms_runs_threads.proofs.CallsAlike.{SaysSame, calls_alike}
+use Rattle.ms_runs_fills_laws.proofs.SameCalls.{low_calls}
 use Rattle.ms_check_valid.specs.CleanValues.{IsClean}
 use Rattle.ms_check_valid.specs.Formed.{Formed}
 use Rattle.ms_check_valid.specs.Uninstrumented.{CanInstrument}
@@ -118,24 +122,24 @@ module _ (m : Module) (formed : Formed m) (valid : Valid m) (can : CanInstrument
   kept_too = run_kept m formed valid (refilled setup fill) bytes_too (numbering m) (module_known m formed valid can (refilled setup fill)) none_clean
 
   -- the frames of a fiber, and what all fibers share
-  abbrev GoodFiber : List (Frame Poisoned) → Type 0
+  abbrev pub GoodFiber : List (Frame Poisoned) → Type 0
   GoodFiber fs = GoodFrames PoisonedBelow m fs × ((x : Frame Poisoned) → Contains fs x → HasCleanValues m x)
 
-  abbrev GoodShared : World → Type 0
+  abbrev pub GoodShared : World → Type 0
   GoodShared w = (GoodWorld AnyOrigin w × AllStart m w.threads) × HeapPlaced w
 
   fit : (w : World) → GoodShared w → FitWorld w
   fit w g = record { bytes = g.0.0.bytes; shadow = g.0.0.shadow; sizes = g.0.0.sizes; placed = g.1 }
 
   -- a fiber stands at a thread call, whose checks passed
-  record Stands (f : Frame Poisoned) : Type 0 where
-    inst : Inst
-    after : List Inst
-    rest : rest_of m f ≡ inst ∷ after
-    call : ThreadCall (func_index m.funcs) inst.op
-    words : CallClean (func_index m.funcs) inst.op (words_at (setting_of m setup) f.values (here (setting_of m setup) m f) inst)
+  pub record Stands (f : Frame Poisoned) : Type 0 where
+    pub inst : Inst
+    pub after : List Inst
+    pub rest : rest_of m f ≡ inst ∷ after
+    pub call : ThreadCall (func_index m.funcs) inst.op
+    pub words : CallClean (func_index m.funcs) inst.op (words_at (setting_of m setup) f.values (here (setting_of m setup) m f) inst)
 
-  abbrev AllStand : List (Frame Poisoned) → Type 0
+  abbrev pub AllStand : List (Frame Poisoned) → Type 0
   AllStand [] = ⊥
   AllStand (f ∷ fs) = Stands f
 
@@ -145,7 +149,7 @@ module _ (m : Module) (formed : Formed m) (valid : Valid m) (can : CanInstrument
   abbrev right : Meaning (List (Frame Poisoned)) World
   right = shadow_fiber by_formulas (refill (setting_of m setup) fill) m
 
-  abbrev relation : Relation (shadow_fiber by_formulas (setting_of m setup) m) (shadow_fiber by_formulas (refill (setting_of m setup) fill) m)
+  abbrev pub relation : Relation (shadow_fiber by_formulas (setting_of m setup) m) (shadow_fiber by_formulas (refill (setting_of m setup) fill) m)
   relation = record {
     Go = λ f w g v. LowFrames f g × LowWorld w v × GoodFiber f × GoodFiber g × GoodShared w × GoodShared v;
     At = λ f g. LowFrames f g × AllStand f × GoodFiber f × GoodFiber g;
@@ -487,7 +491,7 @@ module _ (m : Module) (formed : Formed m) (valid : Valid m) (can : CanInstrument
       (call_words f fs gs h.0.1 u k i st.after st.rest) i.op st.call st.words
       ∙ sym (ap (λ l. inst_joins (func_index m.funcs) l (map (λ p. p.value) (words_due shadow_reading (refill (setting_of m setup) fill) m (revalued f u) l))) is_due)) g h.0.0
 
-  laws : Laws left right relation
+  pub laws : Laws left right relation
   laws = record {
     due = λ f w g v h. due_low f g h.0;
     turn = λ f w g v h. h.1.turn;
@@ -505,7 +509,7 @@ module _ (m : Module) (formed : Formed m) (valid : Valid m) (can : CanInstrument
     spent = λ f w g v h. (refl, h.1);
   }
 
-  late : LateLaws left right relation
+  pub late : LateLaws left right relation
   late = record {
     step = λ e w g v h. absurd h;
     reach = λ e w g v h. absurd h;
@@ -565,7 +569,7 @@ module _ (m : Module) (formed : Formed m) (valid : Valid m) (can : CanInstrument
   left_counted [] w = refl
   left_counted (f ∷ fs) w = (given_back_kept f w).blind
 
-  counts : Counts left right relation
+  pub counts : Counts left right relation
   counts = record {
     step = λ f w.
         let x = shadow_step by_formulas (setting_of m setup) m (shadow_state f w) in
@@ -579,7 +583,7 @@ module _ (m : Module) (formed : Formed m) (valid : Valid m) (can : CanInstrument
 
   -- ---- the run
 
-  start_shared : GoodShared (start_world m setup)
+  pub start_shared : GoodShared (start_world m setup)
   start_shared = (
     ((shadow_sound m formed valid setup bytes).world, start_begun m formed valid setup bytes (numbering m) (module_known m formed valid can setup) none_clean),
     (globals_kept m.types (address_of m) m.globals _).placed (λ k d l. absurd (omega (arith, l))),
@@ -599,3 +603,27 @@ module _ (m : Module) (formed : Formed m) (valid : Valid m) (can : CanInstrument
       let good : GoodFiber (start_frame shadow_reading m ∷ []) = (sound.frames, start_clean m setup) in
       let both = runs_alike left right relation laws counts late schedule setup.steps c c ((low.frames, low.world, good, good, start_shared, start_shared), record { stands = λ n. tt; picks = refl }) (quiet ∙ sym start_blind) in
       ap (λ e. result e a.1) both.0 ∙ result_same d.0 a.1 d.1 both.1
+
+  -- ---- the calls at its reports
+
+  says : SaysSame left right relation laws counts late (call_sites m) (call_sites m)
+  says = record {
+    go = λ f w g v h. low_calls m f g h.0;
+    site = λ f w g v h. site_low f g h.0;
+    at = λ f g h. low_calls m f g h.0;
+    go_reports = λ f w g v h. h.1.reports;
+    go_threads = λ f w g v h. h.1.threads;
+    reports = λ w v h. h.0.reports;
+    ends = λ e w x v h. h.1.reports;
+    never = λ e w v h. h;
+  }
+
+  pub same_calls : (schedule : List ℕ) → (shadow_threads_by by_formulas m setup schedule).blind ≡ 0
+      → shadow_threads_calls_by by_formulas m setup schedule ≡ shadow_threads_calls_by by_formulas m (refilled setup fill) schedule
+  same_calls schedule quiet =
+      let c : Fibers (List (Frame Poisoned)) World = GoesOn (start_frame shadow_reading m ∷ []) (start_world m setup) (record { stands = λ n. None; picks = 0 }) in
+      let low = start_alike m setup fill in
+      let sound = shadow_sound m formed valid setup bytes in
+      let good : GoodFiber (start_frame shadow_reading m ∷ []) = (sound.frames, start_clean m setup) in
+      calls_alike left right relation laws counts late (call_sites m) (call_sites m) says schedule setup.steps c c
+      ((low.frames, low.world, good, good, start_shared, start_shared), record { stands = λ n. tt; picks = refl }) (quiet ∙ sym start_blind) none_told
