@@ -36,6 +36,9 @@ use Rattle.ms_pass_laws.proofs.Placed.{start_placed}
 use Rattle.ms_pass_laws.proofs.Taken.{module_known}
 use Rattle.ms_pass_laws.proofs.Unmarked.{module_strips}
 use Rattle.ms_pass_laws.proofs.Whole.{strip_pass, faithful_pass}
+use Rattle.ms_runs.specs.Calls.{SameCalls}
+use Rattle.ms_pass_laws.proofs.SameCalls.{same_calls_of}
+use Rattle.ms_pass_form_laws.specs.Elided.{IsElided}
 use Rattle.ms_pass_form_laws.specs.Numbers.{GoodNumbers}
 use Rattle.ms_pass_form_laws.proofs.FormedMain.{instrumented_formed_valid}
 use Rattle.ms_runs_clean_laws.specs.CleanStates.{HasCleanValues, AllCleanValues}
@@ -140,3 +143,9 @@ clean_operand m clean says n f at operand.Undef h = absurd h
 clean_operand m clean says n f at operand.Poison h = absurd h
 clean_operand m clean says n f at (operand.Local x) h = says.whole n f at x h
 clean_operand m clean says n f at _ h = refl
+
+-- ---- calls
+
+pub calls_same : (m : Module) → Formed m → Valid m → CanInstrument m → (j : Module) → IsElided m j → SameCalls m j
+calls_same m formed valid can j elided =
+    subst (SameCalls m) (sym elided.is_pass) (same_calls_of (eliding elided.clean m) m (taken m formed valid can elided.clean elided.exact.sound))

@@ -3,7 +3,7 @@ ghost use Rattle.std.specs.Prelude.{◌≡◌, ◌≤◌, ◌+◌, ◌*◌, ℕ,
 ghost use Rattle.ms_ir.specs.{declared.syntax.Name.{Name}, declared.syntax.Operand.{Operand}};
 ghost use Rattle.ms_ir.specs.{declared.syntax.Func.{Func}, declared.syntax.Module.{Module}};
 ghost use Rattle.ms_ir.specs.Instructions.{func_at, operands, over_funcs};
-ghost use Rattle.ms_runs.specs.{declared.runs.Setup.{Setup}, Faithful.{Faithful}, Plain.{setting_of}};
+ghost use Rattle.ms_runs.specs.{declared.runs.Setup.{Setup}, Faithful.{Faithful}, Plain.{setting_of}, Calls.{SameCalls}};
 ghost use Rattle.ms_check_valid.specs.{CleanValues.{is_clean_operand, IsCleanOperand}, Formed.{Formed, count_written}};
 ghost use Rattle.ms_check_valid.specs.{Uninstrumented.{CanInstrument}, Valid.{Valid}};
 ghost use Rattle.ms_pass_laws.specs.{Pass.{pass}, Known.{KnownModule, IsTaken}};
@@ -21,6 +21,11 @@ pub fn elided_modules_are_taken()
 /// reports and number of blind uses.
 pub fn elided_faithful()
     ensures { (m : Module) (clean : ℕ → Name → Bool) → Formed m → Valid m → CanInstrument m → SaysClean m clean → Faithful m (pass (eliding clean m) m) }
+{}
+
+/// And at each report the calls stand that stand at that report of the shadow run.
+pub fn elided_calls()
+    ensures { (m j : Module) → Formed m → Valid m → CanInstrument m → IsElided m j → SameCalls m j }
 {}
 
 /// The instrumented form is formed and valid, whatever is said to be clean, since no two values of a function have one

@@ -9,6 +9,7 @@ pub mod Placed
 pub mod Places
 pub mod RangedKept
 pub mod RootRanges
+pub mod SameCalls
 pub mod Step
 pub mod Taken
 pub mod Whole

@@ -1,1 +1,3 @@
 pub mod HeapBlocks
+pub mod ToldCalls
+pub mod Telling

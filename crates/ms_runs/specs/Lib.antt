@@ -17,3 +17,4 @@ pub mod Shadow
 pub mod LowEqual
 pub mod Faithful
 pub mod Verdict
+pub mod Calls

@@ -1,6 +1,6 @@
 //! Equal copies of what a run is given and what it returns.
 
-use crate::runs::{End, Origin, Report, RunResult, Setup};
+use crate::runs::{Calls, End, Origin, Report, RunResult, Setup};
 use ms_bits::{Duplicate, NoMemory};
 use std::alloc::Global;
 
@@ -37,6 +37,15 @@ impl Duplicate for Report {
             mask: self.mask,
             origin: self.origin,
             chain: self.chain.copy(alloc)?,
+        })
+    }
+}
+
+impl Duplicate for Calls {
+    fn copy(&self, alloc: Global) -> Result<Self, NoMemory> {
+        Ok(Calls {
+            sites: self.sites.copy(alloc)?,
+            started: self.started,
         })
     }
 }

@@ -60,6 +60,15 @@ pub struct Report {
     pub chain: List<Origin>,
 }
 
+/// The calls that stand where a use is reported.
+#[derive(Debug, PartialEq, Eq, Drop)]
+pub struct Calls {
+    /// Their sites, the innermost first; none in `main`, and in the first function of a thread.
+    pub sites: List<u32>,
+    /// The site of the call that made the thread; 0 in that of `main`.
+    pub started: u32,
+}
+
 /// What a run returns.
 #[derive(Debug, PartialEq, Eq, Drop)]
 pub struct RunResult {

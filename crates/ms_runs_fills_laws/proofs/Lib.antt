@@ -22,5 +22,7 @@ pub mod Runs
 pub mod Steps
 pub mod Sure
 pub mod Whole
+pub mod SameCalls
+pub mod OneEach
 pub mod Words
 pub mod Worlds

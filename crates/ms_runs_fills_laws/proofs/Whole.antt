@@ -125,7 +125,7 @@ quiet_first r q (inl h) z = ap (λ k. k.blind) h.0 ∙ z
 quiet_first r q (inr h) z = omega (arith, h.blind, z)
 
 module _ (m : Module) (formed : Formed m) (valid : Valid m) (calm : is_threaded m ≡ false) (bare : NoMarks m) (setup : Setup) (bytes : GivesBytes setup) (quiet : (shadow m setup).blind ≡ 0) where
-  quiet_one : NoBlindUse m setup
+  pub quiet_one : NoBlindUse m setup
   quiet_one = quiet_first (shadow m (to_first_report setup)) (shadow m setup) (first_of m setup) quiet
 
   -- a run without report and without blind use shows what the program shows under every fill

@@ -1,4 +1,5 @@
 pub mod Alike
+pub mod CallsAlike
 pub mod Certain
 pub mod Changing
 pub mod Checked

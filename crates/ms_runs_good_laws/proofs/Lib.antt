@@ -31,3 +31,4 @@ pub mod SitedShadow
 pub mod WordCallTypes
 pub mod FibersKept
 pub mod ThreadsApart
+pub mod ReportsGrow

@@ -1,4 +1,5 @@
 pub mod SameRuns
+pub mod SameCalls
 pub mod ExactRules
 pub mod Inside
 pub mod ReadsInside

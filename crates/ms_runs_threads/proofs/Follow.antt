@@ -136,7 +136,7 @@ module _ {F S G T : Type 0} (left : Meaning F S) (right : Meaning G T) (r : Rela
   runs_same k ts us (Some f) None e both = absurd both
   runs_same k ts us (Some f) (Some g) e both = ap not (ap (λ l. waits k l (left.joins f)) e ∙ ap (waits k us) (laws.joins f g both))
 
-  runnable_same : (ts us : List Thread) (a : ℕ → Option F) (b : ℕ → Option G) → ts ≡ us → ((k : ℕ) → BothStand left right r (a k) (b k))
+  pub runnable_same : (ts us : List Thread) (a : ℕ → Option F) (b : ℕ → Option G) → ts ≡ us → ((k : ℕ) → BothStand left right r (a k) (b k))
       → runnable left.joins ts a ≡ runnable right.joins us b
   runnable_same ts us a b e both =
       λ i. filter (λ k. one k i) (numbers_from 0 (length (e i) + 1))
@@ -198,7 +198,7 @@ module _ {F S G T : Type 0} (left : Meaning F S) (right : Meaning G T) (r : Rela
       (record { stands = stands_at k k None None a.stands b.stands refl tt others.stands; picks = ap (λ n. n + 1) others.picks })
       (others.stands k) (quiet ∙ sym (counts.turned s k)))
 
-  main_same : (a : Option F) (b : Option G) → BothStand left right r a b → site_at left a ≡ site_at right b
+  pub main_same : (a : Option F) (b : Option G) → BothStand left right r a b → site_at left a ≡ site_at right b
   main_same None None both = refl
   main_same None (Some g) both = absurd both
   main_same (Some f) None both = absurd both
@@ -254,11 +254,11 @@ module _ {F S G T : Type 0} (left : Meaning F S) (right : Meaning G T) (r : Rela
           let le = resumed_counted (with_world left (turned n) s) (record { stands = standing n None a.stands; picks = a.picks + 1 }) n (a.stands n) (thread_at n (left.world s).threads) in
           omega (arith, e, le)
 
-  step_counted : (schedule : List ℕ) (c : Fibers F S) → r.count (left_world left right r c) ≤ count_of r.count (left_world left right r) (fibers_step left schedule c)
+  pub step_counted : (schedule : List ℕ) (c : Fibers F S) → r.count (left_world left right r c) ≤ count_of r.count (left_world left right r) (fibers_step left schedule c)
   step_counted schedule (Goes f s a) = moved_counted f s a (left.due f)
   step_counted schedule (Waits s a) = picked_counted schedule s a (runnable left.joins (left.world s).threads a.stands)
 
-  runs_counted : (schedule : List ℕ) (n : ℕ) (c : Fibers F S) → r.count (left_world left right r c) ≤ r.count (ends_in left schedule n c).1
+  pub runs_counted : (schedule : List ℕ) (n : ℕ) (c : Fibers F S) → r.count (left_world left right r c) ≤ r.count (ends_in left schedule n c).1
   runs_counted schedule zero c = let o : r.count (left_world left right r c) ≤ r.count (left_world left right r c) = omega arith in o
   runs_counted schedule (suc n) c = by_step (λ d. runs_counted schedule n d) (fibers_step left schedule c) (step_counted schedule c)
     where

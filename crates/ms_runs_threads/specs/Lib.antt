@@ -3,3 +3,4 @@ pub mod Alike
 pub mod Scripts
 pub mod PlainFibers
 pub mod ShadowFibers
+pub mod Calls

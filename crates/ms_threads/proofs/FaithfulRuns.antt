@@ -22,7 +22,8 @@ use Rattle.ms_pass_form_laws.proofs.Elided.{known, formed_valid}
 use Rattle.ms_runs_threads.specs.PlainFibers.{plain_threads}
 use Rattle.ms_runs_threads.specs.ShadowFibers.{shadow_threads}
 use Rattle.ms_threads_laws.proofs.SameShown.{threads_undisturbed}
-use Rattle.ms_threads_laws.proofs.KeptRuns.{threads_followed}
+use Rattle.ms_threads_laws.proofs.KeptRuns.{threads_followed, calls_followed}
+use Rattle.ms_runs_threads.specs.Calls.{plain_threads_calls, shadow_threads_calls}
 use Rattle.ms_threads_laws.proofs.UnderFills.{first_threads, alone_threads, first_same, same_threads, shown_threads}
 use Rattle.ms_threads.specs.Faithful.{ThreadsUnderFills, FaithfulThreads}
 use Rattle.ms_threads.specs.Fills.{ThreadsHoldUnderFills}
@@ -76,6 +77,11 @@ module _ (m : Module) (formed : Formed m) (valid : Valid m) (can : CanInstrument
   j_runs setup fair schedule =
       ap (λ (k : Module). plain_threads k setup schedule) elided.is_pass
       ∙ threads_followed m formed valid (eliding elided.clean m) elided.exact.sound setup fair (known m formed valid can elided.clean setup) schedule
+
+  pub j_calls : (setup : Setup) → Fair setup → (schedule : List ℕ) → plain_threads_calls j setup schedule ≡ shadow_threads_calls m setup schedule
+  j_calls setup fair schedule =
+      ap (λ (k : Module). plain_threads_calls k setup schedule) elided.is_pass
+      ∙ calls_followed m formed valid (eliding elided.clean m) elided.exact.sound setup fair (known m formed valid can elided.clean setup) schedule
 
   j_valid : Valid j
   j_valid = subst Valid (sym elided.is_pass) (formed_valid m formed valid can elided.clean).1

@@ -93,3 +93,9 @@ module _ (s : Setting) (numbers : ℕ → Numbering) (m : Module) (known : Known
   turn_same (f ∷ fs) w [] cells z h = absurd h
   turn_same (f ∷ fs) w (g ∷ gs) cells z h =
       let t = h.0 in ap (λ (k : Fibers). k.turn) (run_keeps s (here s m f) t.waiting (record { names = g.values; slots = cells }) z t.after w t.runs)
+
+  pub threads_same : (f : List (Frame Poisoned)) (w : World) (g : List (Frame ℕ)) (cells : ℕ → ℕ) (z : World) → FollowsBy s numbers m f w g cells z → w.threads ≡ z.threads
+  threads_same [] w g cells z h = absurd h
+  threads_same (f ∷ fs) w [] cells z h = absurd h
+  threads_same (f ∷ fs) w (g ∷ gs) cells z h =
+      let t = h.0 in ap (λ (k : Fibers). k.threads) (run_keeps s (here s m f) t.waiting (record { names = g.values; slots = cells }) z t.after w t.runs)

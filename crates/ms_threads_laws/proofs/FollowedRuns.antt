@@ -1,5 +1,5 @@
 -- Runs of fibers of a module and of its instrumented form, by the laws of one fiber; and rules that give the same masks.
-use Rattle.std.proofs.Common.{◌≡◌, ℕ, List, [], ◌∷◌, None, refl, ap, ◌∙◌}
+use Rattle.std.proofs.Common.{◌≡◌, ℕ, List, [], ◌∷◌, None, refl, sym, ap, ◌∙◌}
 use Rattle.ms_ir.specs.declared.syntax.Inst.{Inst}
 use Rattle.ms_ir.specs.declared.syntax.Module.{Module}
 use Rattle.ms_ir.specs.Instructions.{strip}
@@ -20,6 +20,9 @@ use Rattle.ms_runs_threads.specs.Alike.{Relation, Laws, LateLaws, Counts}
 use Rattle.ms_runs_threads.specs.PlainFibers.{Shared, plain_fiber, plain_threads}
 use Rattle.ms_runs_threads.specs.ShadowFibers.{shadow_state, shadow_going, shadow_fiber, perform_first, shadow_perform, shadow_threads_by}
 use Rattle.ms_runs_threads.proofs.Follow.{runs_alike}
+use Rattle.ms_runs.specs.Calls.{call_sites}
+use Rattle.ms_runs_threads.specs.Calls.{fibers_told, none_told, plain_threads_calls, shadow_threads_calls_by, shadow_threads_calls}
+use Rattle.ms_runs_threads.proofs.CallsAlike.{SaysSame, calls_alike}
 
 -- ---- rules that give the same masks
 
@@ -75,3 +78,28 @@ followed_runs d m j strips setup schedule r h =
     same
     ∙ h.ends e.0 e.1 q.0 q.1
     (runs_alike (shadow_fiber d s m) (plain_fiber s j) r h.laws h.counts h.late schedule setup.steps c p (h.starts, record { stands = λ n. tt; picks = refl }) (h.none _ _))
+
+-- ---- the calls at their reports
+
+pub same_threads_calls : {d e : Rules} → SameRules d e → (m : Module) (setup : Setup) (schedule : List ℕ) → shadow_threads_calls_by d m setup schedule ≡ shadow_threads_calls_by e m setup schedule
+same_threads_calls same m setup schedule =
+    ap (λ (k : Meaning (List (Frame Poisoned)) World). fibers_told k (call_sites m) schedule setup.steps (start_goes (start_frame shadow_reading m ∷ []) (start_world m setup)) none_told)
+    (same_fiber same (setting_of m setup) m)
+
+pub computed_calls : (m : Module) (setup : Setup) (schedule : List ℕ) → shadow_threads_calls m setup schedule ≡ shadow_threads_calls_by by_formulas m setup schedule
+computed_calls m setup schedule = same_threads_calls formulas_exact m setup schedule
+
+pub followed_calls : (d : Rules) (m j : Module) → strip j ≡ m → (setup : Setup) (schedule : List ℕ)
+    → (r : Relation (shadow_fiber d (setting_of m setup) m) (plain_fiber (setting_of m setup) j)) → (h : Followed d m j setup r)
+    → SaysSame (shadow_fiber d (setting_of m setup) m) (plain_fiber (setting_of m setup) j) r h.laws h.counts h.late (call_sites m) (call_sites j)
+    → plain_threads_calls j setup schedule ≡ shadow_threads_calls_by d m setup schedule
+followed_calls d m j strips setup schedule r h says =
+    let s = setting_of m setup in
+    let c = start_goes (start_frame shadow_reading m ∷ []) (start_world m setup) in
+    let shared : Shared = record { slots = λ a. 0; world = start_world m setup } in
+    let p = start_goes (start_frame plain_reading m ∷ []) shared in
+    let same : plain_threads_calls j setup schedule ≡ fibers_told (plain_fiber (setting_of m setup) j) (call_sites j) schedule setup.steps p none_told = λ i.
+    fibers_told (plain_fiber (setting_same m j strips setup i) j) (call_sites j) schedule setup.steps
+    (start_goes (frame_same plain_reading m j strips i ∷ []) (let k : Shared = record { slots = λ a. 0; world = start_same m j strips setup i } in k)) none_told in
+    same
+    ∙ sym (calls_alike (shadow_fiber d s m) (plain_fiber s j) r h.laws h.counts h.late (call_sites m) (call_sites j) says schedule setup.steps c p (h.starts, record { stands = λ n. tt; picks = refl }) (h.none _ _) none_told)

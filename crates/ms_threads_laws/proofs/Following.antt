@@ -48,8 +48,13 @@ use Rattle.ms_runs_threads.specs.Alike.{SteppedAlike, count_of, Relation, GoBoth
 use Rattle.ms_runs_threads.specs.PlainFibers.{Shared, state_of, plain_going, plain_fiber, plain_answer, through_marked, due_inst, due_at, frames_due, frames_left, inst_joins, words_due, plain_threads}
 use Rattle.ms_runs_threads.specs.ShadowFibers.{shadow_state, shadow_going, shadow_fiber, checked, reach_first, perform_first, shadow_perform, shadow_answer, shadow_threads_by}
 use Rattle.ms_threads_laws.proofs.ThreadCalls.{ThreadCall, ReturnsAlone, asks_call, returns_alone, call_outside, counts_none, hands_none, saves_none, never_goes_on, no_phi, call_clean}
-use Rattle.ms_threads_laws.proofs.DueSame.{due_head, due_first, due_same, turn_same}
-use Rattle.ms_threads_laws.proofs.FollowedRuns.{followed_runs}
+use Rattle.ms_threads_laws.proofs.DueSame.{due_head, due_first, due_same, turn_same, threads_same}
+use Rattle.ms_threads_laws.proofs.FollowedRuns.{Followed, followed_runs, followed_calls}
+use Rattle.ms_runs.specs.declared.runs.RunResult.{RunResult}
+use Rattle.ms_runs.specs.Calls.{call_sites}
+use Rattle.ms_runs_threads.specs.Calls.{plain_threads_calls, shadow_threads_calls_by}
+use Rattle.ms_runs_threads.proofs.CallsAlike.{SaysSame}
+use Rattle.ms_pass_laws.proofs.SameCalls.{lower_sites, frames_sites, frames_reports}
 
 module _ (s : Setting) (numbers : ℕ → Numbering) (m : Module) (known : KnownModule s numbers m) where
   abbrev form : Module
@@ -404,7 +409,45 @@ module _ (s : Setting) (numbers : ℕ → Numbering) (m : Module) (known : Known
       turned = λ w k. refl;
     }
 
+    -- ---- the calls at reports
+
+    site_followed : (f : List (Frame Poisoned)) (w : World) (g : List (Frame ℕ)) (t : Shared) → relation.Go f w g t → left.site f ≡ right.site g
+    site_followed [] w g t h = absurd h.0
+    site_followed (f ∷ fs) w [] t h = absurd h.0
+    site_followed (f ∷ fs) w (g ∷ gs) t h = ap (λ (k : Here). k.site) (sym h.0.0.stands)
+
+    stand_calls : (f : List (Frame Poisoned)) (g : List (Frame ℕ)) → relation.At f g → call_sites m f ≡ call_sites (pass numbers m) g
+    stand_calls [] g a = absurd a.0
+    stand_calls (f ∷ fs) [] a = absurd a.0
+    stand_calls (f ∷ fs) (g ∷ gs) a = lower_sites s numbers m f.func fs gs a.0.due.lower
+
+    pub says : SaysSame left right relation laws counts late (call_sites m) (call_sites (pass numbers m))
+    says = record {
+      go = λ f w g t h. frames_sites s numbers m f w g t.slots t.world h.0;
+      site = site_followed;
+      at = stand_calls;
+      go_reports = λ f w g t h. frames_reports s numbers m f w g t.slots t.world h.0;
+      go_threads = λ f w g t h. threads_same s numbers m known f w g t.slots t.world h.0;
+      reports = λ w t h. ap (λ (u : World). u.reports) (sym h.0);
+      ends = λ e w x v h. ap (λ (k : RunResult). k.reports) (sym h);
+      never = λ e w v h. h;
+    }
+
 -- ---- a run
+
+threads_both : (numbers : ℕ → Numbering) (m : Module) (setup : Setup) (known : KnownModule (setting_of m setup) numbers m) (kept : Kept (setting_of m setup) numbers m known)
+    → params_at m (unwrap_or (func_index m.funcs main_name) 0) ≡ [] → RangedWorld (start_world m setup) → kept.Of (start_frame shadow_reading m ∷ []) → kept.In (start_world m setup)
+    → Followed by_formulas m (pass numbers m) setup (relation (setting_of m setup) numbers m known kept)
+threads_both numbers m setup known kept bare placed frames world =
+    let s = setting_of m setup in
+    record {
+      laws = laws s numbers m known kept;
+      late = late s numbers m known kept;
+      counts = counts s numbers m known kept;
+      none = λ w v. refl;
+      ends = λ e w x v h. h;
+      starts = (starts numbers m setup known.strips bare, ((λ y. omega arith), tt), placed, frames, world);
+    }
 
 -- with one schedule the instrumented form of a module runs as the shadow run says, where what is kept holds at the start
 pub threads_follow : (numbers : ℕ → Numbering) (m : Module) (setup : Setup) (schedule : List ℕ) (known : KnownModule (setting_of m setup) numbers m) (kept : Kept (setting_of m setup) numbers m known)
@@ -413,11 +456,13 @@ pub threads_follow : (numbers : ℕ → Numbering) (m : Module) (setup : Setup) 
 threads_follow numbers m setup schedule known kept bare placed frames world =
     let s = setting_of m setup in
     followed_runs by_formulas m (pass numbers m) known.strips setup schedule (relation s numbers m known kept)
-    (record {
-      laws = laws s numbers m known kept;
-      late = late s numbers m known kept;
-      counts = counts s numbers m known kept;
-      none = λ w v. refl;
-      ends = λ e w x v h. h;
-      starts = (starts numbers m setup known.strips bare, ((λ y. omega arith), tt), placed, frames, world);
-    })
+    (threads_both numbers m setup known kept bare placed frames world)
+
+-- and its reports have the calls that the shadow run says
+pub threads_calls_follow : (numbers : ℕ → Numbering) (m : Module) (setup : Setup) (schedule : List ℕ) (known : KnownModule (setting_of m setup) numbers m) (kept : Kept (setting_of m setup) numbers m known)
+    → params_at m (unwrap_or (func_index m.funcs main_name) 0) ≡ [] → RangedWorld (start_world m setup) → kept.Of (start_frame shadow_reading m ∷ []) → kept.In (start_world m setup)
+    → plain_threads_calls (pass numbers m) setup schedule ≡ shadow_threads_calls_by by_formulas m setup schedule
+unfolding threads_both
+threads_calls_follow numbers m setup schedule known kept bare placed frames world =
+    let s = setting_of m setup in
+    followed_calls by_formulas m (pass numbers m) known.strips setup schedule (relation s numbers m known kept) (threads_both numbers m setup known kept bare placed frames world) (says s numbers m known kept)

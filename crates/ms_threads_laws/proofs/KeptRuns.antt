@@ -73,8 +73,9 @@ use Rattle.ms_runs_threads.specs.Fibers.{Own, turned}
 use Rattle.ms_runs_threads.specs.PlainFibers.{frames_due, frames_left, plain_threads}
 use Rattle.ms_runs_threads.specs.ShadowFibers.{shadow_state, shadow_answer, shadow_threads, shadow_threads_by}
 use Rattle.ms_threads_laws.proofs.ThreadCalls.{ThreadCall, call_clean, never_goes_on}
-use Rattle.ms_threads_laws.proofs.FollowedRuns.{computed_threads}
-use Rattle.ms_threads_laws.proofs.Following.{Kept, threads_follow}
+use Rattle.ms_runs_threads.specs.Calls.{plain_threads_calls, shadow_threads_calls, shadow_threads_calls_by}
+use Rattle.ms_threads_laws.proofs.FollowedRuns.{computed_threads, computed_calls}
+use Rattle.ms_threads_laws.proofs.Following.{Kept, threads_follow, threads_calls_follow}
 use Rattle.ms_threads_laws.proofs.OwnSteps.{more_is, uses_pass, Passes, planes_keep, back_keeps, own_keeps}
 use Rattle.ms_threads_laws.proofs.StartedFibers.{StartsWell, AllStart, one_more, thread_starts, answered_start, joined_start, first_good, first_fits, first_clean_values, returns_pointer, named_place, creates}
 
@@ -393,9 +394,21 @@ module _ (m : Module) (formed : Formed m) (valid : Valid m) (setup : Setup) (byt
       let sound = shadow_sound m formed valid setup bytes in
       threads_follow numbers m setup schedule known run_kept (main_params m valid) (start_placed m formed valid setup bytes) (sound.frames, start_clean m setup) (sound.world, start_begun)
 
+  calls_follow : (schedule : List ℕ) → plain_threads_calls (pass numbers m) setup schedule ≡ shadow_threads_calls_by by_formulas m setup schedule
+  calls_follow schedule =
+      let sound = shadow_sound m formed valid setup bytes in
+      threads_calls_follow numbers m setup schedule known run_kept (main_params m valid) (start_placed m formed valid setup bytes) (sound.frames, start_clean m setup) (sound.world, start_begun)
+
 -- with one schedule the instrumented form of a module runs as the shadow run says
 pub threads_followed : (m : Module) → Formed m → Valid m → (numbers : ℕ → Numbering)
     → ((n : ℕ) (f : Func) → func_at m n ≡ Some f → (x : Name) → (numbers n).env.clean x ≡ true → IsClean m f x)
     → (setup : Setup) → Fair setup → KnownModule (setting_of m setup) numbers m → (schedule : List ℕ) → plain_threads (pass numbers m) setup schedule ≡ shadow_threads m setup schedule
 threads_followed m formed valid numbers says setup fair known schedule =
     run_follows m formed valid setup (record { input = fair.bytes; fill = fair.fill }) numbers known says schedule ∙ sym (computed_threads m setup schedule)
+
+-- and its reports have the same calls
+pub calls_followed : (m : Module) → Formed m → Valid m → (numbers : ℕ → Numbering)
+    → ((n : ℕ) (f : Func) → func_at m n ≡ Some f → (x : Name) → (numbers n).env.clean x ≡ true → IsClean m f x)
+    → (setup : Setup) → Fair setup → KnownModule (setting_of m setup) numbers m → (schedule : List ℕ) → plain_threads_calls (pass numbers m) setup schedule ≡ shadow_threads_calls m setup schedule
+calls_followed m formed valid numbers says setup fair known schedule =
+    calls_follow m formed valid setup (record { input = fair.bytes; fill = fair.fill }) numbers known says schedule ∙ sym (computed_calls m setup schedule)

@@ -28,6 +28,10 @@ use Rattle.ms_runs.specs.Uses.{Word, uses, check_uses}
 use Rattle.ms_runs.specs.Shadow.{ShadowState, read_poisoned, shadow_reading, planes, poisoned_result, shadow_moved, shadow_act, after_checks, shadow_step}
 use Rattle.ms_runs.specs.LowEqual.{SameBits, LowWord, LowFrames, LowWorld}
 use Rattle.ms_runs.proofs.HeapBlocks.{no_blocks}
+use Rattle.ms_runs.specs.Calls.{call_sites}
+use Rattle.ms_runs_threads.specs.Calls.{none_told, shadow_threads_calls_by}
+use Rattle.ms_runs_threads.proofs.CallsAlike.{SaysSame, calls_alike}
+use Rattle.ms_runs_fills_laws.proofs.SameCalls.{low_calls}
 use Rattle.ms_check_valid.specs.CleanValues.{IsClean}
 use Rattle.ms_check_valid.specs.Formed.{Formed}
 use Rattle.ms_check_valid.specs.Uninstrumented.{CanInstrument}
@@ -599,3 +603,27 @@ module _ (m : Module) (formed : Formed m) (valid : Valid m) (can : CanInstrument
       let good : GoodFiber (start_frame shadow_reading m ∷ []) = (sound.frames, start_clean m setup) in
       let both = runs_alike left right relation laws counts late schedule setup.steps c c ((low.frames, low.world, good, good, start_shared, start_shared), record { stands = λ n. tt; picks = refl }) (quiet ∙ sym start_blind) in
       ap (λ e. result e a.1) both.0 ∙ result_same d.0 a.1 d.1 both.1
+
+  -- ---- the calls at its reports
+
+  says : SaysSame left right relation laws counts late (call_sites m) (call_sites m)
+  says = record {
+    go = λ f w g v h. low_calls m f g h.0;
+    site = λ f w g v h. site_low f g h.0;
+    at = λ f g h. low_calls m f g h.0;
+    go_reports = λ f w g v h. h.1.reports;
+    go_threads = λ f w g v h. h.1.threads;
+    reports = λ w v h. h.0.reports;
+    ends = λ e w x v h. h.1.reports;
+    never = λ e w v h. h;
+  }
+
+  pub same_calls : (schedule : List ℕ) → (shadow_threads_by by_formulas m setup schedule).blind ≡ 0
+      → shadow_threads_calls_by by_formulas m setup schedule ≡ shadow_threads_calls_by by_formulas m (refilled setup fill) schedule
+  same_calls schedule quiet =
+      let c : Fibers (List (Frame Poisoned)) World = GoesOn (start_frame shadow_reading m ∷ []) (start_world m setup) (record { stands = λ n. None; picks = 0 }) in
+      let low = start_alike m setup fill in
+      let sound = shadow_sound m formed valid setup bytes in
+      let good : GoodFiber (start_frame shadow_reading m ∷ []) = (sound.frames, start_clean m setup) in
+      calls_alike left right relation laws counts late (call_sites m) (call_sites m) says schedule setup.steps c c
+      ((low.frames, low.world, good, good, start_shared, start_shared), record { stands = λ n. tt; picks = refl }) (quiet ∙ sym start_blind) none_told

@@ -20,9 +20,10 @@ use Rattle.ms_runs_fills_laws.specs.First.{FirstOf}
 use Rattle.ms_runs_threads.specs.Fibers.{Fibers, Goes as GoesOn}
 use Rattle.ms_runs_threads.specs.PlainFibers.{plain_threads}
 use Rattle.ms_runs_threads.specs.ShadowFibers.{shadow_threads, shadow_threads_by}
-use Rattle.ms_threads_laws.proofs.FollowedRuns.{computed_threads}
+use Rattle.ms_runs_threads.specs.Calls.{shadow_threads_calls}
+use Rattle.ms_threads_laws.proofs.FollowedRuns.{computed_threads, computed_calls}
 use Rattle.ms_threads_laws.proofs.SameShown.{threads_undisturbed}
-use Rattle.ms_threads_laws.proofs.LowFibers.{same_fills}
+use Rattle.ms_threads_laws.proofs.LowFibers.{same_fills, same_calls}
 use Rattle.ms_threads_laws.proofs.FirstFibers.{first_of}
 use Rattle.ms_threads_laws.proofs.ToldFibers.{ends_told}
 
@@ -67,6 +68,13 @@ module _ (m : Module) (formed : Formed m) (valid : Valid m) (can : CanInstrument
       ∙ sym (same_fills m formed valid can (to_first_report setup) refl (record { input = bytes.input; fill = bytes.fill }) fill (record { input = bytes.input; fill = is.bytes }) schedule
       (ap (λ (r : RunResult). r.blind) (sym (computed_threads m (to_first_report setup) schedule)) ∙ quiet))
       ∙ sym (computed_threads m (to_first_report setup) schedule)
+
+  pub same_threads_calls : (fill : List ℕ) → IsFill fill → shadow_threads_calls m (refilled (to_first_report setup) fill) schedule ≡ shadow_threads_calls m (to_first_report setup) schedule
+  same_threads_calls fill is =
+      computed_calls m (refilled (to_first_report setup) fill) schedule
+      ∙ sym (same_calls m formed valid can (to_first_report setup) refl (record { input = bytes.input; fill = bytes.fill }) fill (record { input = bytes.input; fill = is.bytes }) schedule
+      (ap (λ (r : RunResult). r.blind) (sym (computed_threads m (to_first_report setup) schedule)) ∙ quiet))
+      ∙ sym (computed_calls m (to_first_report setup) schedule)
 
   pub shown_threads : (shadow_threads m (to_first_report setup) schedule).reports ≡ [] → (fill : List ℕ) → IsFill fill
       → SameShown (plain_threads m (refilled setup fill) schedule) (shadow_threads m setup schedule)

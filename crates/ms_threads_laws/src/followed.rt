@@ -6,6 +6,7 @@ ghost use Rattle.ms_runs.specs.{declared.runs.Setup.{Setup}, Plain.{setting_of},
 ghost use Rattle.ms_check_valid.specs.{CleanValues.{IsClean}, Formed.{Formed}, Valid.{Valid}};
 ghost use Rattle.ms_pass_laws.specs.{Pass.{Numbering, pass}, Known.{KnownModule}};
 ghost use Rattle.ms_runs_threads.specs.{PlainFibers.{plain_threads}, ShadowFibers.{shadow_threads}};
+ghost use Rattle.ms_runs_threads.specs.Calls.{plain_threads_calls, shadow_threads_calls};
 
 /// The step law holds of each fiber: where the pass takes a module, and what it takes to be clean is clean in every run, its
 /// instrumented form runs with each fair setup and each schedule as the shadow run of the module says.
@@ -13,4 +14,11 @@ pub fn threads_followed()
     ensures { (m : Module) → Formed m → Valid m → (numbers : ℕ → Numbering)
         → ((n : ℕ) (f : Func) → func_at m n ≡ Some f → (x : Name) → (numbers n).env.clean x ≡ true → IsClean m f x)
         → (setup : Setup) → Fair setup → KnownModule (setting_of m setup) numbers m → (schedule : List ℕ) → plain_threads (pass numbers m) setup schedule ≡ shadow_threads m setup schedule }
+{}
+
+/// And at each report the same calls stand, down to `main`, or to the first function of a thread, which the same call made.
+pub fn thread_calls_followed()
+    ensures { (m : Module) → Formed m → Valid m → (numbers : ℕ → Numbering)
+        → ((n : ℕ) (f : Func) → func_at m n ≡ Some f → (x : Name) → (numbers n).env.clean x ≡ true → IsClean m f x)
+        → (setup : Setup) → Fair setup → KnownModule (setting_of m setup) numbers m → (schedule : List ℕ) → plain_threads_calls (pass numbers m) setup schedule ≡ shadow_threads_calls m setup schedule }
 {}

@@ -1,4 +1,4 @@
-use Rattle.ms_threads_laws.proofs.UnderFills.{first_threads, alone_threads, same_threads, shown_threads}
+use Rattle.ms_threads_laws.proofs.UnderFills.{first_threads, alone_threads, same_threads, same_threads_calls, shown_threads}
 use Rattle.ms_threads_laws.proofs.fills.threads_fills.Goals as goal
 
 pub returns-clause-same : goal.returns-clause-same
@@ -12,3 +12,6 @@ returns-clause-first c = first_threads
 
 pub returns-clause-alone : goal.returns-clause-alone
 returns-clause-alone c = alone_threads
+
+pub returns-clause-calls : goal.returns-clause-calls
+returns-clause-calls c = λ m formed valid can setup bytes schedule quiet. same_threads_calls m formed valid can setup bytes schedule quiet
