@@ -1,0 +1,3 @@
+pub mod SamePicks
+pub mod Branching
+pub mod Printed
