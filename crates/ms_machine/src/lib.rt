@@ -14,6 +14,6 @@ mod starting;
 mod words;
 
 pub use inspect::{frames, place, word};
-pub use running::{advance, resume};
+pub use running::{advance, printed_types, resume};
 pub use spawning::spawn;
 pub use starting::start;

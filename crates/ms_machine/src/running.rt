@@ -2,7 +2,9 @@
 ghost use Rattle.std.specs.Prelude.{◌≡◌, ◌≤◌, ◌<◌, ◌+◌, ◌*◌, ◌^◌, ◌∷◌, ℕ, List, IfOk};
 ghost use Rattle.ms_runs.specs.{declared.runs.Setup.{Setup}, Control.{Frame as FrameOf}};
 ghost use Rattle.ms_runs.specs.Plain.{PlainState, setting_of};
+ghost use Rattle.ms_ir.specs.declared.calls.External.TheVariants.{Printf};
 ghost use Rattle.ms_host.specs.declared.calls.HostCall.{HostCall as CallOf};
+ghost use Rattle.ms_host.specs.declared.calls.Asked.TheVariants.{External as AskedExternal};
 ghost use Rattle.ms_host.specs.{declared.calls.Answer.TheVariants.{Resumed}, Answers.{Answered, asked_effect}};
 ghost use Rattle.ms_host.specs.State.{Beside, KeepsGiven, WorldState};
 ghost use Rattle.ms_machine_frames.specs.{Owning.{KeepsOwn}, Standing.{frames_of}};
@@ -13,6 +15,7 @@ ghost use Rattle.ms_machine.specs.Running.{AllStandFor, IsRunning, Runs, WaitsFo
 use ms_bits::NoMemory;
 use ms_check::CheckedModule;
 use ms_host::World;
+use ms_ir::Ty;
 use ms_machine_frames::{Budget, Fiber, Pause};
 use ms_machine_steps as steps;
 use std::alloc::Global;
@@ -54,4 +57,13 @@ pub fn resume(m: &CheckedModule, fiber: &mut Fiber, value: Option<u64>)
 {
     m.law_valid();
     steps::give_answer(m.program(), fiber, value);
+}
+
+/// The types of the arguments of the call at which a fiber waits, where it is one of `printf`. Constant time.
+pub fn printed_types<'m>(m: &'m CheckedModule, fiber: &Fiber) -> &'m [Ty]
+    requires { WaitsFor m.now fiber.now }
+    ensures { (u : Setup) (frames : List (FrameOf ℕ)) (call : CallOf) → AllStandFor m.now (frames_of fiber.now) frames → FirstWaits m.now u frames call → call.asked ≡ AskedExternal Printf → result.now ≡ types_due m.now frames }
+{
+    m.law_valid();
+    steps::printed_types(m.program(), fiber)
 }

@@ -1,6 +1,5 @@
 pub mod Cuts
 pub mod InMemory
-pub mod Listed
 pub mod Numbered
 pub mod Output
 pub mod SameSite

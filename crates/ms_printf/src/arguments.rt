@@ -1,10 +1,12 @@
-//! The arguments of a call, with the types that its instruction has.
-ghost use Rattle.std.specs.{Prelude.{◌≡◌, Some, option_map, slice_get, drop, zip}, Option.{option_copied}};
+//! The arguments of a call, with their types.
+ghost use Rattle.std.specs.{Prelude.{◌≡◌, ◌++◌, [], ◌∷◌, Some, option_map, option_to_list, slice_get, drop, zip, IfOk}, Option.{option_copied}};
 ghost use Rattle.ms_ir.specs.{declared.syntax.Inst.{Inst as InstOf}, declared.places.Place.{Place as PlaceOf}};
-ghost use Rattle.ms_ir.specs.{Instructions.{insts_at}, Places.{HasSmallNumbers, IsPlaceOf, inst_at}};
+ghost use Rattle.ms_ir.specs.{Instructions.{insts_at}, Places.{HasSmallNumbers, IsPlaceOf, inst_at}, ValueTypes.{type_of}};
 ghost use Rattle.ms_printf.specs.Walks.{types_of, given};
 
-use ms_ir::{Inst, Module, Op, ValueType, place_of};
+use ms_bits::{Duplicate, NoMemory};
+use ms_ir::{Inst, Module, Op, Ty, ValueType, place_of};
+use std::alloc::Global;
 
 /// An argument: its type and its word.
 #[derive(Clone, Copy)]
@@ -25,17 +27,67 @@ fn word_at(words: &[u64], k: usize) -> Option<u64>
     }
 }
 
-/// The argument with a number, counted from 0, if it is there.
-pub(crate) fn argument_at<'m>(op: &'m Op, words: &[u64], k: usize) -> Option<Argument<'m>>
-    ensures { option_map given result ≡ slice_get (zip (drop k (types_of op.now)) (drop k words.now)) 0 }
+/// The type with a number, if it is there.
+fn type_at(types: &[Ty], k: usize) -> Option<ValueType<'_>>
+    ensures { option_map type_of result ≡ slice_get types.now k }
 {
-    let Some(ty) = op.operand_type(k) else {
+    match types.get(k) {
+        Some(ty) => Some(ValueType::Written(ty)),
+        None => None,
+    }
+}
+
+/// The argument with a number, counted from 0, if it is there.
+pub(crate) fn argument_at<'m>(types: &'m [Ty], words: &[u64], k: usize) -> Option<Argument<'m>>
+    ensures { option_map given result ≡ slice_get (zip (drop k types.now) (drop k words.now)) 0 }
+{
+    let Some(ty) = type_at(types, k) else {
         return None;
     };
     match word_at(words, k) {
         Some(word) => Some(Argument { ty, word }),
         None => None,
     }
+}
+
+/// A type as it is written.
+fn written(alloc: Global, ty: ValueType<'_>) -> Result<Ty, NoMemory>
+    ensures { IfOk result (λ t. t ≡ type_of ty.entry) }
+{
+    match ty {
+        ValueType::Bit => Ok(Ty::Int(1)),
+        ValueType::Pointer => Ok(Ty::Ptr),
+        ValueType::Written(ty) => ty.copy(alloc),
+    }
+}
+
+/// Adds a type.
+fn push_type(alloc: Global, types: &mut Vec<Ty>, ty: ValueType<'_>) -> Result<(), NoMemory>
+    ensures { IfOk result (λ _. types.new.items ≡ types.old.items ++ type_of ty.entry ∷ []) }
+{
+    types.push(written(alloc, ty)?)?;
+    Ok(())
+}
+
+/// Adds the type of the operand with a place, if there is one there.
+fn push_type_at(alloc: Global, types: &mut Vec<Ty>, op: &Op, k: usize) -> Result<(), NoMemory>
+    ensures { IfOk result (λ _. types.new.items ≡ types.old.items ++ option_to_list (slice_get (types_of op.now) k)) }
+{
+    match op.operand_type(k) {
+        Some(ty) => push_type(alloc, types, ty),
+        None => Ok(()),
+    }
+}
+
+/// The types of the operands of an operation, in written order.
+pub(crate) fn operand_types(alloc: Global, op: &Op) -> Result<Vec<Ty>, NoMemory>
+    ensures { IfOk result (λ types. types.items ≡ types_of op.now) }
+{
+    let mut types = Vec::new(alloc);
+    for k in 0..op.operand_count() {
+        push_type_at(alloc, &mut types, op, k)?;
+    }
+    Ok(types)
 }
 
 /// The instruction at a place: the numbers of its function, its block and itself, counted from 0.

@@ -12,12 +12,10 @@ mod directives;
 mod parts;
 mod printing;
 mod shown;
-mod sites;
 mod texts;
 mod walks;
 
-pub use answering::answer_printf;
+pub use answering::{answer_printf, answer_typed};
 pub use asking::asks_string;
 pub use cutting::cut;
 pub use ms_runs::{Cut, Piece};
-pub use sites::CallSites;

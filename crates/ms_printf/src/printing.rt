@@ -3,13 +3,13 @@ ghost use Rattle.std.specs.Prelude.{◌≡◌, ◌++◌, ℕ, List, Result, Ok, 
 ghost use Rattle.ms_bits.specs.declared.traps.Trap.{Trap as TrapOf};
 ghost use Rattle.ms_runs.specs.{World.{World as Meant}, Formats.{both_shown}};
 ghost use Rattle.ms_host.specs.{State.{Beside, Keeps}, Shows.{Shows}};
-ghost use Rattle.ms_printf.specs.Walks.{types_of, shown_of, rest_shown, IsWalk, IsReadable, Measures};
+ghost use Rattle.ms_printf.specs.Walks.{shown_of, rest_shown, IsWalk, IsReadable, Measures};
 
 use crate::shown::{FormatFault, Shown};
 use crate::walks::Walk;
 use ms_bits::NoMemory;
 use ms_host::World;
-use ms_ir::Op;
+use ms_ir::Ty;
 use std::alloc::Global;
 
 /// The sum with one part more: the number of bytes, or the fault. A string that doesn't end within its allocation comes
@@ -31,15 +31,15 @@ pub(crate) fn measured(
     alloc: Global,
     world: &World,
     format: Walk,
-    op: &Op,
+    types: &[Ty],
     words: &[u64],
 ) -> Result<Result<u64, FormatFault>, NoMemory>
     requires { IsWalk world.now.planes.table format }
-    ensures { (beside : Beside) (meant : Meant) → Shows world.now beside meant → IfOk result (λ sum. Measures sum (rest_shown meant (types_of op.now) words.now format)) }
+    ensures { (beside : Beside) (meant : Meant) → Shows world.now beside meant → IfOk result (λ sum. Measures sum (rest_shown meant types.now words.now format)) }
 {
     let mut walk = format;
     let mut sum = Ok(0);
-    'parts: while let Some(part) = walk.step(alloc, world, op, words)? {
+    'parts: while let Some(part) = walk.step(alloc, world, types, words)? {
         sum = joined(sum, &part);
     }
     Ok(sum)
@@ -65,16 +65,16 @@ pub(crate) fn print_rest(
     alloc: Global,
     world: &mut World,
     format: Walk,
-    op: &Op,
+    types: &[Ty],
     words: &[u64],
 ) -> Result<(), NoMemory>
     requires { IsWalk world.old.planes.table format }
-    ensures printed { (beside : Beside) (meant : Meant) (bytes : List ℕ) → Shows world.old beside meant → rest_shown meant (types_of op.now) words.now format ≡ Ok bytes → OnOk result (Shows world.new beside (record meant { output = meant.output ++ bytes })) }
+    ensures printed { (beside : Beside) (meant : Meant) (bytes : List ℕ) → Shows world.old beside meant → rest_shown meant types.now words.now format ≡ Ok bytes → OnOk result (Shows world.new beside (record meant { output = meant.output ++ bytes })) }
     ensures keeps { Keeps world.old world.new }
     ensures made { world.new.made ≡ world.old.made }
 {
     let mut walk = format;
-    'parts: while let Some(part) = walk.step(alloc, world, op, words)? {
+    'parts: while let Some(part) = walk.step(alloc, world, types, words)? {
         print_part(world, &part)?;
     }
     Ok(())

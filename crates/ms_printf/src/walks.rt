@@ -2,14 +2,14 @@
 ghost use Rattle.std.specs.Prelude.{◌≡◌, ◌<◌, IfOk, IfSome};
 ghost use Rattle.ms_runs.specs.World.{World as Meant};
 ghost use Rattle.ms_host.specs.{State.{Beside}, Shows.{Shows}};
-ghost use Rattle.ms_printf.specs.Walks.{types_of, IsWalk, IsReadable, GoesOn};
+ghost use Rattle.ms_printf.specs.Walks.{IsWalk, IsReadable, GoesOn};
 
 use crate::arguments::argument_at;
 use crate::parts::{FormatPart, part_at};
 use crate::shown::{FormatFault, Shown, directive_shown};
 use ms_bits::NoMemory;
 use ms_host::World;
-use ms_ir::Op;
+use ms_ir::Ty;
 use std::alloc::Global;
 
 /// How far a format was walked.
@@ -29,11 +29,11 @@ impl Walk {
         &mut self,
         alloc: Global,
         world: &World,
-        op: &Op,
+        types: &[Ty],
         words: &[u64],
     ) -> Result<Option<Shown>, NoMemory>
         requires { IsWalk world.now.planes.table self.old }
-        ensures shown { (beside : Beside) (meant : Meant) → Shows world.now beside meant → IfOk result (GoesOn meant (types_of op.now) words.now self.old self.new) }
+        ensures shown { (beside : Beside) (meant : Meant) → Shows world.now beside meant → IfOk result (GoesOn meant types.now words.now self.old self.new) }
         ensures walk { IsWalk world.now.planes.table self.new }
         ensures readable { IfOk result (λ o. IfSome o (IsReadable world.now.planes.table)) }
         ensures shorter { IfOk result (λ o. IfSome o (λ s. self.new.left < self.old.left)) }
@@ -50,7 +50,7 @@ impl Walk {
         match part {
             FormatPart::Plain { addr, len } => Ok(Some(Shown::Memory { addr, len })),
             FormatPart::Directive(piece) => {
-                let argument = argument_at(op, words, self.next);
+                let argument = argument_at(types, words, self.next);
                 self.next += 1;
                 Ok(Some(directive_shown(alloc, world, &piece, argument)?))
             }

@@ -4,6 +4,7 @@ ghost use Rattle.ms_report.specs.{RefusalTexts.{outside_name, limit_name, cause_
 
 use ms_bits::Trap;
 use ms_ir::RootKind;
+use ms_runs_uses::kinds;
 use ms_text_grammar::{Limit, Outside};
 
 /// The printed name of a trap.
@@ -100,18 +101,18 @@ pub fn name_of_kind(kind: u32) -> Option<&'static [u8]>
     ensures unnamed { result ≡ None → kind_text kind ≡ codes "kind " ++ decimal kind }
 {
     match kind {
-        1 => Some(b"branch"),
-        2 => Some(b"switch"),
-        3 => Some(b"address"),
-        4 => Some(b"divisor"),
-        5 => Some(b"size"),
-        6 => Some(b"pointer"),
-        7 => Some(b"value"),
-        8 => Some(b"exit"),
-        9 => Some(b"output"),
-        10 => Some(b"string"),
-        11 => Some(b"first-bytes"),
-        12 => Some(b"second-bytes"),
+        kinds::BRANCH => Some(b"branch"),
+        kinds::SWITCH => Some(b"switch"),
+        kinds::ADDRESS => Some(b"address"),
+        kinds::DIVISOR => Some(b"divisor"),
+        kinds::SIZE => Some(b"size"),
+        kinds::POINTER => Some(b"pointer"),
+        kinds::VALUE => Some(b"value"),
+        kinds::EXIT => Some(b"exit"),
+        kinds::OUTPUT => Some(b"output"),
+        kinds::STRING => Some(b"string"),
+        kinds::FIRST_BYTES => Some(b"first-bytes"),
+        kinds::SECOND_BYTES => Some(b"second-bytes"),
         _ => None,
     }
 }

@@ -1,24 +1,25 @@
 -- The checks of one use more, and those of `printf`.
-use Rattle.std.proofs.Common.{◌≡◌, ℕ, ◌+◌, ◌<◌, Bool, List, [], ◌∷◌, ◌++◌, map, take, drop, length, get_or, refl, sym, ap, ◌∙◌, append_assoc, append-nil, add-one}
-use Rattle.std.specs.Prelude.{Option, Some}
-use Rattle.std.proofs.lemmas.List.{take_more, drop_more, map-append}
-use Rattle.ms_ir.specs.declared.syntax.Ty.{Ty, Ptr}
+use Rattle.std.proofs.Common.{◌≡◌, ℕ, ◌+◌, ◌<◌, Bool, List, [], ◌∷◌, ◌++◌, map, take, drop, length, get_or, refl, sym, ap, ◌∙◌, append_assoc, append-nil}
+use Rattle.std.specs.Prelude.{Option, Some, None, option_map, if◌then◌else◌}
+use Rattle.std.proofs.lemmas.List.{take_more, map-append}
+use Rattle.ms_ir.specs.declared.syntax.Ty.{Ty}
+use Rattle.ms_ir.specs.declared.syntax.Ty as ty
 use Rattle.ms_ir.specs.declared.syntax.Operand.{Operand}
-use Rattle.ms_ir.specs.declared.syntax.Operand.TheVariants as operand
 use Rattle.ms_ir.specs.declared.syntax.Name.{Name}
 use Rattle.ms_ir.specs.declared.syntax.Op.{Op}
 use Rattle.ms_ir.specs.declared.syntax.Op.TheVariants as op
 use Rattle.ms_ir.specs.declared.calls.External.{External}
-use Rattle.ms_ir.specs.declared.calls.External.TheVariants.{Printf}
+use Rattle.ms_ir.specs.Equal.{type_eq}
 use Rattle.ms_runs.specs.Uses as uses
-use Rattle.ms_runs.specs.Uses.{callee_uses, external_uses, value_uses}
+use Rattle.ms_runs.specs.Uses.{value_uses, string_uses}
 use Rattle.ms_pass_tasks.specs.Tasks.{InsertedCode}
 use Rattle.ms_pass_tasks.specs.Environments.{Tracked}
 use Rattle.ms_pass_tasks.specs.CheckTasks.{use_tasks, check_tasks}
 use Rattle.ms_rules_builder.specs.Called.{called_external}
 use Rattle.ms_rules_builder.specs.Made.{with_tasks}
-use Rattle.ms_rules_tables.specs.declared.uses.CheckedUse.{CheckedUse}
-use Rattle.ms_rules_tables.specs.Tables.{use_of}
+use Rattle.ms_runs_uses.specs.declared.uses.CheckedUse.{CheckedUse}
+use Rattle.ms_runs_uses.specs.Uses.{use_of, op_uses}
+use Rattle.ms_runs_uses.proofs.Printed.{after_use, values_next, strings_next}
 use Rattle.ms_rules_tables.proofs.Made.{with_more}
 
 check_push : (site : ℕ) (ts : List Tracked) (us : List uses.CheckedUse) (u : uses.CheckedUse) → check_tasks site ts (us ++ u ∷ []) ≡ check_tasks site ts us ++ use_tasks site ts u
@@ -39,38 +40,52 @@ module _ (site : ℕ) (ts : List Tracked) (start now after : InsertedCode) where
 
 -- ---- the arguments of `printf`
 
--- those from a place on are that one and those after it
-values_from : (args : List (Ty × Operand)) (k : ℕ) → k < length args → value_uses k (drop k args) ≡ uses.Word 7 k ∷ value_uses (k + 1) (drop (k + 1) args)
-values_from args k lt =
-    ap (value_uses k) (drop_more args k (Ptr, operand.Null) lt) ∙ ap (λ n. uses.Word 7 k ∷ value_uses n (drop (k + 1) args)) (sym (add-one k))
+check_append : (site : ℕ) (ts : List Tracked) (us vs : List uses.CheckedUse) → check_tasks site ts (us ++ vs) ≡ check_tasks site ts us ++ check_tasks site ts vs
+check_append site ts [] vs = refl
+check_append site ts (u ∷ us) vs =
+    ap (λ l. use_tasks site ts u ++ l) (check_append site ts us vs) ∙ sym (append_assoc (use_tasks site ts u) (check_tasks site ts us) (check_tasks site ts vs))
 
-module _ (site : ℕ) (ts : List Tracked) where
+none_of : (o : Option CheckedUse) → ((u : CheckedUse) → o ≡ Some u → ⊥) → o ≡ None
+none_of (Some u) none = absurd (none u refl)
+none_of None none = refl
+
+module _ (site : ℕ) (ts : List Tracked) (args : List (Ty × Operand)) (k : ℕ) (now after all : InsertedCode) (lt : k < length args) where
   -- one turn of the loop that checks their words
-  pub value_more : (args : List (Ty × Operand)) (k : ℕ) (now after all : InsertedCode) → k < length args → after ≡ with_tasks now (use_tasks site ts (uses.Word 7 k))
+  pub value_more : (u : CheckedUse) → use_of u ≡ uses.Word 7 k → after ≡ with_tasks now (use_tasks site ts (use_of u))
       → with_tasks now (check_tasks site ts (value_uses k (drop k args))) ≡ all → with_tasks after (check_tasks site ts (value_uses (k + 1) (drop (k + 1) args))) ≡ all
-  value_more args k now after all lt more before =
+  value_more u is more before =
       let rest = value_uses (k + 1) (drop (k + 1) args) in
-      ap (λ c. with_tasks c (check_tasks site ts rest)) more ∙ with_more now (use_tasks site ts (uses.Word 7 k)) (check_tasks site ts rest)
-      ∙ ap (λ us. with_tasks now (check_tasks site ts us)) (sym (values_from args k lt)) ∙ before
+      ap (λ c. with_tasks c (check_tasks site ts rest)) more ∙ with_more now (use_tasks site ts (use_of u)) (check_tasks site ts rest)
+      ∙ ap (λ us. with_tasks now (check_tasks site ts us)) (sym (values_next args k u lt is)) ∙ before
 
-  check_append : (us vs : List uses.CheckedUse) → check_tasks site ts (us ++ vs) ≡ check_tasks site ts us ++ check_tasks site ts vs
-  check_append [] vs = refl
-  check_append (u ∷ us) vs =
-      ap (λ l. use_tasks site ts u ++ l) (check_append us vs) ∙ sym (append_assoc (use_tasks site ts u) (check_tasks site ts us) (check_tasks site ts vs))
+  -- one turn of the loop that checks their strings, at a pointer and elsewhere
+  pub string_more : (d : Ty × Operand) (o : Option CheckedUse) (u : CheckedUse) → option_map use_of o ≡ (if type_eq (get_or args k d).0 ty.Ptr then Some (uses.Asked k) else None) → o ≡ Some u
+      → after ≡ with_tasks now (use_tasks site ts (use_of u)) → with_tasks now (check_tasks site ts (string_uses k (drop k args))) ≡ all
+      → with_tasks after (check_tasks site ts (string_uses (k + 1) (drop (k + 1) args))) ≡ all
+  string_more d o u is some more before =
+      let rest = string_uses (k + 1) (drop (k + 1) args) in
+      ap (λ c. with_tasks c (check_tasks site ts rest)) more ∙ with_more now (use_tasks site ts (use_of u)) (check_tasks site ts rest)
+      ∙ ap (λ us. with_tasks now (check_tasks site ts us)) (sym (strings_next args k d o lt is ∙ ap (λ x. after_use x rest) some)) ∙ before
 
-  -- two uses, and two lists of them
-  pub all_checked : (u v : uses.CheckedUse) (us vs : List uses.CheckedUse) (start first second third last : InsertedCode) → first ≡ with_tasks start (use_tasks site ts u)
-      → second ≡ with_tasks first (use_tasks site ts v) → third ≡ with_tasks second (check_tasks site ts us) → last ≡ with_tasks third (check_tasks site ts vs)
-      → last ≡ with_tasks start (check_tasks site ts (u ∷ v ∷ (us ++ vs)))
-  all_checked u v us vs start first second third last a b c d =
-      let both = check_tasks site ts (us ++ vs) in
-      d ∙ ap (λ x. with_tasks x (check_tasks site ts vs)) c ∙ with_more second (check_tasks site ts us) (check_tasks site ts vs)
-      ∙ ap (λ l. with_tasks second l) (sym (check_append us vs))
-      ∙ ap (λ x. with_tasks x both) b ∙ with_more first (use_tasks site ts v) both
-      ∙ ap (λ x. with_tasks x (use_tasks site ts v ++ both)) a ∙ with_more start (use_tasks site ts u) (use_tasks site ts v ++ both)
+  pub string_none : (d : Ty × Operand) (o : Option CheckedUse) → option_map use_of o ≡ (if type_eq (get_or args k d).0 ty.Ptr then Some (uses.Asked k) else None) → ((u : CheckedUse) → o ≡ Some u → ⊥)
+      → after ≡ now → with_tasks now (check_tasks site ts (string_uses k (drop k args))) ≡ all → with_tasks after (check_tasks site ts (string_uses (k + 1) (drop (k + 1) args))) ≡ all
+  string_none d o is none same before =
+      let rest = string_uses (k + 1) (drop (k + 1) args) in
+      ap (λ c. with_tasks c (check_tasks site ts rest)) same
+      ∙ ap (λ us. with_tasks now (check_tasks site ts us)) (sym (strings_next args k d o lt is ∙ ap (λ x. after_use x rest) (none_of o none))) ∙ before
 
--- the uses of a call of `printf`
-pub printf_uses : (func : Name → Option ℕ) (main : Bool) (o : Op) (ret : Option Ty) (x : Name) (args : List (Ty × Operand)) (called : Option External) (e : External) → o ≡ op.Call ret x args
-    → called_external func o ≡ called → called ≡ Some e → e ≡ Printf → uses.uses func main o ≡ external_uses Printf args
-printf_uses func main o ret x args called e is calls some named =
-    ap (uses.uses func main) is ∙ ap (λ c. callee_uses c args) (ap (called_external func) (sym is) ∙ calls ∙ some ∙ ap Some named)
+-- the uses of an operation, by the external that it calls
+uses_same : (func : Name → Option ℕ) (main : Bool) (o : Op) → op_uses main (called_external func o) o ≡ uses.uses func main o
+uses_same func main (op.Call ret callee args) = refl
+uses_same func main o = refl
+
+-- uses one after the other, and the words and the strings that `printf` prints
+pub all_checked : (site : ℕ) (ts : List Tracked) (func : Name → Option ℕ) (main : Bool) (external : Option External) (o : Op) (us vs ws further : List uses.CheckedUse) (start first second last : InsertedCode)
+    → called_external func o ≡ external → us ++ further ≡ op_uses main external o → further ≡ vs ++ ws → first ≡ with_tasks start (check_tasks site ts us)
+    → second ≡ with_tasks first (check_tasks site ts vs) → last ≡ with_tasks second (check_tasks site ts ws) → last ≡ with_tasks start (check_tasks site ts (uses.uses func main o))
+all_checked site ts func main external o us vs ws further start first second last calls are rest a b c =
+    c ∙ ap (λ x. with_tasks x (check_tasks site ts ws)) b ∙ with_more first (check_tasks site ts vs) (check_tasks site ts ws)
+    ∙ ap (λ l. with_tasks first l) (sym (check_append site ts vs ws))
+    ∙ ap (λ x. with_tasks x (check_tasks site ts (vs ++ ws))) a ∙ with_more start (check_tasks site ts us) (check_tasks site ts (vs ++ ws))
+    ∙ ap (λ l. with_tasks start l) (sym (check_append site ts us (vs ++ ws)))
+    ∙ ap (λ l. with_tasks start (check_tasks site ts l)) (ap (λ l. us ++ l) (sym rest) ∙ are ∙ ap (λ e. op_uses main e o) (sym calls) ∙ uses_same func main o)

@@ -3,4 +3,3 @@ pub mod Rules
 pub mod Pieces
 pub mod Plain
 pub mod Sizes
-pub mod Tables

@@ -1,16 +1,16 @@
 //! The code that checks uses.
 ghost use Rattle.std.specs.Prelude.{◌≡◌, ℕ, map, drop, OnOk, Option};
-ghost use Rattle.ms_ir.specs.{declared.syntax.Name.{Name as NameOf}, declared.calls.External.TheVariants.{Printf}};
-ghost use Rattle.ms_runs.specs.Uses.{uses, external_uses, value_uses, string_uses, Word};
+ghost use Rattle.ms_ir.specs.{declared.syntax.Name.{Name as NameOf}};
+ghost use Rattle.ms_runs.specs.Uses.{uses, value_uses, string_uses, Word};
 ghost use Rattle.ms_pass_tasks.specs.CheckTasks.{check_tasks, use_tasks};
 ghost use Rattle.ms_rules_builder.specs.{Called.{called_external}, Made.{with_tasks}, Steps.{tracked_of}};
-ghost use Rattle.ms_rules_tables.specs.Tables.{use_of};
+ghost use Rattle.ms_runs_uses.specs.Uses.{use_of};
 
 use crate::calls::{call, is_clean_at, width_at};
-use crate::uses::{CheckedUse, POINTER, VALUE, checked_uses};
 use ms_bits::NoMemory;
 use ms_ir::{External, Op, Operand, RuntimeFn, Ty};
 use ms_rules_builder::{Builder, StackOp, TrackedOperand};
+use ms_runs_uses::uses::{CheckedUse, checked_uses, printed_args, printed_string, printed_word};
 
 /// The site of an instruction, and its operands.
 #[derive(Clone, Copy)]
@@ -23,7 +23,7 @@ struct Checked<'a, 'm> {
 fn check_word(
     builder: &mut Builder,
     inst: &Checked<'_, '_>,
-    kind: u64,
+    kind: u32,
     place: usize,
 ) -> Result<(), NoMemory>
     ensures { OnOk result (builder.new ≡ with_tasks builder.old (use_tasks inst.now.site (map tracked_of inst.now.operands.now) (Word kind place))) }
@@ -42,7 +42,7 @@ fn check_word(
             StackOp::Widen(width),
             StackOp::Constant(width as u64),
             StackOp::Origin(place),
-            StackOp::Constant(kind),
+            StackOp::Constant(kind as u64),
             StackOp::Constant(place as u64),
             StackOp::Constant(inst.site as u64),
         ],
@@ -67,7 +67,7 @@ fn check_use(
             &[
                 StackOp::Word(start),
                 StackOp::Word(size),
-                StackOp::Constant(kind),
+                StackOp::Constant(kind as u64),
                 StackOp::Constant(inst.site as u64),
             ],
         ),
@@ -102,14 +102,14 @@ fn check_values(
     ensures { OnOk result (builder.new ≡ with_tasks builder.old (check_tasks inst.now.site (map tracked_of inst.now.operands.now) (value_uses 1 (drop 1 args.now)))) }
 {
     for place in 1..args.len() {
-        check_use(builder, inst, CheckedUse::Word(VALUE, place))?;
+        check_use(builder, inst, printed_word(place))?;
     }
     Ok(())
 }
 
-/// Checks the text at each argument of `printf` after the format that is written as a pointer, where the format asks for a
-/// text there.
-fn check_texts(
+/// Checks the string at each argument of `printf` after the format that is a pointer, where the format asks for a string
+/// there.
+fn check_strings(
     builder: &mut Builder,
     inst: &Checked<'_, '_>,
     args: &[(Ty, Operand)],
@@ -117,26 +117,11 @@ fn check_texts(
     ensures { OnOk result (builder.new ≡ with_tasks builder.old (check_tasks inst.now.site (map tracked_of inst.now.operands.now) (string_uses 1 (drop 1 args.now)))) }
 {
     for place in 1..args.len() {
-        if let Ty::Ptr = args[place].0 {
-            check_use(builder, inst, CheckedUse::Asked(place))?;
+        if let Some(string) = printed_string(&args[place].0, place) {
+            check_use(builder, inst, string)?;
         }
     }
     Ok(())
-}
-
-/// Checks the arguments of `printf`: the format and its text, the word of each further one, and the text at each pointer
-/// for which the format asks.
-fn check_printf(
-    builder: &mut Builder,
-    inst: &Checked<'_, '_>,
-    args: &[(Ty, Operand)],
-) -> Result<(), NoMemory>
-    ensures { OnOk result (builder.new ≡ with_tasks builder.old (check_tasks inst.now.site (map tracked_of inst.now.operands.now) (external_uses Printf args.now))) }
-{
-    check_use(builder, inst, CheckedUse::Word(POINTER, 0))?;
-    check_use(builder, inst, CheckedUse::Line(0))?;
-    check_values(builder, inst, args)?;
-    check_texts(builder, inst, args)
 }
 
 /// Checks the uses of an operation at a site; `main` says whether it stands in the function `main`, and `external` which
@@ -152,14 +137,10 @@ pub fn check(
     ensures { (func : NameOf → Option ℕ) → called_external func op.now ≡ external → OnOk result (builder.new ≡ with_tasks builder.old (check_tasks site (map tracked_of operands.now) (uses func main op.now))) }
 {
     let inst = Checked { site, operands };
-    if let Some(External::Printf) = external {
-        return match op {
-            Op::Call { args, .. } => check_printf(builder, &inst, args.as_slice()),
-            _ => Ok(()),
-        };
-    }
     for used in checked_uses(main, external, op) {
         check_use(builder, &inst, *used)?;
     }
-    Ok(())
+    let printed = printed_args(external, op);
+    check_values(builder, &inst, printed)?;
+    check_strings(builder, &inst, printed)
 }

@@ -12,7 +12,6 @@ mod origins;
 mod planes;
 mod results;
 mod rules;
-mod uses;
 
 pub use blind::count_blind;
 pub use checks::check;

@@ -337,7 +337,9 @@ pub fn binary_rule(op: BinOp) -> &'static [StackOp]
     }
 }
 
-/// The rule of the mask of a comparison.
+/// The rule of the mask of a comparison. What it inserts for a comparison with a number is run as one instruction, which
+/// `compared_at` of `ms_machine_shorts/src/compared.rt` finds by these very steps: where a rule changes here, nothing is found
+/// there, and `check` is slower.
 pub fn compare_rule(pred: Pred) -> &'static [StackOp]
     ensures rule { is_rule result.now ≡ true }
     ensures mask { (w : ℕ) (ts : List Tracked) → words (on_width w ts) result.now [] ≡ compare_expr pred w (bits_of (tracked_at 0 ts)) (mask_of (tracked_at 0 ts)) (bits_of (tracked_at 1 ts)) (mask_of (tracked_at 1 ts)) ∷ [] }

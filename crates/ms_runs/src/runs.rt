@@ -44,8 +44,7 @@ pub enum Origin {
 pub struct Report {
     /// The site of the instruction that uses them.
     pub site: u32,
-    /// The kind of use: 1 branch, 2 switch, 3 address, 4 divisor, 5 size, 6 pointer, 7 value, 8 exit,
-    /// 9 output, 10 string, 11 first bytes, 12 second bytes.
+    /// The kind of use: one of `ms_runs_uses::kinds`, or another number where inserted code of a module says so.
     pub kind: u32,
     /// Which operand or argument, counted from 0; of a range of bytes, the distance of the reported byte from
     /// its start.

@@ -61,23 +61,6 @@ arguments_within m valid u call fiber (f ∷ fs) stands waits = (map (λ x. x.0)
 pub arguments_of : (m : Module) → Valid m → (u : Setup) (call : HostCall) (r : Running) → Asking m u call r → (types : List Ty) × AreArguments call types
 arguments_of m valid u call r a = arguments_within m valid u call r.fiber a.within.frames a.stands.frames a.waits
 
--- what is known of the unmarked instruction with a site is known of the call of an external that a run waits for
-pub at_call : (P : List Ty → Type 0) (m m' : Module) → m' ≡ m → (u : Setup) (call : HostCall) (fs : List (Frame ℕ)) (e : External) → call.asked ≡ asked.External e → FirstWaits m u fs call
-    → ((place : Place) (inst : Inst) → IsPlaceOf m' call.site place → inst_at m' place ≡ Some inst → P (map (λ o. o.0) (operands inst.op))) → P (types_due m fs)
-at_call P m m' same u call [] e is waits known = absurd waits
-at_call P m m' same u call (f ∷ fs) e is waits known =
-    subst P (sym due)
-    (subst (λ (x : Module). (place : Place) (inst : Inst) → IsPlaceOf x call.site place → inst_at x place ≡ Some inst → P (map (λ o. o.0) (operands inst.op))) same known
-    (record { func = f.func; block = f.block; inst = f.place }) waits.inst
-    (record { unmarked = record { inst = waits.inst; here = waits.due; unmarked = unmarked call.asked is waits.asked }; site_is = sym waits.site }) waits.due)
-  where
-    due : types_due m (f ∷ fs) ≡ map (λ o. o.0) (operands waits.inst.op)
-    due = ap (λ (o : Option Inst). unwrap_or (option_map (λ i. map (λ o. o.0) (operands i.op)) o) []) waits.due
-
-    unmarked : (a : Asked) → a ≡ asked.External e → IsAsked m waits.inst.marked waits.callee a → waits.inst.marked ≡ false
-    unmarked (asked.External x) same h = h.0
-    unmarked (asked.Runtime f) same h = absurd (cc)
-
 type_at : (ts : List Ty) (k : ℕ) → k < length ts → slice_get ts k ≡ Some (get_or ts k Ptr)
 type_at [] k lt = absurd (omega (arith, lt))
 type_at (t ∷ ts) zero lt = refl

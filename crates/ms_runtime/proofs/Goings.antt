@@ -29,7 +29,6 @@ use Rattle.ms_host.specs.declared.calls.Asked.{Asked}
 use Rattle.ms_host.specs.declared.calls.Asked.TheVariants as asked
 use Rattle.ms_host.specs.declared.calls.Answer.TheVariants as answer
 use Rattle.ms_host.specs.declared.calls.HostCall.{HostCall}
-use Rattle.ms_printf.specs.CallSites.{AreCallSites}
 use Rattle.ms_machine_frames.specs.Owning.{KeepsOwn}
 use Rattle.ms_machine_frames.specs.Standing.{FramesStand, frames_of, IsState}
 use Rattle.ms_machine_steps.specs.Waiting.{IsAsked, Waits, FirstWaits, answered}
@@ -137,7 +136,7 @@ module _ (m : Module) (u : Setup) where
   told_over : (e : End) (last : World) (beside : Beside) (r : Running) → plain m u ≡ result e last → Shows r.world beside last → IsBeside r.depot r.told beside → r.told.blind ≤ 2 ^ 62 → Over m u e r
   told_over e last beside r is shows told few = answers_so (plain m u) e last beside r is shows told few
 
-  module _ (r : Running) (g : Going m u r) (r' : Running) (depot : r'.depot ≡ r.depot) (told : r'.told ≡ r.told) (printf : r'.printf ≡ r.printf) where
+  module _ (r : Running) (g : Going m u r) (r' : Running) (depot : r'.depot ≡ r.depot) (told : r'.told ≡ r.told) where
     still_beside : IsBeside r'.depot r'.told g.beside
     still_beside = subst (λ d. IsBeside d r'.told g.beside) (sym depot) (subst (λ (t : RunResult). IsBeside r.depot t g.beside) (sym told) g.told)
 
@@ -196,7 +195,6 @@ module _ (m : Module) (u : Setup) where
                 few = subst (λ (t : RunResult). length t.reports < u.reports) (sym told) g.keeping.few;
                 room = omega (arith, fewer m u g.beside g.state r r' g.keeping.room call h made, made, g.keeping.room);
                 blind = let same : r'.told.blind ≡ r.told.blind = ap (λ (t : RunResult). t.blind) told in omega (arith, same, not_further m u g.beside g.state r r' g.keeping.room call h made, g.keeping.blind);
-                printf = subst (λ t. AreCallSites m t.calls) (sym printf) g.keeping.printf;
               };
               slack = slack_is m u g.beside g.state r r' g.keeping.room call h made;
             };
@@ -241,10 +239,10 @@ module _ (m : Module) (u : Setup) where
 
     -- or the run goes on after it
     pub asked_goes_on : (value : Option ℕ) → AnsweredFor m u call a.within (answer.Resumed value) r r' → (r'' : Running)
-        → r''.world ≡ r'.world → r''.depot ≡ r'.depot → r''.told ≡ r'.told → r''.budget ≡ r'.budget → r''.printf ≡ r'.printf → r''.fiber.frame.at ≡ r'.fiber.frame.at + 1 → KeepsOwn r'.fiber r''.fiber
+        → r''.world ≡ r'.world → r''.depot ≡ r'.depot → r''.told ≡ r'.told → r''.budget ≡ r'.budget → r''.fiber.frame.at ≡ r'.fiber.frame.at + 1 → KeepsOwn r'.fiber r''.fiber
         → ((frame : Frame ℕ) (below : List (Frame ℕ)) → AllStandFor m (frames_of r'.fiber) (frame ∷ below) → Waits m u frame call → AllStandFor m (frames_of r''.fiber) (answered m value frame ∷ below))
         → Going m u r'' × (ahead m r'' < ahead m r)
-    asked_goes_on value x r'' world depot told budget printf at own frames = (
+    asked_goes_on value x r'' world depot told budget at own frames = (
       record {
         calm = b.calm;
         lone = x.fibers ∙ a.stands.shows.fibers ∙ b.lone;
@@ -257,7 +255,6 @@ module _ (m : Module) (u : Setup) where
           few = subst (λ (t : RunResult). length t.reports < u.reports) (sym told) x.few;
           room = let made : r''.world.made ≡ r'.world.made = ap (λ (w : WorldState). w.made) world in let left : r''.budget.left ≡ r'.budget.left = ap (λ b. b.left) budget in omega (arith, made, left, x.room);
           blind = let same : r''.told.blind ≡ r'.told.blind = ap (λ (t : RunResult). t.blind) told in omega (arith, same, x.blind, less, a.keeping.blind);
-          printf = subst (λ t. AreCallSites m t.calls) (sym (printf ∙ x.printf)) a.keeping.printf;
         };
         same = by_asked call.asked b.counted on.goes;
       },

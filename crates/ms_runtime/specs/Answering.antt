@@ -31,4 +31,3 @@ pub record AnsweredFor (m : Module) (u : Setup) (call : HostCall) (within : Plai
   pub keeps : Keeps before.world after.world
   pub fiber : after.fiber ≡ before.fiber
   pub budget : after.budget ≡ before.budget
-  pub printf : after.printf ≡ before.printf

@@ -14,7 +14,6 @@ use Rattle.ms_host.specs.Shows.{Shows}
 use Rattle.ms_host.specs.declared.calls.Asked.{Asked}
 use Rattle.ms_host.specs.declared.calls.Asked.TheVariants as asked
 use Rattle.ms_host.specs.declared.calls.HostCall.{HostCall}
-use Rattle.ms_printf.specs.CallSites.{AreCallSites}
 use Rattle.ms_machine_steps.specs.Waiting.{FirstWaits}
 use Rattle.ms_machine_steps.specs.Advances.{step_of}
 use Rattle.ms_machine.specs.Running.{IsRunning}
@@ -31,7 +30,6 @@ pub record Keeping (m : Module) (u : Setup) (r : Running) : Type 0 where
   pub few : length r.told.reports < u.reports
   pub room : r.world.made + 2 ^ 27 * r.budget.left ≤ 2 ^ 58
   pub blind : r.told.blind + ahead m r ≤ 2 ^ 62
-  pub printf : AreCallSites m r.printf.calls
 
 -- a run stands at its start
 pub record Begins (m : Module) (u : Setup) (r : Running) : Type 0 where

@@ -14,10 +14,8 @@ use ms_depot::Depot;
 use ms_host::{Answer, World};
 use ms_printf::asks_string;
 use ms_runs::RunResult;
+use ms_runs_uses::kinds::STRING;
 use std::alloc::Global;
-
-/// The kind of a report on a string.
-const STRING: u32 = 10;
 
 /// `__msan_check_memory`: reports the first poisoned byte of a range that is good.
 pub(crate) fn check_memory(

@@ -14,9 +14,9 @@ use ms_check::CheckedModule;
 use ms_depot::Depot;
 use ms_host::{Answer, Asked, HostCall, World, answer};
 use ms_ir::{External, roots};
-use ms_machine::{advance, resume, start};
+use ms_machine::{advance, printed_types, resume, start};
 use ms_machine_frames::{Budget, Fiber, Pause};
-use ms_printf::CallSites;
+use ms_printf::answer_typed;
 use ms_runs::{End, RunResult, Setup};
 use std::alloc::Global;
 
@@ -29,8 +29,6 @@ pub struct Running {
     /// Its reports and its number of blind uses so far.
     pub told: RunResult,
     pub budget: Budget,
-    /// The calls of `printf` in its module.
-    pub printf: CallSites,
 }
 
 /// The end of a run without threads in which a function other than `main` returns, and nothing stands below it.
@@ -58,8 +56,8 @@ impl Running {
         m.law_valid();
         match call.asked {
             Asked::External(External::Printf) => {
-                self.printf
-                    .answer_printf(alloc, m.module(), call, &mut self.world)
+                let types = printed_types(m, &self.fiber);
+                answer_typed(alloc, types, call, &mut self.world)
             }
             Asked::External(_) => answer(call, &mut self.world),
             Asked::Runtime(_) => serve(
@@ -137,7 +135,6 @@ pub fn start_run(alloc: Global, m: &CheckedModule, setup: &Setup) -> Result<Runn
     m.law_valid();
     let code = m.module();
     let count = roots(alloc, code)?.as_slice().len();
-    let printf = CallSites::of(alloc, code)?;
     let (fiber, world) = start(alloc, m, setup)?;
     Ok(Running {
         fiber,
@@ -150,14 +147,12 @@ pub fn start_run(alloc: Global, m: &CheckedModule, setup: &Setup) -> Result<Runn
             blind: 0,
         },
         budget: Budget { left: setup.steps },
-        printf,
     })
 }
 
 /// Runs a checked module without thread calls. Ok is what its plain run returns.
 ///
-/// A step takes as long in a large module as in a small one; a call of `printf` adds a binary search among the calls of
-/// `printf` in the module, which are listed once, at the start.
+/// A step takes as long in a large module as in a small one.
 pub fn run(alloc: Global, m: &CheckedModule, setup: &Setup) -> Result<RunResult, NoMemory>
     requires limits { WithinLimits setup.now }
     requires alone { is_threaded m.now ≡ false }

@@ -25,7 +25,6 @@ use Rattle.ms_host.specs.declared.calls.Answer.TheVariants as answer
 use Rattle.ms_host.specs.declared.calls.HostCall.{HostCall}
 use Rattle.ms_host.specs.State.{Keeps}
 use Rattle.ms_host.specs.Answers.{Answered, asked_effect}
-use Rattle.ms_printf.specs.CallSites.{AreCallSites}
 use Rattle.ms_machine_frames.specs.declared.fibers.Fiber.{Fiber}
 use Rattle.ms_machine_frames.specs.Owning.{KeepsOwn}
 use Rattle.ms_machine_frames.specs.Standing.{frames_of, IsState}
@@ -106,7 +105,6 @@ module _ (m : Module) (u : Setup) (schedule : List ℕ) where
       blind = let e = ahead_is in omega (arith, e, f.blind, a.keeping.blind);
       roots = f.roots ∙ a.keeping.roots;
       room = f.room;
-      printf = subst (λ p. AreCallSites m p.calls) (sym f.printf) a.keeping.printf;
       shares = λ v e. subst (λ g. Shares g f.beside.fibers) (sym guests) (subst (λ (y : Fibers). Shares t.table y) (sym (f.fibers ∙ a.stands.shows.fibers)) a.shares);
       standings = subst (λ g. Standings m u schedule g a.others) (sym guests) a.standings;
       goes = λ next r. ap (λ n. ends_from m u schedule n (goes_at next a.others)) left_is ∙ goes_by call.asked other a.counted next r;
@@ -122,7 +120,7 @@ module _ (m : Module) (u : Setup) (schedule : List ℕ) where
   module _ (t t' : ThreadedRun) (call : HostCall) (p : Performing m u schedule (standing_of t.running.fiber call) t) (x : Answer) (w : WorldState) (world : t'.running.world ≡ w) (d : Did (asked_effect (setting_of m u) (types_due m p.frames) call p.shared.world) x p.beside t'.table w)
       (keeps : Keeps t.running.world w) (made : w.made ≡ t.running.world.made) (kept : KeepsStands (asked_starts call.asked call.args) t.table t'.table)
       (begin : (k f : ℕ) → slice_get (asked_starts call.asked call.args) k ≡ Some f → IsStart m f)
-      (fiber : t'.running.fiber ≡ t.running.fiber) (depot : t'.running.depot ≡ t.running.depot) (told : t'.running.told ≡ t.running.told) (budget : t'.running.budget ≡ t.running.budget) (printf : t'.running.printf ≡ t.running.printf) where
+      (fiber : t'.running.fiber ≡ t.running.fiber) (depot : t'.running.depot ≡ t.running.depot) (told : t'.running.told ≡ t.running.told) (budget : t'.running.budget ≡ t.running.budget) where
     -- the state in which it does the call
     abbrev within : PlainState
     within = record { frames = p.frames; slots = p.shared.slots; world = p.shared.world }
@@ -188,7 +186,6 @@ module _ (m : Module) (u : Setup) (schedule : List ℕ) where
       roots = ap (λ d'. d'.roots) depot ∙ p.between.roots;
       room = let same : t'.running.world.made ≡ t.running.world.made = ap (λ (w' : WorldState). w'.made) world ∙ made in let left : t'.running.budget.left ≡ t.running.budget.left = ap (λ b. b.left) budget in
           omega (arith, same, left, p.between.room);
-      printf = subst (λ q. AreCallSites m q.calls) (sym printf) p.between.printf;
       shares = shares_by x d.1.1;
       standings = standings_kept m u schedule (asked_starts call.asked call.args) t.table t'.table p.others p.between.stands kept begin;
       goes = λ next r. ap (λ n. ends_from m u schedule n (goes_at next p.others)) left_there ∙ goes_call call.asked p.stood.call next r;
@@ -218,7 +215,7 @@ module _ (m : Module) (u : Setup) (schedule : List ℕ) where
 
     -- or it goes on
     module _ (value : Option ℕ) (is : a ≡ answer.Resumed value) (t' : ThreadedRun) (world : t'.running.world ≡ t.running.world) (depot : t'.running.depot ≡ t.running.depot) (told : t'.running.told ≡ t.running.told)
-        (budget : t'.running.budget ≡ t.running.budget) (printf : t'.running.printf ≡ t.running.printf) (guests : t'.table ≡ t.table) (at : t'.running.fiber.frame.at ≡ t.running.fiber.frame.at + 1) (own : KeepsOwn t.running.fiber t'.running.fiber)
+        (budget : t'.running.budget ≡ t.running.budget) (guests : t'.table ≡ t.table) (at : t'.running.fiber.frame.at ≡ t.running.fiber.frame.at + 1) (own : KeepsOwn t.running.fiber t'.running.fiber)
         (frames : (frame : Frame ℕ) (below : List (Frame ℕ)) → AllStandFor m (frames_of t.running.fiber) (frame ∷ below) → Waits m u frame call → AllStandFor m (frames_of t'.running.fiber) (answered m value frame ∷ below)) where
       first : Frame ℕ
       first = waiter m p u b.old t.running.fiber b.before b.within stands call b.waits
@@ -257,7 +254,6 @@ module _ (m : Module) (u : Setup) (schedule : List ℕ) where
           few = subst (λ r. length r.reports < u.reports) (sym told) room_on;
           room = let made : t'.running.world.made ≡ t.running.world.made = ap (λ (w : WorldState). w.made) world in let left = left_on in omega (arith, made, left, b.room);
           blind = let same : t'.running.told.blind ≡ t.running.told.blind = ap (λ r. r.blind) told in let less = after_nearer in omega (arith, same, less, b.blind);
-          printf = subst (λ q. AreCallSites m q.calls) (sym printf) b.printf;
         };
         shares = subst (λ g. Shares g b.beside.fibers) (sym guests) (b.shares value is);
         standings = subst (λ g. Standings m u schedule g b.others) (sym guests) b.standings;

@@ -29,7 +29,6 @@ use Rattle.ms_machine_frames.specs.declared.fibers.Fiber.{Fiber}
 use Rattle.ms_machine_frames.specs.Owning.{is_spawned}
 use Rattle.ms_machine.specs.Running.{AllStandFor}
 use Rattle.ms_machine.specs.Spawning.{SpawnedFor}
-use Rattle.ms_printf.specs.CallSites.{AreCallSites}
 use Rattle.ms_runtime.specs.Served.{IsBeside}
 use Rattle.ms_runtime.specs.Going.{ahead, Begins}
 use Rattle.ms_threads.specs.declared.thread_table.Thread.{Thread as Guest}
@@ -62,7 +61,7 @@ module _ (m : Module) (u : Setup) (schedule : List ℕ) where
       (slice_get-map (λ (x : Guest). x.func) t.table.threads.items (t.table.turn - 1) ∙ ap (option_map (λ (x : Guest). x.func)) (begin_there t b).1)
 
   module _ (formed : Formed m) (valid : Valid m) (t t' : ThreadedRun) (b : Beginning m u schedule t) (few : b.guest.argument < 2 ^ 64) (fiber : Fiber) (spawned : SpawnedFor m b.guest.func b.guest.argument fiber) (calls : SameCalls fiber t'.running.fiber)
-      (guests : t'.table ≡ t.table) (depot : t'.running.depot ≡ t.running.depot) (told : t'.running.told ≡ t.running.told) (budget : t'.running.budget ≡ t.running.budget) (printf : t'.running.printf ≡ t.running.printf)
+      (guests : t'.table ≡ t.table) (depot : t'.running.depot ≡ t.running.depot) (told : t'.running.told ≡ t.running.told) (budget : t'.running.budget ≡ t.running.budget)
       (slots : (cells : ℕ → ℕ) → ShowsSlots t.running.world.slots cells → ShowsSlots t'.running.world.slots (first_clean cells)) (shows : (beside : Beside) (world : World) → Shows t.running.world beside world → Shows t'.running.world beside world)
       (given : KeepsGiven t.running.world t'.running.world) (made : t'.running.world.made ≡ t.running.world.made) where
     abbrev state : PlainState
@@ -112,7 +111,6 @@ module _ (m : Module) (u : Setup) (schedule : List ℕ) where
             few = subst (λ r. length r.reports < u.reports) (sym told) b.between.few;
             room = let left = left_is in omega (arith, made, left, b.between.room);
             blind = let same : t'.running.told.blind ≡ t.running.told.blind = ap (λ r. r.blind) told in let far = begun_far in omega (arith, same, far, b.blind);
-            printf = subst (λ q. AreCallSites m q.calls) (sym printf) b.between.printf;
           };
           shares = subst (λ g. Shares g b.beside.fibers) (sym guests) b.between.shares;
           standings = subst (λ g. Standings m u schedule g b.others) (sym guests) b.between.stands;

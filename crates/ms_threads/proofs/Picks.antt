@@ -23,7 +23,6 @@ use Rattle.ms_host.specs.Shows.{Shows}
 use Rattle.ms_host.specs.declared.calls.Asked.{Asked}
 use Rattle.ms_host.specs.declared.calls.Asked.TheVariants as asked
 use Rattle.ms_host.specs.declared.calls.HostCall.{HostCall}
-use Rattle.ms_printf.specs.CallSites.{AreCallSites}
 use Rattle.ms_machine_frames.specs.declared.fibers.Fiber.{Fiber}
 use Rattle.ms_machine_steps.specs.Waiting.{IsAsked, FirstWaits}
 use Rattle.ms_runtime.specs.declared.runs.Running.{Running}
@@ -56,8 +55,8 @@ module _ (m : Module) (u : Setup) (schedule : List ℕ) where
   rest_of_call (asked.Runtime f) is rest left h = absurd is
 
   pub stood_picks : (t t' : ThreadedRun) (call : HostCall) (a : Asking m u schedule call t) → IsThreadCall call.asked → Stands (Some (standing_of t.running.fiber call)) t.table t'.table
-      → t'.running.world ≡ t.running.world → t'.running.depot ≡ t.running.depot → t'.running.told ≡ t.running.told → t'.running.budget ≡ t.running.budget → t'.running.printf ≡ t.running.printf → Picking m u schedule t'
-  stood_picks t t' call a is st world depot told budget printf = record {
+      → t'.running.world ≡ t.running.world → t'.running.depot ≡ t.running.depot → t'.running.told ≡ t.running.told → t'.running.budget ≡ t.running.budget → Picking m u schedule t'
+  stood_picks t t' call a is st world depot told budget = record {
     beside = a.beside;
     shared = shared_in a.within;
     others = record a.others { stands = standing t.table.turn (Some a.within.frames) a.others.stands };
@@ -75,7 +74,6 @@ module _ (m : Module) (u : Setup) (schedule : List ℕ) where
       few = subst (λ r. length r.reports < u.reports) (sym told) a.keeping.few;
       room = let made : t'.running.world.made ≡ t.running.world.made = ap (λ (w : WorldState). w.made) world in let left : t'.running.budget.left ≡ t.running.budget.left = ap (λ b. b.left) budget in
           omega (arith, made, left, room_of call.asked is t.running.world.made t.running.budget.left a.slack);
-      printf = subst (λ p. AreCallSites m p.calls) (sym printf) a.keeping.printf;
     };
     blind = let b : t'.running.told.blind ≡ t.running.told.blind = ap (λ r. r.blind) told in let most : most_ahead m t'.running ≡ most_ahead m t.running = ap (λ b. b.left * (over_funcs (λ inst. 1) m.funcs + 1) + over_funcs (λ inst. 1) m.funcs) budget in
         omega (arith, b, most, blind_of call.asked is t.running a.blind);
@@ -247,7 +245,6 @@ module _ (m : Module) (u : Setup) (schedule : List ℕ) where
           roots = ap (λ (r : Running). r.depot.roots) running ∙ p.between.roots;
           few = subst (λ (r : Running). length r.told.reports < u.reports) (sym running) p.between.few;
           room = subst (λ (r : Running). r.world.made + 2 ^ 27 * r.budget.left ≤ 2 ^ 58) (sym running) p.between.room;
-          printf = subst (λ (r : Running). AreCallSites m r.printf.calls) (sym running) p.between.printf;
         }
 
         blind' : t'.running.told.blind + most_ahead m t'.running ≤ 2 ^ 62

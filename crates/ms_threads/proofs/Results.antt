@@ -105,7 +105,6 @@ module _ (m : Module) (u : Setup) (schedule : List ℕ) (t : ThreadedRun) (call 
     keeps = record { input = refl; fill = refl; slots = refl };
     fiber = refl;
     budget = refl;
-    printf = refl;
   }
 
   -- shadow and origins changed
@@ -124,7 +123,6 @@ module _ (m : Module) (u : Setup) (schedule : List ℕ) (t : ThreadedRun) (call 
     keeps = keeps;
     fiber = refl;
     budget = refl;
-    printf = refl;
   }
 
 -- ---- the thread

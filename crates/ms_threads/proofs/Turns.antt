@@ -22,7 +22,6 @@ use Rattle.ms_host.specs.SlotBytes.{ShowsSlots}
 use Rattle.ms_host.specs.declared.calls.Asked.{Asked}
 use Rattle.ms_host.specs.declared.calls.Asked.TheVariants as asked
 use Rattle.ms_host.specs.declared.calls.HostCall.{HostCall}
-use Rattle.ms_printf.specs.CallSites.{AreCallSites}
 use Rattle.ms_machine_frames.specs.declared.fibers.Fiber.{Fiber}
 use Rattle.ms_machine_steps.specs.Advances.{Counts, IsSpent, HasEnded as HasStopped, HasAsked, HasFinished}
 use Rattle.ms_machine.specs.Running.{IsRunning}
@@ -75,7 +74,7 @@ module _ (m : Module) (u : Setup) (schedule : List ℕ) where
       → Answers (plain_threads m u schedule) e t.running
   ends_so e last beside t is shows told few = answers_so (plain_threads m u schedule) e last beside t.running (ap (λ (at : End × World). result at.0 at.1) (sym is)) shows told few
 
-  module _ (t : ThreadedRun) (g : Going m u schedule t) (t' : ThreadedRun) (depot : t'.running.depot ≡ t.running.depot) (told : t'.running.told ≡ t.running.told) (printf : t'.running.printf ≡ t.running.printf) where
+  module _ (t : ThreadedRun) (g : Going m u schedule t) (t' : ThreadedRun) (depot : t'.running.depot ≡ t.running.depot) (told : t'.running.told ≡ t.running.told) where
     still_beside : IsBeside t'.running.depot t'.running.told g.beside
     still_beside = subst (λ d. IsBeside d t'.running.told g.beside) (sym depot) (subst (λ r. IsBeside t.running.depot r g.beside) (sym told) g.told)
 
@@ -87,9 +86,6 @@ module _ (m : Module) (u : Setup) (schedule : List ℕ) where
 
     few_reports : length t'.running.told.reports < u.reports
     few_reports = subst (λ r. length r.reports < u.reports) (sym told) g.keeping.few
-
-    still_printf : AreCallSites m t'.running.printf.calls
-    still_printf = subst (λ p. AreCallSites m p.calls) (sym printf) g.keeping.printf
 
     -- no step is left
     pub turn_spent : IsSpent (IsRunning m u g.beside) m u g.state t.running.budget.left t'.running.fiber t'.running.world t'.running.budget.left → Answers (plain_threads m u schedule) «end».Spent t'.running
@@ -138,7 +134,6 @@ module _ (m : Module) (u : Setup) (schedule : List ℕ) where
               few = few_reports;
               room = let le = fewer_left in omega (arith, le, made, g.keeping.room);
               blind = let e = same_blind in let le = nearer in omega (arith, e, le, g.keeping.blind);
-              printf = still_printf;
             };
             slack = slack_is m u g.beside g.state t.running t'.running g.keeping.room call h made;
             blind = let e = same_blind in let le = asked_far in omega (arith, e, le, g.keeping.blind);
@@ -220,7 +215,6 @@ module _ (m : Module) (u : Setup) (schedule : List ℕ) where
           roots = ap (λ r. r.depot.roots) running ∙ ap (λ d. d.roots) depot ∙ g.keeping.roots;
           few = subst (λ r. length r.told.reports < u.reports) (sym running) few_reports;
           room = subst (λ r. r.world.made + 2 ^ 27 * r.budget.left ≤ 2 ^ 58) (sym running) (let e = left_is in omega (arith, e, made, g.keeping.room));
-          printf = subst (λ r. AreCallSites m r.printf.calls) (sym running) still_printf;
         };
         blind = subst (λ r. r.told.blind + most_ahead m r ≤ 2 ^ 62) (sym running) (let e = same_blind in let le = far' in omega (arith, e, le, g.keeping.blind));
         same =

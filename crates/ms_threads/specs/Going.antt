@@ -21,7 +21,6 @@ use Rattle.ms_host.specs.declared.calls.Asked.TheVariants as asked
 use Rattle.ms_host.specs.declared.calls.Answer.{Answer}
 use Rattle.ms_host.specs.declared.calls.Answer.TheVariants as answer
 use Rattle.ms_host.specs.declared.calls.HostCall.{HostCall}
-use Rattle.ms_printf.specs.CallSites.{AreCallSites}
 use Rattle.ms_machine_frames.specs.Owning.{blocks_of}
 use Rattle.ms_machine_steps.specs.Waiting.{FirstWaits, types_due}
 use Rattle.ms_machine_steps.specs.Advances.{Resumes, Stops}
@@ -100,7 +99,6 @@ pub record Between (m : Module) (u : Setup) (schedule : List ℕ) (t : ThreadedR
   pub roots : t.running.depot.roots ≡ count_roots m
   pub few : length t.running.told.reports < u.reports
   pub room : t.running.world.made + 2 ^ 27 * t.running.budget.left ≤ 2 ^ 58
-  pub printf : AreCallSites m t.running.printf.calls
 
 -- how far it is at most to the end of a run, wherever the thread stands that goes on
 abbrev pub most_ahead : Module → Running → ℕ
@@ -157,7 +155,6 @@ pub record After (m : Module) (u : Setup) (schedule : List ℕ) (call : HostCall
   pub blind : t.running.told.blind + ahead m t.running ≤ 2 ^ 62 + 1
   pub roots : t.running.depot.roots ≡ count_roots m
   pub room : t.running.world.made + 2 ^ 27 * t.running.budget.left ≤ 2 ^ 58
-  pub printf : AreCallSites m t.running.printf.calls
   pub shares : (v : Option ℕ) → a ≡ answer.Resumed v → Shares t.table beside.fibers
   pub standings : Standings m u schedule t.table others
   pub goes : (next : PlainState) → Resumes m u call.asked within next → ends_from m u schedule t.running.budget.left (goes_at next others) ≡ last_of m u schedule

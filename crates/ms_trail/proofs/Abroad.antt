@@ -1,5 +1,6 @@
 -- A follower after a call of an external.
 use Rattle.std.proofs.Common.{◌≡◌, ℕ, List, [], ◌∷◌, map, Option, Some, None, unwrap_or, option_map, refl, sym, ap, ◌∙◌, subst}
+use Rattle.ms_ir.specs.declared.syntax.Ty.{Ty}
 use Rattle.ms_ir.specs.declared.syntax.Op.{Op}
 use Rattle.ms_ir.specs.declared.syntax.Op.TheVariants as op
 use Rattle.ms_ir.specs.declared.syntax.Inst.{Inst}
@@ -61,7 +62,7 @@ gave (Leaves w) None after e = absurd (cc)
 gave (Ends x w) (Some n) after e = absurd (cc)
 gave (Ends x w) None after e = absurd (cc)
 
-module _ (m : Module) (u : Setup) (t : Traced) (old : TracedRun) (o : IsFollowed m u t old) (k : Code) (passes : Passes m u t) (due : IsDue m old.fiber old.world k) (e : External) (args : List WordSource) (to : Option ℕ) (is_call : k ≡ code.External e args to) where
+module _ (m : Module) (u : Setup) (t : Traced) (old : TracedRun) (o : IsFollowed m u t old) (k : Code) (passes : Passes m u t) (due : IsDue m old.fiber old.world k) (e : External) (args : List WordSource) (to : Option ℕ) (is_call : (types : List Ty) × (k ≡ code.External e args types to)) where
   abbrev d : DueNow m u t old o k
   d = due_now m u t old o k passes due
 
@@ -83,8 +84,8 @@ module _ (m : Module) (u : Setup) (t : Traced) (old : TracedRun) (o : IsFollowed
   abbrev ps : List Poisoned
   ps = read_all (read_poisoned s fr.values) (operands i.op) h.root
 
-  pub enc : Encodes at (code.External e args to) i
-  enc = subst (λ (x : Code). Encodes at x i) is_call d.coded.encodes
+  pub enc : Encodes at (code.External e args is_call.0 to) i
+  enc = subst (λ (x : Code). Encodes at x i) is_call.1 d.coded.encodes
 
   pub is : i.op ≡ op.Call enc.0 enc.1 enc.2
   is = enc.3.0

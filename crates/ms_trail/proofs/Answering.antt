@@ -248,7 +248,7 @@ outside_moves s m event i from to fr below w next after ret callee args e is non
 -- ---- a call of an external
 
 module _ (m : Module) (u : Setup) (t : Traced) (old : TracedRun) (o : IsFollowed m u t old) (k : Code) (passes : Passes m u t) (due : IsDue m old.fiber old.world k) (valid : Valid m) (e : External) (args : List Read_from) (to : Option ℕ)
-    (is_call : k ≡ code.External e args to) where
+    (is_call : (types : List Ty) × (k ≡ code.External e args types to)) where
   abbrev d : DueNow m u t old o k
   d = due_now m u t old o k passes due
 
@@ -544,7 +544,7 @@ module _ (m : Module) (u : Setup) (t : Traced) (old : TracedRun) (o : IsFollowed
 
         pub outside_on : Went m u t true new
         outside_on =
-            onward m u t old o new c (record next { world = shaded }) (gone m u t old o k passes due next took).1.0 (record { whole = keeps.whole; tables = keeps.tables; printf = keeps.printf; fill = keeps.fill })
+            onward m u t old o new c (record next { world = shaded }) (gone m u t old o k passes due next took).1.0 (record { whole = keeps.whole; tables = keeps.tables; fill = keeps.fill })
             (shaded_running m u new.fiber w new.world next shaded running done.0.1.0 slots (done.0.1.2 running.sound.world)) (gone m u t old o k passes due next took).1.1 (done.0.1.1 ∙ light_left) t.numbers
             (same_numbers (length c.frames) t.numbers depth) (subst (λ (ns : List ℕ). HaveShades m ns c.frames (new.shade ∷ reverse new.below.items)) (sym (its m u t old o k passes due next took).is) all) (keeps.made ∙ o.made) event
             (subst (λ (ms : List Move). IsLog new.log ms) log_is done.1)

@@ -1,18 +1,11 @@
 -- What is found to be used is what the run is reported at.
-use Rattle.std.proofs.Common.{◌≡◌, ◌<◌, ◌+◌, ◌-◌, ◌^◌, ℕ, List, [], ◌∷◌, map, drop, reverse, length, if◌then◌else◌, Option, Some, None, refl, sym, ap, ◌∙◌, subst, arith}
+use Rattle.std.proofs.Common.{◌≡◌, ◌<◌, ◌+◌, ◌^◌, ℕ, true, false, List, [], ◌∷◌, map, reverse, length, Option, Some, None, refl, sym, ap, ◌∙◌, subst, arith}
 use Rattle.std.specs.Prelude.{slice_get}
 use Rattle.std.proofs.lemmas.Option.{same_Some, slice_get_within}
-use Rattle.ms_ir.specs.declared.calls.External.{External}
-use Rattle.ms_ir.specs.declared.calls.External.TheVariants.{Printf}
-use Rattle.ms_ir.specs.declared.syntax.Ty.{Ty}
-use Rattle.ms_ir.specs.declared.syntax.Ty as ty
-use Rattle.ms_ir.specs.declared.syntax.Operand.{Operand}
 use Rattle.ms_ir.specs.declared.syntax.Func.{Func}
 use Rattle.ms_ir.specs.declared.syntax.Op.{Op}
-use Rattle.ms_ir.specs.declared.syntax.Op.TheVariants as op
 use Rattle.ms_ir.specs.declared.syntax.Inst.{Inst}
 use Rattle.ms_ir.specs.declared.syntax.Module.{Module}
-use Rattle.ms_ir.specs.Equal.{type_eq}
 use Rattle.ms_ir.specs.Instructions.{operands, count_undefs, func_index, root_at}
 use Rattle.ms_ir.specs.Locals.{locals}
 use Rattle.ms_runs.specs.declared.runs.End.TheVariants as «end»
@@ -21,7 +14,8 @@ use Rattle.ms_runs.specs.World.{World, Setting, Here, Does, Ends}
 use Rattle.ms_runs.specs.Control.{Frame, here, read_all}
 use Rattle.ms_runs.specs.Plain.{setting_of}
 use Rattle.ms_runs.specs.Poisoned.{Poisoned}
-use Rattle.ms_runs.specs.Uses.{uses, check_uses}
+use Rattle.ms_runs.specs.Uses.{CheckedUse, Word, Bytes, Line, Asked, uses, check_uses}
+use Rattle.ms_runs_uses.specs.Uses.{op_uses}
 use Rattle.ms_runs.specs.Shadow.{read_poisoned}
 use Rattle.ms_runs_good_laws.proofs.Frames.{unmarked_at}
 use Rattle.ms_machine_compile.proofs.Widths.{wider}
@@ -44,11 +38,9 @@ use Rattle.ms_trail.specs.declared.traced_run.TracedRun.{TracedRun}
 use Rattle.ms_trail_uses.specs.declared.tables.InstRow.{InstRow}
 use Rattle.ms_trail_uses.specs.declared.used.Used.{Used}
 use Rattle.ms_trail_uses.specs.declared.used.Used.TheVariants as read
-use Rattle.ms_trail_uses.specs.declared.used.Shape.{Shape}
-use Rattle.ms_trail_uses.specs.declared.used.Shape.TheVariants as shape
 use Rattle.ms_trail_uses.specs.Due.{HasCode, IsDue}
 use Rattle.ms_trail_uses.specs.Tabled.{HasRow}
-use Rattle.ms_trail_uses.specs.Used.{first_read, source_of, code_read, IsUsing, Checked, asked_read, strings_read, or_used, memory_read, plain_read, shape_of, printed_read, printf_read, words_read, seen}
+use Rattle.ms_trail_uses.specs.Used.{use_read, or_used, first_read, source_of, seen, code_read, IsUsing, Checked}
 use Rattle.ms_trail.specs.Following.{InstPasses, FramesPass, IsFollowed}
 use Rattle.ms_trail.specs.Turning.{due_sources, inst_sources, ReadsAt, FoundAt}
 use Rattle.ms_trail_uses.proofs.CodeUses.{code_reads}
@@ -59,41 +51,39 @@ use Rattle.ms_trail.proofs.Readying.{root_within}
 
 -- ---- uses don't look at where poisoned bits come from, nor at reports
 
-strings_light : (w : World) (ps : List Poisoned) (k : ℕ) (os : List (Ty × Operand)) → strings_read (light w) ps k os ≡ strings_read w ps k os
-strings_light w ps k [] = refl
-strings_light w ps k (a ∷ args) = ap (or_used (if type_eq a.0 ty.Ptr then asked_read w ps k else None)) (strings_light w ps (k + 1) args)
+use_light : (w : World) (ps : List Poisoned) (x : CheckedUse) → use_read (light w) ps x ≡ use_read w ps x
+use_light w ps (Word kind k) = refl
+use_light w ps (Bytes kind a n) = refl
+use_light w ps (Line a) = refl
+use_light w ps (Asked a) = refl
 
-memory_light : (w : World) (ps : List Poisoned) (s : Shape) → memory_read (light w) ps s ≡ memory_read w ps s
-memory_light w ps shape.Compared = refl
-memory_light w ps shape.Written = refl
-memory_light w ps shape.Text = refl
-memory_light w ps s = refl
-
-printed_light : (w : World) (ps : List Poisoned) (n : ℕ) (o : Op) → printed_read (light w) ps n o ≡ printed_read w ps n o
-printed_light w ps n (op.Call ret callee typed) = ap (or_used (words_read ps 1 (n - 1))) (strings_light w ps 1 (drop 1 typed))
-printed_light w ps n o = refl
-
-printf_light : (w : World) (ps : List Poisoned) (n : ℕ) (e : External) (o : Op) → printf_read (light w) ps n e o ≡ printf_read w ps n e o
-printf_light w ps n Printf o = printed_light w ps n o
-printf_light w ps n e o = refl
+uses_light : (w : World) (ps : List Poisoned) (us : List CheckedUse) → first_read (light w) ps us ≡ first_read w ps us
+uses_light w ps [] = refl
+uses_light w ps (x ∷ us) = λ i. or_used (use_light w ps x i) (uses_light w ps us i)
 
 code_light : (fill xs ms : List ℕ) (w : World) (o : Op) (k : Code) → code_read fill xs ms (light w) o k ≡ code_read fill xs ms w o k
-code_light fill xs ms w o (code.External e args to) =
-    (λ i. or_used (or_used (plain_read (seen fill xs ms args) (shape_of e)) (memory_light w (seen fill xs ms args) (shape_of e) i)) (printf_light w (seen fill xs ms args) (length args) e o i))
+code_light fill xs ms w o (code.Binary b flags width p q to) = uses_light w (seen fill xs ms (p ∷ q ∷ [])) (op_uses false None o)
+code_light fill xs ms w o (code.Alloca size count to) = uses_light w (seen fill xs ms (count ∷ [])) (op_uses false None o)
+code_light fill xs ms w o (code.Load size mask addr to) = uses_light w (seen fill xs ms (addr ∷ [])) (op_uses false None o)
+code_light fill xs ms w o (code.Store size value addr) = uses_light w (seen fill xs ms (value ∷ addr ∷ [])) (op_uses false None o)
+code_light fill xs ms w o (code.Branch c taken other) = uses_light w (seen fill xs ms (c ∷ [])) (op_uses false None o)
+code_light fill xs ms w o (code.Switch v cases other) = uses_light w (seen fill xs ms (v ∷ [])) (op_uses false None o)
+code_light fill xs ms w o (code.Exit v) = uses_light w (seen fill xs ms (v ∷ [])) (op_uses true None o)
+code_light fill xs ms w o (code.External e args types to) = uses_light w (seen fill xs ms args) (op_uses false (Some e) o)
 code_light fill xs ms w o k = refl
 
 -- ---- the instruction that is due
 
 -- what is used is there
 pub using_fits : (n phis : ℕ) (rs : List Routine) (k : Code) → Fits n phis rs k → IsUsing n k
-using_fits n phis rs (code.Binary o f w a b to) (p, q, x, y, z) = wider n w b y q
+using_fits n phis rs (code.Binary o f w a b to) (p, q, x, y, z) = (wider n w a x q, wider n w b y q)
 using_fits n phis rs (code.Alloca size count to) (x, z) = x
 using_fits n phis rs (code.Load size cut addr to) (p, x, z) = x
-using_fits n phis rs (code.Store size value addr) (p, x, y) = y
+using_fits n phis rs (code.Store size value addr) (p, x, y) = (x, y)
 using_fits n phis rs (code.Branch c taken other) (x, y, z) = x
 using_fits n phis rs (code.Switch v cases other) (x, y, z) = x
 using_fits n phis rs (code.Exit v) x = wider n 32 v x (omega arith)
-using_fits n phis rs (code.External e args to) (x, z) = x
+using_fits n phis rs (code.External e args types to) (x, z) = x
 using_fits n phis rs k fits = tt
 
 pub record DueHere (m : Module) (u : Setup) (t : Traced) (f : TracedRun) (o : IsFollowed m u t f) (made : Code) : Type 0 where

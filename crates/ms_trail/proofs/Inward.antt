@@ -28,7 +28,7 @@ use Rattle.ms_trail_uses.specs.Stepping.{AsksNothing}
 
 -- code that calls nothing outside the module
 abbrev pub IsInward : Code → Type 0
-IsInward (code.External e args to) = ⊥
+IsInward (code.External e args types to) = ⊥
 IsInward (code.Runtime f args to) = ⊥
 IsInward k = Unit {0}
 
@@ -57,7 +57,7 @@ inward_asks at (code.Branch c taken other) inst inward (k, to, to', (is, rc, lea
 inward_asks at (code.Switch v cases other) inst inward (t, k, to, named, (is, rv, leads, all, plain)) ret callee args e x h = absurd (cc)
 inward_asks at (code.Call f as' to) inst inward (r, name, written, (is, found, reads, puts, plain)) ret callee args e x h =
     calls_none at.whole inst.marked name callee f x plain found (same_callee inst.op r ret name callee written args is e) h
-inward_asks at (code.External f as' to) inst inward e ret callee args is x h = inward
+inward_asks at (code.External f as' types to) inst inward e ret callee args is x h = inward
 inward_asks at (code.Runtime f as' to) inst inward e ret callee args is x h = inward
 inward_asks at (code.Return v) inst inward (value, (is, returns, main, plain)) ret callee args e x h = absurd (cc)
 inward_asks at (code.Exit v) inst inward (value, (is, returns, main, plain)) ret callee args e x h = absurd (cc)

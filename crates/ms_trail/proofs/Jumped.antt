@@ -370,7 +370,7 @@ module _ (m : Module) (u : Setup) (t : Traced) (old : TracedRun) (o : IsFollowed
           ∙ sym (jump_moves s m t.events i (innermost t.numbers.standing) (innermost t.numbers.standing) fr d.below t.state.world head c.world jumping)
           ∙ sym (moves_at s m t.state fr d.below d.first i d.coded.rest d.coded.due t.events t.numbers t.numbers c head d.below frames)
           in
-          onward m u t old o new c next after.1.0 (record { whole = keeps.whole; tables = keeps.tables; printf = keeps.printf; fill = keeps.fill })
+          onward m u t old o new c next after.1.0 (record { whole = keeps.whole; tables = keeps.tables; fill = keeps.fill })
           (subst (λ (w : WorldState). IsRunning m u nothing_beside new.fiber w next) (sym world_is) (subst (λ (g : Fiber). IsRunning m u nothing_beside g world next) (sym fiber_is) running))
           after.1.1 light_is t.numbers (same_numbers (length c.frames) t.numbers depth) (subst (λ (ns : List ℕ). HaveShades m ns c.frames (new.shade ∷ reverse new.below.items)) (sym top.is) all) (keeps.made ∙ o.made) event
           (subst (λ (qs : List Move). IsLog new.log (t.moves ++ qs)) moves told)

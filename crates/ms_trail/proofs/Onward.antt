@@ -25,7 +25,6 @@ use Rattle.ms_runs_good_laws.proofs.WorldChanges.{either, set_shadow_good, set_c
 use Rattle.ms_host.specs.State.{WorldState, Keeps, nothing_beside}
 use Rattle.ms_host.specs.Shows.{Shows}
 use Rattle.ms_host.specs.SlotBytes.{ShowsSlots}
-use Rattle.ms_printf.specs.CallSites.{AreCallSites}
 use Rattle.ms_machine_frames.specs.declared.fibers.Fiber.{Fiber}
 use Rattle.ms_runs_good_laws.specs.GoodStates.{IsMain}
 use Rattle.ms_runs_good_laws.proofs.Bottoms.{StateBottom, shadow_bottom}
@@ -47,7 +46,6 @@ use Rattle.ms_trail.specs.Following.{HaveShades, Went, IsFollowed}
 pub record KeepsRest (old new : TracedRun) : Type 0 where
   pub whole : new.m.now ≡ old.m.now
   pub tables : new.tables.rows.items ≡ old.tables.rows.items
-  pub printf : new.printf.calls ≡ old.printf.calls
   pub fill : new.fill.now ≡ old.fill.now
 
 pub onward : (m : Module) (u : Setup) (t : Traced) (old : TracedRun) (o : IsFollowed m u t old) (new : TracedRun) (c : ShadowState) (p : PlainState) → shadow_step by_formulas (setting_of m u) m t.state ≡ More c
@@ -72,7 +70,6 @@ onward m u t old o new c p went keeps running frames world ns numbers shades mad
       event = event ∙ ap (λ n. n + 1) o.event;
       log = subst (λ (n : Numbers). IsLog new.log (t.moves ++ event_moves (setting_of m u) m t.events t.numbers n t.state c)) (sym numbers) told;
       tables = subst (AreTables m) (sym keeps.tables) o.tables;
-      printf = subst (AreCallSites m) (sym keeps.printf) o.printf;
       fill = keeps.fill ∙ o.fill;
       filled = o.filled;
     },

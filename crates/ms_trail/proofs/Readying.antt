@@ -3,6 +3,7 @@ use Rattle.std.proofs.Common.{◌≡◌, ◌≤◌, ◌<◌, ◌+◌, ◌^◌, �
 use Rattle.std.specs.Prelude.{slice_get, All}
 use Rattle.std.proofs.lemmas.Option.{same_Some, none-some, slice_get_within}
 use Rattle.ms_ir.specs.declared.calls.External.{External}
+use Rattle.ms_ir.specs.declared.syntax.Ty.{Ty}
 use Rattle.ms_ir.specs.declared.syntax.Func.{Func}
 use Rattle.ms_ir.specs.declared.syntax.Inst.{Inst}
 use Rattle.ms_ir.specs.declared.syntax.Module.{Module}
@@ -137,12 +138,12 @@ module _ (f : TracedRun) (k : Code) (r : IsReady f k) where
     pub return_source : IsSource (length f.fiber.frame.values.items) 64 value
     return_source = subst (λ (x : Code). Fits (length f.fiber.frame.values.items) (phis_in r.fits.routines) r.fits.routines x) is r.fits.fits
 
-  module _ (e : External) (args : List WordSource) (to : Option ℕ) (is : k ≡ code.External e args to) where
+  module _ (e : External) (args : List WordSource) (to : Option ℕ) (is : (types : List Ty) × (k ≡ code.External e args types to)) where
     external_fits : All (IsSource (length f.fiber.frame.values.items) 64) args × IsPut (length f.fiber.frame.values.items) to
-    external_fits = subst (λ (x : Code). Fits (length f.fiber.frame.values.items) (phis_in r.fits.routines) r.fits.routines x) is r.fits.fits
+    external_fits = subst (λ (x : Code). Fits (length f.fiber.frame.values.items) (phis_in r.fits.routines) r.fits.routines x) is.1 r.fits.fits
 
     pub external_sources : All (IsSource (length f.fiber.frame.values.items) 64) args
     external_sources = external_fits.0
 
     pub external_put : IsPut (length f.shade.masks.items) (put_of k)
-    external_put = subst (λ (x : Code). IsPut (length f.shade.masks.items) (put_of x)) (sym is) (subst (λ (n : ℕ). IsPut n to) (sym same_count) external_fits.1)
+    external_put = subst (λ (x : Code). IsPut (length f.shade.masks.items) (put_of x)) (sym is.1) (subst (λ (n : ℕ). IsPut n to) (sym same_count) external_fits.1)

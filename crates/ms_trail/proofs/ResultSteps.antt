@@ -18,7 +18,6 @@ use Rattle.ms_runs.specs.Uses.{uses, check_uses, blinded}
 use Rattle.ms_runs.specs.Shadow.{ShadowState, read_poisoned, poisoned_result, shadow_step}
 use Rattle.ms_machine_code.specs.Reads.{Holds, IsPlace}
 use Rattle.ms_host.specs.State.{nothing_beside}
-use Rattle.ms_printf.specs.CallSites.{AreCallSites}
 use Rattle.ms_machine_steps.specs.Advances.{step_of}
 use Rattle.ms_runs_good_laws.specs.GoodStates.{IsMain}
 use Rattle.ms_runs_good_laws.proofs.Bottoms.{StateBottom, shadow_bottom}
@@ -80,7 +79,6 @@ pub record KeepsCalls (old new : TracedRun) : Type 0 where
   pub below : new.below.items ≡ old.below.items
   pub made : new.made ≡ old.made
   pub tables : new.tables.rows.items ≡ old.tables.rows.items
-  pub printf : new.printf.calls ≡ old.printf.calls
   pub fill : new.fill.now ≡ old.fill.now
 
 -- ---- one step on
@@ -160,7 +158,6 @@ module _ (m : Module) (u : Setup) (t : Traced) (old : TracedRun) (o : IsFollowed
               event = event ∙ ap (λ n. n + 1) o.event;
               log = subst (λ (ms : List Move). IsLog new.log (t.moves ++ ms)) moves told;
               tables = subst (AreTables m) (sym keeps.tables) o.tables;
-              printf = subst (AreCallSites m) (sym keeps.printf) o.printf;
               fill = keeps.fill ∙ o.fill;
               filled = o.filled;
             },

@@ -157,7 +157,7 @@ module _ (m : Module) (u : Setup) (t : Traced) (old : TracedRun) (o : IsFollowed
         ∙ sym (writing_moves s m t.events i (innermost t.numbers.standing) (innermost t.numbers.standing) now.frame now.below t.state.world head c.world writes)
         ∙ sym (moves_at s m t.state now.frame now.below now.first i now.coded.rest now.coded.due t.events t.numbers t.numbers c head now.below frames)
         in
-        onward m u t old o new c (record next { world = v }) gone.1.0 (record { whole = keeps.whole; tables = keeps.tables; printf = keeps.printf; fill = keeps.fill }) running gone.1.1 world t.numbers
+        onward m u t old o new c (record next { world = v }) gone.1.0 (record { whole = keeps.whole; tables = keeps.tables; fill = keeps.fill }) running gone.1.1 world t.numbers
         (same_numbers (length c.frames) t.numbers depth) (subst (λ (ns : List ℕ). HaveShades m ns c.frames (new.shade ∷ reverse new.below.items)) (sym its.is) all) (keeps.made ∙ o.made) event
         (subst (λ (ms : List Move). IsLog new.log (t.moves ++ ms)) moves told)
 

@@ -19,7 +19,6 @@ use Rattle.ms_runs.specs.Uses.{uses, check_uses}
 use Rattle.ms_runs.specs.Shadow.{ShadowState, read_poisoned, shadow_step}
 use Rattle.ms_machine_code.specs.Reads.{Holds}
 use Rattle.ms_host.specs.State.{nothing_beside}
-use Rattle.ms_printf.specs.CallSites.{AreCallSites}
 use Rattle.ms_runs_good_laws.specs.GoodStates.{IsMain, Bottom}
 use Rattle.ms_machine.specs.Running.{IsRunning}
 use Rattle.ms_runs_laws.specs.Follows.{Follows}
@@ -58,7 +57,6 @@ pub record IsFollowed (m : Module) (u : Setup) (t : Traced) (f : TracedRun) : Ty
   pub event : f.event ≡ t.events
   pub log : IsLog f.log t.moves
   pub tables : AreTables m f.tables.rows.items
-  pub printf : AreCallSites m f.printf.calls
   pub fill : f.fill.now ≡ u.fill
   pub filled : 0 < length u.fill
 

@@ -1,15 +1,15 @@
 //! Calls of externals in a traced run: what they answer, and what they do to the shadow of memory.
 ghost use Rattle.std.specs.Prelude.{◌≡◌, ◌≤◌, ◌<◌, ◌+◌, ◌^◌, ◌++◌, ℕ, List, All, IfOk, OnOk, get_or, length, map, Some, true, false, unwrap_or};
-ghost use Rattle.ms_ir.specs.{Instructions.{operands, count_undefs}, Signatures.{is_thread_call}};
+ghost use Rattle.ms_ir.specs.{Instructions.{operands, count_undefs}, Signatures.{is_thread_call}, declared.syntax.Ty.{Ty as TyOf}};
 ghost use Rattle.ms_runs.specs.{declared.runs.Setup.{Setup}, World.{World as Meant}, Memory.{heap_size, is_good}};
 ghost use Rattle.ms_runs.specs.{Poisoned.{Poisoned}, Masks.{answer_mask as answer_mask_of, word_at as word_in}};
 ghost use Rattle.ms_runs.specs.{Control.{Frame}, Plain.{setting_of}};
 ghost use Rattle.ms_runs_good_laws.specs.GoodWorlds.{GoodWorld, FitsCell};
 ghost use Rattle.ms_machine_code.specs.{Fits.{IsPut, IsSource}, Words.{words_of}};
 ghost use Rattle.ms_host.specs.{Answers.{Answered, FitsFirst, asked_effect}, State.{Beside, Keeps}, Shows.{Shows}};
-ghost use Rattle.ms_printf.specs.CallSites.{AreCallSites};
-ghost use Rattle.ms_machine_frames.specs.Meaning.{put_of};
+ghost use Rattle.ms_machine_frames.specs.{Meaning.{put_of}, Standing.{frames_of}};
 ghost use Rattle.ms_machine_steps.specs.Waiting.{FirstWaits, types_due};
+ghost use Rattle.ms_machine.specs.Running.{AllStandFor, WaitsFor};
 ghost use Rattle.ms_runs_laws.specs.Follows.{fill_shadow};
 ghost use Rattle.ms_trail_moves.specs.{declared.moves.Move.{Move as MoveOf}, Sources.{sources, source_at as source_in}};
 ghost use Rattle.ms_trail_moves.specs.{Written.{Filled}, Events.{written_moves}, Traces.{Traced}};
@@ -26,9 +26,10 @@ use ms_bits::{List, NoMemory};
 use ms_check::CheckedModule;
 use ms_host::{Answer, Asked, HostCall, World, answer};
 use ms_ir::External;
-use ms_machine::resume;
+use ms_machine::{printed_types, resume};
 use ms_machine_code::{Code, WordSource};
-use ms_printf::CallSites;
+use ms_machine_frames::Fiber;
+use ms_printf::answer_typed;
 use ms_trail_bytes::logs::Log;
 use ms_trail_bytes::sets::shade_set;
 use ms_trail_bytes::sources::own_root;
@@ -157,7 +158,7 @@ fn note_answer(
 fn answered(
     alloc: Global,
     m: &CheckedModule,
-    printf: &CallSites,
+    fiber: &Fiber,
     call: &HostCall,
     external: External,
     world: &mut World,
@@ -166,14 +167,14 @@ fn answered(
     requires asked { call.now.asked ≡ Asked.External external }
     requires alone { is_thread_call external ≡ false }
     requires waits { WaitsSome m.now call.now }
-    requires sites { AreCallSites m.now printf.now.calls }
-    ensures answered { (u : Setup) (frames : List (Frame ℕ)) (beside : Beside) (meant : Meant) → FirstWaits m.now u frames call.now → world.old.fill ≡ u.fill → Shows world.old beside meant → IfOk result (λ a. Answered beside (asked_effect (setting_of m.now u) (types_due m.now frames) call.now meant) a world.new) }
+    requires standing { WaitsFor m.now fiber.now }
+    ensures answered { (u : Setup) (frames : List (Frame ℕ)) (beside : Beside) (meant : Meant) → AllStandFor m.now (frames_of fiber.now) frames → FirstWaits m.now u frames call.now → world.old.fill ≡ u.fill → Shows world.old beside meant → IfOk result (λ a. Answered beside (asked_effect (setting_of m.now u) (types_due m.now frames) call.now meant) a world.new) }
     ensures keeps { Keeps world.old world.new }
     ensures made { world.new.made ≤ world.old.made + 2 ^ 26 }
 {
     m.law_valid();
     match external {
-        External::Printf => printf.answer_printf(alloc, m.module(), call, world),
+        External::Printf => answer_typed(alloc, printed_types(m, fiber), call, world),
         _ => answer(call, world),
     }
 }
@@ -263,7 +264,7 @@ impl TracedRun<'_> {
         to: Option<usize>,
     ) -> Result<bool, NoMemory>
         requires ready { IsReady self.old code.now }
-        requires is { code.now ≡ Code.External external args.now to }
+        requires is { (types : List TyOf) × (code.now ≡ Code.External external args.now types to) }
         ensures went { (u : Setup) (t : Traced) → IsFollowed self.old.m.now u t self.old → Passes self.old.m.now u t → IfOk result (λ on. Went self.old.m.now u t on self.new) }
         ensures grew { IfOk result (λ on. Grew self.old self.new) }
     {
@@ -283,14 +284,7 @@ impl TracedRun<'_> {
             args: List::from_vec(asked_words),
             site,
         };
-        let answer = answered(
-            alloc,
-            self.m,
-            &self.printf,
-            &call,
-            external,
-            &mut self.world,
-        )?;
+        let answer = answered(alloc, self.m, &self.fiber, &call, external, &mut self.world)?;
         match answer {
             Answer::Ended(_) => Ok(false),
             Answer::Resumed(value) => {

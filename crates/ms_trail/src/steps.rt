@@ -68,13 +68,12 @@ impl TracedRun<'_> {
             Code::Store { size, value, addr } => self.store(alloc, code, *size, *value, *addr),
             Code::Alloca { size, count, to } => self.alloca(alloc, code, *size, *count, *to),
             Code::Call { func, args, to } => self.call(alloc, code, *func, args.as_slice(), *to),
-            Code::External { external, args, to } => self.call_external(
-                alloc,
-                code,
-                *external,
-                args.as_slice(),
-                *to,
-            ),
+            Code::External {
+                external,
+                args,
+                to,
+                ..
+            } => self.call_external(alloc, code, *external, args.as_slice(), *to),
             Code::Return { value } => self.leave(alloc, code, *value),
             Code::LoadMarked { .. } => Ok(false),
             Code::StoreMarked { .. } => Ok(false),

@@ -14,7 +14,6 @@ use ms_host::World;
 use ms_machine::start;
 use ms_machine_code::WordSource;
 use ms_machine_frames::Fiber;
-use ms_printf::CallSites;
 use ms_runs::Setup;
 use ms_trail_bytes::logs::Log;
 use ms_trail_masks::{View, mask_of, value_of};
@@ -44,8 +43,6 @@ pub struct TracedRun<'m> {
     pub tables: InstRows<'m>,
     pub fiber: Fiber,
     pub world: World,
-    /// The calls of `printf` in the module.
-    pub printf: CallSites,
     pub shade: FrameMasks,
     pub below: Vec<FrameMasks>,
     pub made: u64,
@@ -65,7 +62,6 @@ impl<'m> TracedRun<'m> {
         m.law_valid();
         let code = m.module();
         let tables = InstRows::of(alloc, code)?;
-        let printf = CallSites::of(alloc, code)?;
         let (fiber, world) = start(alloc, m, setup)?;
         let shade = FrameMasks::new(alloc, 0, fiber.frame.values.len())?;
         Ok(TracedRun {
@@ -74,7 +70,6 @@ impl<'m> TracedRun<'m> {
             tables,
             fiber,
             world,
-            printf,
             shade,
             below: Vec::new(alloc),
             made: 1,

@@ -1,18 +1,12 @@
 -- Uses that are checked, one after the other.
-use Rattle.std.proofs.Common.{◌≡◌, ◌≢◌, ◌≤◌, ◌<◌, ◌+◌, ◌-◌, ◌%◌, ◌^◌, ℕ, zero, suc, Bool, true, false, eqb, ltb, List, [], ◌∷◌, map, drop, length, get_or, if◌then◌else◌, Option, Some, None, refl, sym, ap, ◌∙◌, subst, arith, IsTrue}
+use Rattle.std.proofs.Common.{◌≡◌, ◌≢◌, ◌≤◌, ◌<◌, ◌+◌, ◌-◌, ◌%◌, ◌^◌, ℕ, zero, suc, Bool, true, false, eqb, ltb, List, [], ◌∷◌, ◌++◌, drop, length, get_or, if◌then◌else◌, Option, Some, None, refl, sym, ap, ◌∙◌, subst, arith, add-one, IsTrue}
 use Rattle.std.proofs.Math.Nat.{mod-eq_of_lt}
 use Rattle.std.proofs.lemmas.Bool.{eq-eqb, ne_eqb, ltb-true, ltb-false}
 use Rattle.std.proofs.lemmas.Option.{same_Some, none-some}
 use Rattle.std.proofs.lemmas.Nat.{pow_pos}
-use Rattle.std.proofs.lemmas.List.{drop_all}
-use Rattle.std.specs.Prelude.{All}
+use Rattle.std.specs.Prelude.{All, option_map}
 use Rattle.ms_bits.specs.Maps.{first_nonzero}
 use Rattle.ms_alloc.specs.Allocations.{Allocations, IsLaidOut, is_good as is_live}
-use Rattle.ms_ir.specs.declared.calls.External.{External}
-use Rattle.ms_ir.specs.declared.calls.External.TheVariants.{Printf}
-use Rattle.ms_ir.specs.declared.syntax.Name.{Name}
-use Rattle.ms_ir.specs.declared.syntax.Op.{Op}
-use Rattle.ms_ir.specs.declared.syntax.Op.TheVariants as op
 use Rattle.ms_ir.specs.declared.syntax.Ty.{Ty}
 use Rattle.ms_ir.specs.declared.syntax.Ty as ty
 use Rattle.ms_ir.specs.declared.syntax.Operand.{Operand}
@@ -23,6 +17,10 @@ use Rattle.ms_runs.specs.Memory.{is_good, bytes_left}
 use Rattle.ms_runs.specs.Origins.{first_in_string}
 use Rattle.ms_runs.specs.Poisoned.{Poisoned}
 use Rattle.ms_runs.specs.Masks.{word_at}
+use Rattle.ms_runs.specs.Uses as meant
+use Rattle.ms_runs.specs.Uses.{string_uses}
+use Rattle.ms_runs_uses.specs.declared.uses.CheckedUse.{CheckedUse}
+use Rattle.ms_runs_uses.specs.Uses.{use_of}
 use Rattle.ms_machine_code.specs.declared.code.WordSource.{WordSource}
 use Rattle.ms_machine_code.specs.declared.code.WordSource.TheVariants as source
 use Rattle.ms_machine_code.specs.Words.{word_of}
@@ -35,7 +33,7 @@ use Rattle.ms_trail_masks.specs.Results.{bare}
 use Rattle.ms_trail_uses.specs.declared.used.Used.{Used}
 use Rattle.ms_trail_uses.specs.declared.used.Used.TheVariants as read
 use Rattle.ms_trail_moves.specs.Sources.{byte_source}
-use Rattle.ms_trail_uses.specs.Used.{used_byte, byte_used, found_used, word_read, range_read, string_read, asked_read, or_used, shape_of, shape_read, words_read, strings_read, printed_read, printf_read, arguments_read, seen}
+use Rattle.ms_trail_uses.specs.Used.{used_byte, byte_used, found_used, word_read, range_read, string_read, asked_read, use_read, or_used, first_read, string_use_read, seen}
 
 -- ---- arguments
 
@@ -128,57 +126,67 @@ string_found t w a room f laid live is h =
     found_is w a (first_in_string w a (bytes_left w a)) f h
     (λ x e. let at = string_within w (bytes_left w a) a x e in (at.0, low_within t a (bytes_left w a) x laid (subst (λ (n : ℕ). IsTrue (is_live a n t)) is live) at.0 at.1))
 
--- ---- one after the other
+-- ---- one use after the other
 
-pub or_none : (x : Option Used) → or_used x None ≡ x
-or_none None = refl
-or_none (Some u) = refl
+module _ (w : World) (ps : List Poisoned) where
+  -- the first of some uses is poisoned, or isn't
+  pub first_stops : (u : meant.CheckedUse) (rest all : List meant.CheckedUse) (o : Option Used) (x : Used) → all ≡ u ∷ rest → o ≡ Some x → o ≡ use_read w ps u → Some x ≡ first_read w ps all
+  first_stops u rest all o x next is e = ap (λ (y : Option Used). or_used y (first_read w ps rest)) (sym is ∙ e) ∙ sym (ap (first_read w ps) next)
 
-pub or_or : (x y z : Option Used) → or_used (or_used x y) z ≡ or_used x (or_used y z)
-or_or None y z = refl
-or_or (Some u) y z = refl
+  pub first_passes : (u : meant.CheckedUse) (rest all : List meant.CheckedUse) (o : Option Used) → all ≡ u ∷ rest → o ≡ None → o ≡ use_read w ps u → first_read w ps all ≡ first_read w ps rest
+  first_passes u rest all o next is e = ap (first_read w ps) next ∙ ap (λ (y : Option Used). or_used y (first_read w ps rest)) (sym e ∙ is)
 
--- ---- words from one with a place on
+  -- some uses and others after them
+  first_append : (us vs : List meant.CheckedUse) → first_read w ps (us ++ vs) ≡ or_used (first_read w ps us) (first_read w ps vs)
+  first_append [] vs = refl
+  first_append (u ∷ us) vs = ap (or_used (use_read w ps u)) (first_append us vs) ∙ sym (or_or (use_read w ps u) (first_read w ps us) (first_read w ps vs))
+    where
+      or_or : (x y z : Option Used) → or_used (or_used x y) z ≡ or_used x (or_used y z)
+      or_or None y z = refl
+      or_or (Some u) y z = refl
 
-pub words_stop : (ps : List Poisoned) (k n : ℕ) (o : Option Used) (u : Used) → 0 < n → o ≡ Some u → o ≡ word_read ps k → Some u ≡ words_read ps k n
-words_stop ps k zero o u some is e = absurd (omega (arith, some))
-words_stop ps k (suc n) o u some is e = ap (λ (x : Option Used). or_used x (words_read ps (k + 1) n)) (sym is ∙ e)
+  pub all_first : (us vs ws further all : List meant.CheckedUse) → us ++ further ≡ all → further ≡ vs ++ ws → or_used (first_read w ps us) (or_used (first_read w ps vs) (first_read w ps ws)) ≡ first_read w ps all
+  all_first us vs ws further all are rest =
+      ap (or_used (first_read w ps us)) (sym (first_append vs ws)) ∙ sym (first_append us (vs ++ ws)) ∙ ap (first_read w ps) (ap (λ l. us ++ l) (sym rest) ∙ are)
 
-pub words_pass : (ps : List Poisoned) (k n j : ℕ) (o : Option Used) → n ≡ suc j → o ≡ None → o ≡ word_read ps k → words_read ps k n ≡ words_read ps (k + 1) j
-words_pass ps k n j o count is e = ap (words_read ps k) count ∙ ap (λ (x : Option Used). or_used x (words_read ps (k + 1) j)) (sym e ∙ is)
+  -- ---- the string at an argument of `printf`
 
-pub words_end : (ps : List Poisoned) (k n : ℕ) → n ≡ 0 → None ≡ words_read ps k n
-words_end ps k n none = sym (ap (words_read ps k) none)
+  pub string_found_used : (t : Ty) (k : ℕ) (o : Option CheckedUse) (u : CheckedUse) → option_map use_of o ≡ (if type_eq t ty.Ptr then Some (meant.Asked k) else None) → o ≡ Some u → use_read w ps (use_of u) ≡ string_use_read w ps t k
+  string_found_used t k o u is some = by_test (type_eq t ty.Ptr) (sym (ap (option_map use_of) some) ∙ is)
+    where
+      by_test : (b : Bool) → Some (use_of u) ≡ (if b then Some (meant.Asked k) else None) → use_read w ps (use_of u) ≡ (if b then asked_read w ps k else None)
+      by_test true e = ap (use_read w ps) (same_Some (use_of u) (meant.Asked k) e)
+      by_test false e = absurd cc
 
--- ---- strings from one with a place on
+  pub string_none_used : (t : Ty) (k : ℕ) (o : Option CheckedUse) → option_map use_of o ≡ (if type_eq t ty.Ptr then Some (meant.Asked k) else None) → o ≡ None → None ≡ string_use_read w ps t k
+  string_none_used t k o is none = by_test (type_eq t ty.Ptr) (sym (ap (option_map use_of) none) ∙ is)
+    where
+      by_test : (b : Bool) → None ≡ (if b then Some (meant.Asked k) else None) → None ≡ (if b then asked_read w ps k else None)
+      by_test true e = absurd cc
+      by_test false e = refl
 
-pub strings_stop : (w : World) (ps : List Poisoned) (k : ℕ) (typed : List (Ty × Operand)) (pair : Ty × Operand) (o : Option Used) (u : Used) → k < length typed → pair ≡ get_or typed k pair → o ≡ Some u
-    → o ≡ (if type_eq pair.0 ty.Ptr then asked_read w ps k else None) → Some u ≡ strings_read w ps k (drop k typed)
-strings_stop w ps k typed pair o u lt is found e =
-    ap (λ (x : Option Used). or_used x (strings_read w ps (k + 1) (drop (k + 1) typed))) (sym found ∙ e) ∙ sym (ap (strings_read w ps k) (drop_next typed k pair lt is))
+  strings_first : (typed : List (Ty × Operand)) (k : ℕ) (pair : Ty × Operand) → k < length typed → pair ≡ get_or typed k pair
+      → first_read w ps (string_uses k (drop k typed)) ≡ or_used (string_use_read w ps pair.0 k) (first_read w ps (string_uses (k + 1) (drop (k + 1) typed)))
+  strings_first typed k pair lt is =
+      ap (λ os. first_read w ps (string_uses k os)) (drop_next typed k pair lt is) ∙ by_test (type_eq pair.0 ty.Ptr)
+      ∙ ap (λ n. or_used (string_use_read w ps pair.0 k) (first_read w ps (string_uses n (drop (k + 1) typed)))) (sym (add-one k))
+    where
+      by_test : (b : Bool) → first_read w ps (if b then meant.Asked k ∷ string_uses (suc k) (drop (k + 1) typed) else string_uses (suc k) (drop (k + 1) typed))
+          ≡ or_used (if b then asked_read w ps k else None) (first_read w ps (string_uses (suc k) (drop (k + 1) typed)))
+      by_test true = refl
+      by_test false = refl
 
-pub strings_pass : (w : World) (ps : List Poisoned) (k : ℕ) (typed : List (Ty × Operand)) (pair : Ty × Operand) (o : Option Used) → k < length typed → pair ≡ get_or typed k pair → o ≡ None
-    → o ≡ (if type_eq pair.0 ty.Ptr then asked_read w ps k else None) → strings_read w ps k (drop k typed) ≡ strings_read w ps (k + 1) (drop (k + 1) typed)
-strings_pass w ps k typed pair o lt is none e =
-    ap (strings_read w ps k) (drop_next typed k pair lt is) ∙ ap (λ (x : Option Used). or_used x (strings_read w ps (k + 1) (drop (k + 1) typed))) (sym e ∙ none)
+  pub strings_stop : (typed : List (Ty × Operand)) (k : ℕ) (pair : Ty × Operand) (o : Option Used) (x : Used) → k < length typed → pair ≡ get_or typed k pair → o ≡ Some x → o ≡ string_use_read w ps pair.0 k
+      → Some x ≡ first_read w ps (string_uses k (drop k typed))
+  strings_stop typed k pair o x lt is found e =
+      ap (λ (y : Option Used). or_used y (first_read w ps (string_uses (k + 1) (drop (k + 1) typed)))) (sym found ∙ e) ∙ sym (strings_first typed k pair lt is)
 
-pub strings_end : (w : World) (ps : List Poisoned) (k : ℕ) (typed : List (Ty × Operand)) → length typed ≤ k → None ≡ strings_read w ps k (drop k typed)
-strings_end w ps k typed le = sym (ap (strings_read w ps k) (drop_all k typed le))
+  pub strings_pass : (typed : List (Ty × Operand)) (k : ℕ) (pair : Ty × Operand) (o : Option Used) → k < length typed → pair ≡ get_or typed k pair → o ≡ None → o ≡ string_use_read w ps pair.0 k
+      → first_read w ps (string_uses k (drop k typed)) ≡ first_read w ps (string_uses (k + 1) (drop (k + 1) typed))
+  strings_pass typed k pair o lt is none e =
+      strings_first typed k pair lt is ∙ ap (λ (y : Option Used). or_used y (first_read w ps (string_uses (k + 1) (drop (k + 1) typed)))) (sym e ∙ none)
 
--- ---- externals and operations
-
--- of an external other than `printf` nothing else is used
-pub plain_rest : (w : World) (ps : List Poisoned) (n : ℕ) (e : External) (o : Op) → (e ≡ Printf → ⊥) → printf_read w ps n e o ≡ None
-plain_rest w ps n Printf o h = absurd (h refl)
-plain_rest w ps n _ o h = refl
-
-pub plain_arguments : (w : World) (ps : List Poisoned) (n : ℕ) (e : External) (o : Op) (x : Option Used) → (e ≡ Printf → ⊥) → x ≡ shape_read w ps (shape_of e) → x ≡ arguments_read w ps n e o
-plain_arguments w ps n e o x h is = is ∙ sym (or_none (shape_read w ps (shape_of e))) ∙ ap (or_used (shape_read w ps (shape_of e))) (sym (plain_rest w ps n e o h))
-
--- an operation that is no call has no strings
-pub no_strings : (w : World) (ps : List Poisoned) (n : ℕ) (o : Op) → ((ret : Option Ty) (callee : Name) (typed : List (Ty × Operand)) → o ≡ op.Call ret callee typed → ⊥) → words_read ps 1 (n - 1) ≡ printed_read w ps n o
-no_strings w ps n (op.Call ret callee typed) h = absurd (h ret callee typed refl)
-no_strings w ps n _ h = refl
+-- ---- a byte, as a source
 
 -- the first poisoned one of good bytes, as a source
 byte_found_source : (o : Option ℕ) → byte_used (used_byte o) ≡ byte_source o

@@ -1,16 +1,10 @@
 -- What a use that is checked and poisoned reads (own).
-use Rattle.std.specs.Prelude.{◌≡◌, ℕ, zero, suc, ◌+◌, ◌-◌, ◌%◌, ◌^◌, eqb, List, [], ◌∷◌, map, drop, length, All, if◌then◌else◌, Option, Some, None, option_and_then}
-use Rattle.ms_bits.specs.declared.operations.BinOp.{BinOp}
-use Rattle.ms_bits.specs.declared.operations.BinOp.TheVariants.{Udiv, Sdiv, Urem, Srem}
+use Rattle.std.specs.Prelude.{◌≡◌, ℕ, ◌+◌, ◌%◌, ◌^◌, Bool, true, false, eqb, List, [], ◌∷◌, map, All, if◌then◌else◌, Option, Some, None}
 use Rattle.ms_bits.specs.Maps.{first_nonzero}
 use Rattle.ms_ir.specs.declared.calls.External.{External}
-use Rattle.ms_ir.specs.declared.calls.External.TheVariants.{Malloc, Calloc, Realloc, Free, Memcpy, Memmove, Memset, Memcmp, Strlen, Putchar, Puts, Getchar, Read, Write, Exit, Abort, LlvmMemcpy, LlvmMemmove, LlvmMemset, LifetimeStart, LifetimeEnd, Printf, LlvmTrap, LlvmAssume, LlvmObjectSize, PthreadCreate, PthreadJoin, SchedYield}
-use Rattle.ms_ir.specs.declared.calls.External.TheVariants as external
 use Rattle.ms_ir.specs.declared.syntax.Ty.{Ty}
 use Rattle.ms_ir.specs.declared.syntax.Ty as ty
-use Rattle.ms_ir.specs.declared.syntax.Operand.{Operand}
 use Rattle.ms_ir.specs.declared.syntax.Op.{Op}
-use Rattle.ms_ir.specs.declared.syntax.Op.TheVariants as op
 use Rattle.ms_ir.specs.Equal.{type_eq}
 use Rattle.ms_runs.specs.declared.runs.End.TheVariants as «end»
 use Rattle.ms_runs.specs.World.{World, Effect, Does, Ends}
@@ -19,6 +13,7 @@ use Rattle.ms_runs.specs.Origins.{first_in_string, asks_string_at}
 use Rattle.ms_runs.specs.Poisoned.{Poisoned}
 use Rattle.ms_runs.specs.Masks.{word_at}
 use Rattle.ms_runs.specs.Uses as use_of
+use Rattle.ms_runs_uses.specs.Uses.{op_uses}
 use Rattle.ms_machine_code.specs.declared.code.WordSource.{WordSource}
 use Rattle.ms_machine_code.specs.declared.code.Code.{Code}
 use Rattle.ms_machine_code.specs.declared.code.Code.TheVariants as code
@@ -32,8 +27,6 @@ use Rattle.ms_trail_masks.specs.Shades.{mask_of}
 use Rattle.ms_trail_masks.specs.Results.{bare}
 use Rattle.ms_trail_uses.specs.declared.used.Used.{Used}
 use Rattle.ms_trail_uses.specs.declared.used.Used.TheVariants as read
-use Rattle.ms_trail_uses.specs.declared.used.Shape.{Shape}
-use Rattle.ms_trail_uses.specs.declared.used.Shape.TheVariants as shape
 
 -- ---- one use
 
@@ -91,86 +84,13 @@ abbrev pub first_read : World → List Poisoned → List use_of.CheckedUse → O
 first_read w ps [] = None
 first_read w ps (u ∷ us) = or_used (use_read w ps u) (first_read w ps us)
 
--- ---- uses of an external
+-- the string at an argument of `printf` with a type, which is used where that is a pointer
+abbrev pub string_use_read : World → List Poisoned → Ty → ℕ → Option Used
+string_use_read w ps t k = if type_eq t ty.Ptr then asked_read w ps k else None
 
--- which uses of its arguments an external has; of `printf`, those of its format
-abbrev pub shape_of : External → Shape
-shape_of Malloc = shape.One
-shape_of Calloc = shape.Two
-shape_of Realloc = shape.Two
-shape_of Free = shape.One
-shape_of Memcpy = shape.Three
-shape_of Memmove = shape.Three
-shape_of Memset = shape.Fill
-shape_of Memcmp = shape.Compared
-shape_of Strlen = shape.Text
-shape_of Putchar = shape.One
-shape_of Puts = shape.Text
-shape_of Getchar = shape.Nothing
-shape_of Read = shape.Three
-shape_of Write = shape.Written
-shape_of Exit = shape.One
-shape_of Abort = shape.Nothing
-shape_of LlvmMemcpy = shape.Three
-shape_of LlvmMemmove = shape.Three
-shape_of LlvmMemset = shape.Fill
-shape_of LifetimeStart = shape.Two
-shape_of LifetimeEnd = shape.Two
-shape_of LlvmTrap = shape.Nothing
-shape_of LlvmAssume = shape.One
-shape_of LlvmObjectSize = shape.Second
-shape_of PthreadCreate = shape.Begun
-shape_of PthreadJoin = shape.Two
-shape_of SchedYield = shape.Nothing
-shape_of Printf = shape.Text
-shape_of (external.Word f n) = shape.Nothing
-
-abbrev pub two_read : List Poisoned → Option Used
-two_read ps = or_used (word_read ps 0) (word_read ps 1)
-
-abbrev pub three_read : List Poisoned → Option Used
-three_read ps = or_used (two_read ps) (word_read ps 2)
-
--- of its words
-abbrev pub plain_read : List Poisoned → Shape → Option Used
-plain_read ps shape.Nothing = None
-plain_read ps shape.One = word_read ps 0
-plain_read ps shape.Two = two_read ps
-plain_read ps shape.Second = word_read ps 1
-plain_read ps shape.Begun = or_used (two_read ps) (word_read ps 3)
-plain_read ps shape.Three = three_read ps
-plain_read ps shape.Fill = or_used (word_read ps 0) (word_read ps 2)
-plain_read ps shape.Compared = three_read ps
-plain_read ps shape.Written = three_read ps
-plain_read ps shape.Text = word_read ps 0
-
--- of memory, after those
-abbrev pub memory_read : World → List Poisoned → Shape → Option Used
-memory_read w ps shape.Compared = or_used (bytes_read w ps 0 2) (bytes_read w ps 1 2)
-memory_read w ps shape.Written = bytes_read w ps 1 2
-memory_read w ps shape.Text = line_read w ps 0
-memory_read w ps _ = None
-
-abbrev pub shape_read : World → List Poisoned → Shape → Option Used
-shape_read w ps of = or_used (plain_read ps of) (memory_read w ps of)
-
--- the words of n operands from one with a place on
-abbrev pub words_read : List Poisoned → (k n : ℕ) → Option Used
-words_read ps k zero = None
-words_read ps k (suc n) = or_used (word_read ps k) (words_read ps (k + 1) n)
-
--- the strings at operands with types, counted from one with a place on, which are pointers for which a format asks a string
-abbrev pub strings_read : World → List Poisoned → ℕ → List (Ty × Operand) → Option Used
-strings_read w ps k [] = None
-strings_read w ps k (a ∷ args) = or_used (if type_eq a.0 ty.Ptr then asked_read w ps k else None) (strings_read w ps (k + 1) args)
-
--- whether an operation is a division, whose divisor is used
-abbrev pub divides : BinOp → Option ℕ
-divides Udiv = Some 1
-divides Sdiv = Some 1
-divides Urem = Some 1
-divides Srem = Some 1
-divides o = None
+-- what the first use of an operation that is poisoned reads, if one is
+abbrev pub op_read : World → List Poisoned → (main : Bool) → Option External → Op → Option Used
+op_read w ps main external o = first_read w ps (op_uses main external o)
 
 -- ---- words of code
 
@@ -178,45 +98,28 @@ divides o = None
 abbrev pub seen : (fill xs ms : List ℕ) → List WordSource → List Poisoned
 seen fill xs ms args = map (λ s. bare (word_of fill xs s) (mask_of ms s)) args
 
--- a source that is read as operand k
-abbrev pub operand_read : (ms : List ℕ) → ℕ → WordSource → Option Used
-operand_read ms k s = if eqb (mask_of ms s) 0 then None else Some (read.Operand k)
-
--- of n arguments of `printf`, those that it prints
-abbrev pub printed_read : World → List Poisoned → (n : ℕ) → Op → Option Used
-printed_read w ps n (op.Call ret callee typed) = or_used (words_read ps 1 (n - 1)) (strings_read w ps 1 (drop 1 typed))
-printed_read w ps n o = words_read ps 1 (n - 1)
-
-abbrev pub printf_read : World → List Poisoned → (n : ℕ) → External → Op → Option Used
-printf_read w ps n Printf o = printed_read w ps n o
-printf_read w ps n e o = None
-
--- of n arguments of an external
-abbrev pub arguments_read : World → List Poisoned → (n : ℕ) → External → Op → Option Used
-arguments_read w ps n e o = or_used (shape_read w ps (shape_of e)) (printf_read w ps n e o)
-
 -- of an instruction, by its code
 abbrev pub code_read : (fill xs ms : List ℕ) → World → Op → Code → Option Used
-code_read fill xs ms w o (code.Binary b flags width p q to) = option_and_then (λ k. operand_read ms k q) (divides b)
-code_read fill xs ms w o (code.Alloca size count to) = operand_read ms 0 count
-code_read fill xs ms w o (code.Load size mask addr to) = operand_read ms 0 addr
-code_read fill xs ms w o (code.Store size value addr) = operand_read ms 1 addr
-code_read fill xs ms w o (code.Branch c taken other) = operand_read ms 0 c
-code_read fill xs ms w o (code.Switch v cases other) = operand_read ms 0 v
-code_read fill xs ms w o (code.Exit v) = operand_read ms 0 v
-code_read fill xs ms w o (code.External e args to) = arguments_read w (seen fill xs ms args) (length args) e o
+code_read fill xs ms w o (code.Binary b flags width p q to) = op_read w (seen fill xs ms (p ∷ q ∷ [])) false None o
+code_read fill xs ms w o (code.Alloca size count to) = op_read w (seen fill xs ms (count ∷ [])) false None o
+code_read fill xs ms w o (code.Load size mask addr to) = op_read w (seen fill xs ms (addr ∷ [])) false None o
+code_read fill xs ms w o (code.Store size value addr) = op_read w (seen fill xs ms (value ∷ addr ∷ [])) false None o
+code_read fill xs ms w o (code.Branch c taken other) = op_read w (seen fill xs ms (c ∷ [])) false None o
+code_read fill xs ms w o (code.Switch v cases other) = op_read w (seen fill xs ms (v ∷ [])) false None o
+code_read fill xs ms w o (code.Exit v) = op_read w (seen fill xs ms (v ∷ [])) true None o
+code_read fill xs ms w o (code.External e args types to) = op_read w (seen fill xs ms args) false (Some e) o
 code_read fill xs ms w o k = None
 
--- what is used is there, among n values
+-- what it reads is there, among n values
 abbrev pub IsUsing : (n : ℕ) → Code → Type 0
-IsUsing n (code.Binary b flags width p q to) = IsSource n 64 q
+IsUsing n (code.Binary b flags width p q to) = IsSource n 64 p × IsSource n 64 q
 IsUsing n (code.Alloca size count to) = IsSource n 64 count
 IsUsing n (code.Load size mask addr to) = IsSource n 64 addr
-IsUsing n (code.Store size value addr) = IsSource n 64 addr
+IsUsing n (code.Store size value addr) = IsSource n 64 value × IsSource n 64 addr
 IsUsing n (code.Branch c taken other) = IsSource n 64 c
 IsUsing n (code.Switch v cases other) = IsSource n 64 v
 IsUsing n (code.Exit v) = IsSource n 64 v
-IsUsing n (code.External e args to) = All (IsSource n 64) args
+IsUsing n (code.External e args types to) = All (IsSource n 64) args
 IsUsing n k = Unit {0}
 
 -- ---- checks that found something, or nothing

@@ -1,19 +1,18 @@
 //! The first use of an instruction that is poisoned.
-ghost use Rattle.std.specs.Prelude.{◌≡◌, ◌<◌, length, get_or, drop, if◌then◌else◌, All, Some, None, option_and_then};
-ghost use Rattle.ms_ir.specs.{Instructions.{operands}, Equal.{type_eq}};
-ghost use Rattle.ms_runs.specs.World.{World as Meant};
+ghost use Rattle.std.specs.Prelude.{◌≡◌, ◌<◌, false, length, get_or, drop, map, All, Some, None};
+ghost use Rattle.ms_runs.specs.{World.{World as Meant}, Uses.{value_uses, string_uses}};
+ghost use Rattle.ms_runs_uses.specs.Uses.{use_of};
 ghost use Rattle.ms_machine_code.specs.Fits.{IsSource};
 ghost use Rattle.ms_host.specs.{State.{Beside}, Shows.{Shows}};
 ghost use Rattle.ms_trail_masks.specs.Views.{IsView};
-ghost use Rattle.ms_trail_uses.specs.Used.{seen, asked_read, strings_read, printed_read, arguments_read, divides, code_read, IsUsing, operand_read};
+ghost use Rattle.ms_trail_uses.specs.Used.{seen, or_used, first_read, string_use_read, op_read, code_read, IsUsing};
 
-use crate::used::{Used, arg_number, first_argument, line, or_else, printed_word, shape_of};
-use ms_bits::BinOp;
+use crate::used::{Used, used_by};
 use ms_host::World;
 use ms_ir::{External, Op, Operand, Ty};
 use ms_machine_code::{Code, WordSource};
-use ms_printf::asks_string;
-use ms_trail_masks::{View, mask_of};
+use ms_runs_uses::uses::{CheckedUse, checked_uses, printed_args, printed_string, printed_word};
+use ms_trail_masks::View;
 
 /// The operand with a place.
 pub fn typed_at(typed: &[(Ty, Operand)], k: usize) -> &(Ty, Operand)
@@ -23,30 +22,56 @@ pub fn typed_at(typed: &[(Ty, Operand)], k: usize) -> &(Ty, Operand)
     &typed[k]
 }
 
-/// Whether an operand is a pointer.
-fn is_pointer(typed: &(Ty, Operand)) -> bool
-    ensures { result ≡ type_eq typed.now.0 Ty.Ptr }
+/// The first of two uses.
+fn or_else(first: Option<Used>, second: Option<Used>) -> Option<Used>
+    ensures { result ≡ or_used first second }
 {
-    typed.0 == Ty::Ptr
-}
-
-/// A use of the string at an argument, where the format asks for one.
-fn asked_at(view: &View<'_>, world: &World, args: &[WordSource], k: usize) -> Option<Used>
-    requires view { IsView view.now }
-    requires args { All (IsSource (length view.now.values.now) 64) args.now }
-    ensures { (beside : Beside) (meant : Meant) → Shows world.now beside meant → result ≡ asked_read meant (seen view.now.fill.now view.now.values.now view.now.masks.now args.now) k }
-{
-    let format = arg_number(view, args, 0);
-    let asks = asks_string(world, format, k as u64);
-    if asks {
-        line(view, world, args, k)
-    } else {
-        None
+    match first {
+        Some(used) => Some(used),
+        None => second,
     }
 }
 
-/// A use of the string at an argument, where that is a pointer for which the format asks a string.
-fn asked(
+/// The first use of a table that is poisoned.
+fn first_listed(
+    view: &View<'_>,
+    world: &World,
+    args: &[WordSource],
+    uses: &[CheckedUse],
+) -> Option<Used>
+    requires view { IsView view.now }
+    requires args { All (IsSource (length view.now.values.now) 64) args.now }
+    ensures { (beside : Beside) (meant : Meant) → Shows world.now beside meant → result ≡ first_read meant (seen view.now.fill.now view.now.values.now view.now.masks.now args.now) (map use_of uses.now) }
+{
+    for checked in uses {
+        if let Some(used) = used_by(view, world, args, *checked) {
+            return Some(used);
+        }
+    }
+    None
+}
+
+/// The first argument of `printf` after its format whose word is poisoned.
+fn first_word(
+    view: &View<'_>,
+    world: &World,
+    args: &[WordSource],
+    typed: &[(Ty, Operand)],
+) -> Option<Used>
+    requires view { IsView view.now }
+    requires args { All (IsSource (length view.now.values.now) 64) args.now }
+    ensures { (beside : Beside) (meant : Meant) → Shows world.now beside meant → result ≡ first_read meant (seen view.now.fill.now view.now.values.now view.now.masks.now args.now) (value_uses 1 (drop 1 typed.now)) }
+{
+    for k in 1..typed.len() {
+        if let Some(used) = used_by(view, world, args, printed_word(k)) {
+            return Some(used);
+        }
+    }
+    None
+}
+
+/// A use of the string at an argument of `printf` after its format.
+fn string_at(
     view: &View<'_>,
     world: &World,
     args: &[WordSource],
@@ -55,18 +80,16 @@ fn asked(
 ) -> Option<Used>
     requires view { IsView view.now }
     requires args { All (IsSource (length view.now.values.now) 64) args.now }
-    ensures { (beside : Beside) (meant : Meant) → Shows world.now beside meant → result ≡ (if type_eq typed.now.0 Ty.Ptr then asked_read meant (seen view.now.fill.now view.now.values.now view.now.masks.now args.now) k else None) }
+    ensures { (beside : Beside) (meant : Meant) → Shows world.now beside meant → result ≡ string_use_read meant (seen view.now.fill.now view.now.values.now view.now.masks.now args.now) typed.now.0 k }
 {
-    let pointer = is_pointer(typed);
-    if pointer {
-        asked_at(view, world, args, k)
-    } else {
-        None
+    match printed_string(&typed.0, k) {
+        Some(checked) => used_by(view, world, args, checked),
+        None => None,
     }
 }
 
 /// The first poisoned byte of a string that `printf` prints.
-fn printed_byte(
+fn first_string(
     view: &View<'_>,
     world: &World,
     args: &[WordSource],
@@ -74,89 +97,50 @@ fn printed_byte(
 ) -> Option<Used>
     requires view { IsView view.now }
     requires args { All (IsSource (length view.now.values.now) 64) args.now }
-    ensures { (beside : Beside) (meant : Meant) → Shows world.now beside meant → result ≡ strings_read meant (seen view.now.fill.now view.now.values.now view.now.masks.now args.now) 1 (drop 1 typed.now) }
+    ensures { (beside : Beside) (meant : Meant) → Shows world.now beside meant → result ≡ first_read meant (seen view.now.fill.now view.now.values.now view.now.masks.now args.now) (string_uses 1 (drop 1 typed.now)) }
 {
     for k in 1..typed.len() {
         let pair = typed_at(typed, k);
-        if let Some(used) = asked(view, world, args, pair, k) {
+        if let Some(used) = string_at(view, world, args, pair, k) {
             return Some(used);
         }
     }
     None
 }
 
-/// A use of what `printf` prints.
-fn printed(view: &View<'_>, world: &World, args: &[WordSource], op: &Op) -> Option<Used>
-    requires view { IsView view.now }
-    requires args { All (IsSource (length view.now.values.now) 64) args.now }
-    ensures { (beside : Beside) (meant : Meant) → Shows world.now beside meant → result ≡ printed_read meant (seen view.now.fill.now view.now.values.now view.now.masks.now args.now) (length args.now) op.now }
-{
-    let first = printed_word(view, args);
-    match op {
-        Op::Call { args: typed, .. } => {
-            let second = printed_byte(view, world, args, typed.as_slice());
-            or_else(first, second)
-        }
-        _ => first,
-    }
-}
-
-/// A use of the arguments of an external.
-fn arguments(
+/// The first use of an operation that is poisoned and calls no external, of operands that are read from sources; `main` says
+/// whether it stands in the function `main`.
+fn first_plain(
     view: &View<'_>,
     world: &World,
-    external: External,
     args: &[WordSource],
+    main: bool,
     op: &Op,
 ) -> Option<Used>
     requires view { IsView view.now }
     requires args { All (IsSource (length view.now.values.now) 64) args.now }
-    ensures { (beside : Beside) (meant : Meant) → Shows world.now beside meant → result ≡ arguments_read meant (seen view.now.fill.now view.now.values.now view.now.masks.now args.now) (length args.now) external op.now }
+    ensures { (beside : Beside) (meant : Meant) → Shows world.now beside meant → result ≡ op_read meant (seen view.now.fill.now view.now.values.now view.now.masks.now args.now) main None op.now }
 {
-    let first = first_argument(view, world, args, shape_of(external));
-    match external {
-        External::Printf => {
-            let second = printed(view, world, args, op);
-            or_else(first, second)
-        }
-        _ => first,
-    }
+    first_listed(view, world, args, checked_uses(main, None, op))
 }
 
-/// A use of an operand as a word, by its place.
-fn operand(view: &View<'_>, source: WordSource, k: usize) -> Option<Used>
+/// The first use of a call of an external that is poisoned.
+fn first_called(
+    view: &View<'_>,
+    world: &World,
+    args: &[WordSource],
+    external: External,
+    op: &Op,
+) -> Option<Used>
     requires view { IsView view.now }
-    requires source { IsSource (length view.now.values.now) 64 source }
-    ensures { result ≡ operand_read view.now.masks.now k source }
+    requires args { All (IsSource (length view.now.values.now) 64) args.now }
+    ensures { (beside : Beside) (meant : Meant) → Shows world.now beside meant → result ≡ op_read meant (seen view.now.fill.now view.now.values.now view.now.masks.now args.now) false (Some external) op.now }
 {
-    let mask = mask_of(view, 64, source);
-    if mask != 0 {
-        Some(Used::Operand(k))
-    } else {
-        None
-    }
-}
-
-/// The place of a divisor.
-fn divisor(op: BinOp) -> Option<usize>
-    ensures { result ≡ divides op }
-{
-    match op {
-        BinOp::Udiv | BinOp::Sdiv | BinOp::Urem | BinOp::Srem => Some(1),
-        _ => None,
-    }
-}
-
-/// A use of a divisor.
-fn divided(view: &View<'_>, op: BinOp, source: WordSource) -> Option<Used>
-    requires view { IsView view.now }
-    requires source { IsSource (length view.now.values.now) 64 source }
-    ensures { result ≡ option_and_then (λ k. operand_read view.now.masks.now k source) (divides op) }
-{
-    match divisor(op) {
-        Some(k) => operand(view, source, k),
-        None => None,
-    }
+    let listed = first_listed(view, world, args, checked_uses(false, Some(external), op));
+    let printed = printed_args(Some(external), op);
+    let word = first_word(view, world, args, printed);
+    let string = first_string(view, world, args, printed);
+    or_else(listed, or_else(word, string))
 }
 
 /// The first use of an instruction that is poisoned: `op` is the operation that its code stands for.
@@ -166,18 +150,16 @@ pub fn first_used(view: &View<'_>, world: &World, code: &Code, op: &Op) -> Optio
     ensures { (beside : Beside) (meant : Meant) → Shows world.now beside meant → result ≡ code_read view.now.fill.now view.now.values.now view.now.masks.now meant op.now code.now }
 {
     match code {
-        Code::Binary { op: by, b, .. } => divided(view, *by, *b),
-        Code::Alloca { count, .. } => operand(view, *count, 0),
-        Code::Load { addr, .. } => operand(view, *addr, 0),
-        Code::Store { addr, .. } => operand(view, *addr, 1),
-        Code::Branch { cond, .. } => operand(view, *cond, 0),
-        Code::Switch { value, .. } => operand(view, *value, 0),
-        Code::Exit { value } => operand(view, *value, 0),
-        Code::External {
-            external: named,
-            args,
-            ..
-        } => arguments(view, world, *named, args.as_slice(), op),
+        Code::Binary { a, b, .. } => first_plain(view, world, &[*a, *b], false, op),
+        Code::Alloca { count, .. } => first_plain(view, world, &[*count], false, op),
+        Code::Load { addr, .. } => first_plain(view, world, &[*addr], false, op),
+        Code::Store { value, addr, .. } => first_plain(view, world, &[*value, *addr], false, op),
+        Code::Branch { cond, .. } => first_plain(view, world, &[*cond], false, op),
+        Code::Switch { value, .. } => first_plain(view, world, &[*value], false, op),
+        Code::Exit { value } => first_plain(view, world, &[*value], true, op),
+        Code::External { external, args, .. } => {
+            first_called(view, world, args.as_slice(), *external, op)
+        }
         _ => None,
     }
 }

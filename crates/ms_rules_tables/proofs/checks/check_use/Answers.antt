@@ -5,8 +5,8 @@ use Rattle.ms_pass_tasks.specs.Environments.{tracked_at, word_of, number}
 use Rattle.ms_pass_tasks.specs.CheckTasks.{use_tasks}
 use Rattle.ms_rules_builder.specs.Made.{with_tasks}
 use Rattle.ms_rules_builder.specs.Steps.{tracked_of}
-use Rattle.ms_rules_tables.specs.declared.uses.CheckedUse.{CheckedUse}
-use Rattle.ms_rules_tables.specs.Tables.{use_of}
+use Rattle.ms_runs_uses.specs.declared.uses.CheckedUse.{CheckedUse}
+use Rattle.ms_runs_uses.specs.Uses.{use_of}
 use Rattle.ms_rules_tables.proofs.checks.check_use.Goals as goal
 
 pub returns-in-Bytes : goal.returns-in-Bytes

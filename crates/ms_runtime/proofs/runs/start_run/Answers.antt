@@ -6,7 +6,6 @@ use Rattle.ms_ir.specs.Instructions.{over_funcs}
 use Rattle.ms_ir.specs.Roots.{roots_of}
 use Rattle.ms_check_valid.specs.Formed.{Formed}
 use Rattle.ms_check_valid.proofs.SmallNumbers.{small_numbers}
-use Rattle.ms_printf.specs.CallSites.{AreCallSites}
 use Rattle.ms_runtime.proofs.RootCounts.{roots_counted, few_roots, few_insts}
 use Rattle.ms_runtime.proofs.Goings.{going_begun}
 use Rattle.ms_runtime.proofs.runs.start_run.Goals as goal
@@ -27,9 +26,6 @@ new-requires c = few c.args.m.now c.law_valid.ensures.formed c.as_slice-count.re
 near : (steps all : ℕ) → steps ≤ 1000000000 → all < 2 ^ 30 → 0 + (steps * (all + 1) + (all - 0)) ≤ 2 ^ 62
 near steps all few little = omega (arith, mul-le-mul_right (all + 1) few, little)
 
-pub of-requires : goal.of-requires
-of-requires c = record { small = small_numbers c.module-code.result.now (subst Formed (sym c.module-code.ensures) c.law_valid.ensures.formed) }
-
 pub returns-clause-begins : goal.returns-clause-begins
 returns-clause-begins c =
     let m = c.args.m.now in
@@ -45,7 +41,6 @@ returns-clause-begins c =
         room = omega (arith, c.in_ok-fiber.ensures.made, limits.steps);
         blind = let at : over_funcs (λ inst. 1) m.funcs - c.in_ok-fiber.fiber.frame.at ≤ over_funcs (λ inst. 1) m.funcs = omega arith in
             omega (arith, near u.steps (over_funcs (λ inst. 1) m.funcs) limits.steps (few_insts m formed), at);
-        printf = subst (λ (x : Module). AreCallSites x c.in_ok-printf.printf.calls) c.module-code.ensures c.in_ok-printf.ensures;
       };
       budget = refl;
     }

@@ -1,28 +1,18 @@
 use Rattle.std.proofs.Common.{◌≡◌, sym, ap, subst, ◌∙◌, List}
 use Rattle.std.specs.Prelude.{IfOk}
 use Rattle.ms_ir.specs.declared.calls.External.TheVariants as external
-use Rattle.ms_ir.specs.declared.syntax.Module.{Module}
 use Rattle.ms_ir.specs.declared.syntax.Ty.{Ty}
-use Rattle.ms_check_valid.specs.Formed.{Formed}
-use Rattle.ms_check_valid.proofs.SmallNumbers.{small_numbers}
 use Rattle.ms_runs.specs.Externals.{formatted, prints}
 use Rattle.ms_runs.specs.Plain.{setting_of}
 use Rattle.ms_host.specs.Answers.{Answered, effect_asked}
 use Rattle.ms_host.specs.State.{nothing_beside}
 use Rattle.ms_host.specs.declared.calls.Asked.{Asked}
 use Rattle.ms_host.specs.declared.calls.Asked.TheVariants as asked
-use Rattle.ms_printf.specs.CallSites.{AreCallSites}
 use Rattle.ms_machine_steps.specs.Waiting.{types_due}
 use Rattle.ms_machine_steps.proofs.Asking.{are_arguments}
 use Rattle.ms_runtime.specs.Served.{CanAnswer}
-use Rattle.ms_runtime.proofs.Fitting.{if_ok, alone, fits_first, at_call}
+use Rattle.ms_runtime.proofs.Fitting.{if_ok, alone, fits_first}
 use Rattle.ms_trail.proofs.externals.answered.Goals as goal
-
-pub answer_printf-requires : goal.answer_printf-requires
-answer_printf-requires c = record {
-  small = small_numbers c.«module».result.now (subst Formed (sym c.«module».ensures) c.law_valid.ensures.formed);
-  sites = subst (λ (m : Module). AreCallSites m c.args.printf.now.calls) (sym c.«module».ensures) c.requires.sites;
-}
 
 pub answer-requires-clause-external : goal.answer-requires-clause-external
 answer-requires-clause-external c =
@@ -34,12 +24,12 @@ answer-requires-clause-first c =
     fits_first c.args.call.now.asked _ c.args.call.now.args (are_arguments c.args.m.now c.law_valid.ensures.valid w.0 w.1 w.2 w.3.0 c.args.call.now w.3.1).words
 
 pub returns-in-Printf-clause-answered : goal.returns-in-Printf-clause-answered
-returns-in-Printf-clause-answered c = λ u frames beside meant waits fill shows.
+returns-in-Printf-clause-answered c = λ u frames beside meant standing waits fill shows.
     let is_printf : c.args.call.now.asked ≡ asked.External external.Printf = c.requires.asked ∙ ap asked.External c.in-Printf.is in
-    if_ok c.answer_printf.result
-    (λ a answered. subst (λ (x : Asked). Answered beside (effect_asked (setting_of c.args.m.now u) c.args.call.now.site x (types_due c.args.m.now frames) c.args.call.now.args meant) a c.answer_printf.new.world) (sym is_printf) answered)
-    (at_call (λ (ts : List Ty). IfOk c.answer_printf.result (λ a. Answered beside (prints c.args.call.now.site (formatted meant ts c.args.call.now.args) meant) a c.answer_printf.new.world))
-    c.args.m.now c.«module».result.now c.«module».ensures u c.args.call.now frames external.Printf is_printf waits (λ place inst is there. c.answer_printf.ensures.answered place inst is there beside meant shows))
+    if_ok c.answer_typed.result
+    (λ a answered. subst (λ (x : Asked). Answered beside (effect_asked (setting_of c.args.m.now u) c.args.call.now.site x (types_due c.args.m.now frames) c.args.call.now.args meant) a c.answer_typed.new.world) (sym is_printf) answered)
+    (subst (λ (ts : List Ty). IfOk c.answer_typed.result (λ a. Answered beside (prints c.args.call.now.site (formatted meant ts c.args.call.now.args) meant) a c.answer_typed.new.world))
+    (c.printed_types.ensures u frames c.args.call.now standing waits is_printf) (c.answer_typed.ensures.answered beside meant shows))
 
 pub returns-in_default-clause-answered : goal.returns-in_default-clause-answered
-returns-in_default-clause-answered c = λ u frames beside meant waits fill shows. c.answer.ensures.answered (setting_of c.args.m.now u) (types_due c.args.m.now frames) beside meant fill shows
+returns-in_default-clause-answered c = λ u frames beside meant standing waits fill shows. c.answer.ensures.answered (setting_of c.args.m.now u) (types_due c.args.m.now frames) beside meant fill shows

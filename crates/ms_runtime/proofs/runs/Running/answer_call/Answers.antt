@@ -33,7 +33,7 @@ returns-in-Resumed c = record {
       let m = c.args.m.now in
       asked_goes_on m u c.program-code.result.now c.program-code.ensures c.law_valid.ensures.formed c.law_valid.ensures.valid c.args.self.now c.args.call a c.answer_of.new.self c.in-Resumed.value
       (subst (λ (x : Answer). AnsweredFor m u c.args.call a.asking.within x c.args.self.now c.answer_of.new.self) c.in-Resumed.is (c.in_ok-end.ensures.answered u same a.asking))
-      _ refl refl refl refl refl (c.keep.ensures.at ∙ c.resume.ensures.at)
+      _ refl refl refl refl (c.keep.ensures.at ∙ c.resume.ensures.at)
       (record { spawned = c.keep.ensures.own.spawned ∙ c.resume.ensures.own.spawned; heap = c.keep.ensures.own.heap ∙ c.resume.ensures.own.heap })
       (λ frame below stands waits. subst (λ (ks : List Kept). AllStandFor m ks (answered m c.in-Resumed.value frame ∷ below)) (sym c.keep.ensures.frames) (c.resume.ensures.stands u frame below c.args.call stands waits));
 }

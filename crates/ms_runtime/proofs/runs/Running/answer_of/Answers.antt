@@ -2,24 +2,17 @@ use Rattle.std.proofs.Common.{◌≡◌, IfOk, arith, refl, sym, ap, subst, ◌�
 use denote.Enum.Declared.{tag_of}
 use Rattle.ms_ir.specs.contracts.calls.External.{the_type}
 use Rattle.ms_ir.specs.declared.calls.External.TheVariants as external
-use Rattle.ms_ir.specs.declared.syntax.Module.{Module}
-use Rattle.ms_check_valid.specs.Formed.{Formed}
-use Rattle.ms_check_valid.proofs.SmallNumbers.{small_numbers}
 use Rattle.ms_runs.specs.Externals.{formatted, prints}
 use Rattle.ms_runs.specs.Plain.{setting_of}
 use Rattle.ms_host.specs.Answers.{Answered, effect_asked}
 use Rattle.ms_host.specs.declared.calls.Asked.{Asked}
 use Rattle.ms_host.specs.declared.calls.Asked.TheVariants as asked
-use Rattle.ms_printf.specs.CallSites.{AreCallSites}
 use Rattle.ms_machine_steps.specs.Waiting.{types_due}
-use Rattle.ms_runtime.proofs.Fitting.{if_ok, if_ok_both, arguments_of, fits_asked, fits_first, slack_of, alone, served_fibers, has_room, within_room, at_call}
+use Rattle.ms_runtime.proofs.Fitting.{if_ok, if_ok_both, arguments_of, fits_asked, fits_first, slack_of, alone, served_fibers, has_room, within_room}
 use Rattle.ms_runtime.proofs.runs.Running.answer_of.Goals as goal
 
-pub answer_printf-requires : goal.answer_printf-requires
-answer_printf-requires c = record {
-  small = small_numbers c.«module».result.now (subst Formed (sym c.«module».ensures) c.law_valid.ensures.formed);
-  sites = subst (λ (m : Module). AreCallSites m c.args.self.now.printf.calls) (sym c.«module».ensures) c.requires.asking.1.1.keeping.printf;
-}
+pub printed_types-types-requires : goal.printed_types-types-requires
+printed_types-types-requires c = let q = c.requires.asking in (q.0, q.1.1.within.frames, c.args.call.now, (q.1.1.stands.frames, q.1.1.waits))
 
 pub answer-requires-clause-external : goal.answer-requires-clause-external
 answer-requires-clause-external c =
@@ -44,24 +37,22 @@ returns-in-External-Printf c = record {
       let which : c.in-External-Printf.field-0 ≡ external.Printf = rw c.in-External-Printf.is at c.in-External-Printf.field-0-is in
       let is_printf : c.args.call.now.asked ≡ asked.External external.Printf = c.in-External-Printf.is ∙ ap asked.External which in
       let types = types_due c.args.m.now q.within.frames in
-      if_ok c.answer_printf.result
+      if_ok c.answer_typed.result
       (λ a answered. record {
         beside = q.beside;
         told = q.told;
         fibers = sym q.stands.shows.fibers;
-        answered = subst (λ (x : Asked). Answered q.beside (effect_asked (setting_of c.args.m.now u) c.args.call.now.site x types c.args.call.now.args q.within.world) a c.answer_printf.new.world) (sym is_printf) answered;
+        answered = subst (λ (x : Asked). Answered q.beside (effect_asked (setting_of c.args.m.now u) c.args.call.now.site x types c.args.call.now.args q.within.world) a c.answer_typed.new.world) (sym is_printf) answered;
         few = has_room u a _ q.keeping.few;
         blind = omega arith;
         roots = refl;
-        room = omega (arith, c.answer_printf.ensures.made, q.keeping.room);
-        keeps = c.answer_printf.ensures.keeps;
+        room = omega (arith, c.answer_typed.ensures.made, q.keeping.room);
+        keeps = c.answer_typed.ensures.keeps;
         fiber = refl;
         budget = refl;
-        printf = refl;
       })
-      (at_call (λ ts. IfOk c.answer_printf.result (λ a. Answered q.beside (prints c.args.call.now.site (formatted q.within.world ts c.args.call.now.args) q.within.world) a c.answer_printf.new.world))
-      c.args.m.now c.«module».result.now c.«module».ensures u c.args.call.now q.within.frames c.in-External-Printf.field-0 c.in-External-Printf.is q.waits
-      (λ place inst is there. c.answer_printf.ensures.answered place inst is there q.beside q.within.world q.stands.shows));
+      (subst (λ ts. IfOk c.answer_typed.result (λ a. Answered q.beside (prints c.args.call.now.site (formatted q.within.world ts c.args.call.now.args) q.within.world) a c.answer_typed.new.world))
+      (c.printed_types-types.ensures u q.within.frames c.args.call.now q.stands.frames q.waits is_printf) (c.answer_typed.ensures.answered q.beside q.within.world q.stands.shows));
 }
 
 pub returns-in-External : goal.returns-in-External
@@ -81,7 +72,6 @@ returns-in-External c = record {
         keeps = c.answer.ensures.keeps;
         fiber = refl;
         budget = refl;
-        printf = refl;
       })
       (c.answer.ensures.answered (setting_of c.args.m.now u) (types_due c.args.m.now q.within.frames) q.beside q.within.world q.stands.fill q.stands.shows);
 }
@@ -102,7 +92,6 @@ returns-in-Runtime c = record {
         keeps = c.serve.ensures.keeps;
         fiber = refl;
         budget = refl;
-        printf = refl;
       })
       (c.serve.ensures.served (setting_of c.args.m.now u) (types_due c.args.m.now q.within.frames) q.beside q.within.world (record { same_roots = sym q.keeping.roots; same_limit = same }) q.told q.can q.stands.shows)
       c.serve.ensures.within;

@@ -24,7 +24,7 @@ answer_call-requires c =
         u,
         (
           q.1.0,
-          going_asks m u old g _ refl refl refl c.in-Asked.call
+          going_asks m u old g _ refl refl c.in-Asked.call
               (subst (λ (x : Pause). Advanced (IsRunning m u g.beside) m u g.beside g.state old.budget.left old.fiber.frame.at x c.advance.new.fiber c.advance.new.world c.advance.new.budget.left) c.in-Asked.is
               (c.in_ok-advance.ensures.advanced u g.beside g.state g.stands)) c.advance.ensures.made,
         ),
@@ -36,7 +36,7 @@ returns-in-Spent c = record {
   turned = λ u same g.
       let m = c.args.m.now in
       let old = c.args.self.now in
-      going_spent m u old g _ refl refl refl
+      going_spent m u old g _ refl refl
       (subst (λ (x : Pause). Advanced (IsRunning m u g.beside) m u g.beside g.state old.budget.left old.fiber.frame.at x c.advance.new.fiber c.advance.new.world c.advance.new.budget.left) c.in-Spent.is
       (c.in_ok-advance.ensures.advanced u g.beside g.state g.stands));
 }
@@ -46,7 +46,7 @@ returns-in-Ended c = record {
   turned = λ u same g.
       let m = c.args.m.now in
       let old = c.args.self.now in
-      going_ended m u old g _ refl refl refl c.in-Ended.end
+      going_ended m u old g _ refl refl c.in-Ended.end
       (subst (λ (x : Pause). Advanced (IsRunning m u g.beside) m u g.beside g.state old.budget.left old.fiber.frame.at x c.advance.new.fiber c.advance.new.world c.advance.new.budget.left) c.in-Ended.is
       (c.in_ok-advance.ensures.advanced u g.beside g.state g.stands));
 }
@@ -56,9 +56,9 @@ returns-in-Finished c = record {
   turned = λ u same g.
       let m = c.args.m.now in
       let old = c.args.self.now in
-      let later : Running = record { fiber = c.advance.new.fiber; world = c.advance.new.world; depot = old.depot; told = old.told; budget = c.advance.new.budget; printf = old.printf } in
+      let later : Running = record { fiber = c.advance.new.fiber; world = c.advance.new.world; depot = old.depot; told = old.told; budget = c.advance.new.budget } in
       subst (λ (e : End). Over m u e later) (sym c.no_caller.ensures)
-      (going_finished m u old g later refl refl refl c.in-Finished.value
+      (going_finished m u old g later refl refl c.in-Finished.value
       (subst (λ (x : Pause). Advanced (IsRunning m u g.beside) m u g.beside g.state old.budget.left old.fiber.frame.at x c.advance.new.fiber c.advance.new.world c.advance.new.budget.left) c.in-Finished.is
       (c.in_ok-advance.ensures.advanced u g.beside g.state g.stands)));
 }
@@ -68,10 +68,10 @@ returns-in-Asked c = record {
   turned = λ u same g.
       let m = c.args.m.now in
       let old = c.args.self.now in
-      let later : Running = record { fiber = c.advance.new.fiber; world = c.advance.new.world; depot = old.depot; told = old.told; budget = c.advance.new.budget; printf = old.printf } in
+      let later : Running = record { fiber = c.advance.new.fiber; world = c.advance.new.world; depot = old.depot; told = old.told; budget = c.advance.new.budget } in
       let h = subst (λ (x : Pause). Advanced (IsRunning m u g.beside) m u g.beside g.state old.budget.left old.fiber.frame.at x c.advance.new.fiber c.advance.new.world c.advance.new.budget.left) c.in-Asked.is
       (c.in_ok-advance.ensures.advanced u g.beside g.state g.stands) in
       if_ok c.answer_call.result
       (λ e. turned_from m u (ahead m old) (ahead m later) e c.answer_call.new.self (not_further m u g.beside g.state old later g.keeping.room c.in-Asked.call h c.advance.ensures.made))
-      (c.answer_call.ensures.turned u same (going_asks m u old g later refl refl refl c.in-Asked.call h c.advance.ensures.made));
+      (c.answer_call.ensures.turned u same (going_asks m u old g later refl refl c.in-Asked.call h c.advance.ensures.made));
 }

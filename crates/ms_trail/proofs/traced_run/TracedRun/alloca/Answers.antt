@@ -116,7 +116,7 @@ returns-in_ok-unset-clause-went c = λ u t o passes.
     (asks_nothing m old.fiber old.world c.args.code.now c.requires.ready.due (subst IsInward (sym c.requires.is) tt) u nothing_beside o.state o.running))
     in
     alloca_on m u t old o c.args.code.now passes c.requires.ready.due stepped.0 stepped.1.0 c.args.size c.args.count c.args.to c.requires.is new world stepped.1.1 c.value_at-base.result c.own_root-root.result c.value-many.result c.due_site-site.result
-    c.row-row.result c.row-row.ensures c.value_at-base.ensures c.value-many.ensures c.own_root-root.ensures c.due_site-site.ensures (record { whole = refl; below = refl; made = refl; tables = refl; printf = refl; fill = refl }) refl c.put_mask.ensures refl
+    c.row-row.result c.row-row.ensures c.value_at-base.ensures c.value-many.ensures c.own_root-root.ensures c.due_site-site.ensures (record { whole = refl; below = refl; made = refl; tables = refl; fill = refl }) refl c.put_mask.ensures refl
     c.unset.ensures.keeps (c.in_ok-unset.ensures.unset nothing_beside stepped.0.world t.moves stepped.1.1.shows stepped.1.1.sound.world o.log)
 
 pub returns-in_ok-unset-clause-grew : goal.returns-in_ok-unset-clause-grew

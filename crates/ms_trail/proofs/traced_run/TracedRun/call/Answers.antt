@@ -165,7 +165,7 @@ returns-in_ok-push-clause-went c = λ u t o passes.
     in
     call_on m u t old o c.args.code.now passes c.requires.ready.due stepped.0 stepped.1.0 c.law_valid.ensures.formed c.law_valid.ensures.valid c.args.func c.args.args.now c.args.to c.requires.is fiber world stepped.1.1 c.function_at-callee.result.now
     (ap (λ (x : Module). slice_get x.funcs c.args.func) (sym c.«module».ensures) ∙ c.function_at-callee.ensures) c.clean_after.new.masks.items (c.in_ok-clean_after.ensures ∙ (λ j. (c.in_ok-masks.ensures ∙ args_are) j ++ replicate (many_values j - length ((c.in_ok-masks.ensures ∙ args_are) j)) 0)) new refl refl
-    (record { whole = refl; tables = refl; printf = refl; fill = refl }) (c.in_ok-push.ensures.items ∙ ap (λ (x : FrameMasks). old.below.items ++ x ∷ []) c.replace-caller.ensures.value) refl refl (ap (λ (x : FrameMasks). x.masks.items) c.replace-caller.ensures.after)
+    (record { whole = refl; tables = refl; fill = refl }) (c.in_ok-push.ensures.items ∙ ap (λ (x : FrameMasks). old.below.items ++ x ∷ []) c.replace-caller.ensures.value) refl refl (ap (λ (x : FrameMasks). x.masks.items) c.replace-caller.ensures.after)
     (ap (λ (x : FrameMasks). x.number) c.replace-caller.ensures.after) c.row-row.result c.row-row.ensures c.due_site-site.result c.due_site-site.ensures
     (subst (λ (ms : List Move). IsLog c.tell_params.new.log (t.moves ++ ms))
     (λ j. params_told old.event c.due_site-site.result old.made (c.as_slice-params.ensures j) ((c.as_slice-own.ensures.value ∙ ap (λ (x : FrameMasks). x.masks.items) c.replace-caller.ensures.after) j)

@@ -89,8 +89,15 @@ answered-requires-clause-waits c =
     let sited = site_is_here m r.setup r.run old r.is c.args.code.now r.passes r.due c.args.external c.args.args.now c.args.to c.requires.is c.due_site-site.result c.due_site-site.ensures in
     waits_some m r.setup r.run old r.is c.args.code.now r.passes r.due c.args.external c.args.args.now c.args.to c.requires.is c.from_vec.result c.due_site-site.result given_is sited
 
-pub answered-requires-clause-sites : goal.answered-requires-clause-sites
-answered-requires-clause-sites c = c.requires.ready.is.printf
+pub answered-requires-clause-standing : goal.answered-requires-clause-standing
+answered-requires-clause-standing c =
+    let r : IsReady c.args.self.now c.args.code.now = c.requires.ready in
+    let old : TracedRun = c.args.self.now in
+    let m = old.m.now in
+    let given_is : c.from_vec.result ≡ words_of old.fill.now old.fiber.frame.values.items c.args.args.now =
+    c.from_vec.ensures ∙ c.in_ok-asked_words.ensures ∙ (λ j. words_of (c.view-view.ensures.fill j) (c.view-view.ensures.values j) c.args.args.now) in
+    let sited = site_is_here m r.setup r.run old r.is c.args.code.now r.passes r.due c.args.external c.args.args.now c.args.to c.requires.is c.due_site-site.result c.due_site-site.ensures in
+    waits_for m r.setup r.run old r.is c.args.code.now r.passes r.due c.args.external c.args.args.now c.args.to c.requires.is c.from_vec.result c.due_site-site.result given_is sited
 
 pub resume-requires : goal.resume-requires
 resume-requires c =
@@ -162,7 +169,7 @@ returns-in-Ended-clause-went c = λ u t o passes.
     let sited = site_is_here m u t old o k passes due e as' c.args.to c.requires.is site c.due_site-site.ensures in
     let asks : Effect = asked_effect (setting_of m u) (types_due m o.state.frames) (call m u t old o k passes due e as' c.args.to c.requires.is c.from_vec.result site given_is sited) o.state.world in
     let came = subst (λ (a : Answer). Answered nothing_beside asks a c.answered.new.world) c.in-Ended.is
-    (c.in_ok-answer.ensures.answered u o.state.frames nothing_beside o.state.world (first_waits m u t old o k passes due e as' c.args.to c.requires.is c.from_vec.result site given_is sited) o.running.fill o.running.shows) in
+    (c.in_ok-answer.ensures.answered u o.state.frames nothing_beside o.state.world o.running.frames (first_waits m u t old o k passes due e as' c.args.to c.requires.is c.from_vec.result site given_is sited) o.running.fill o.running.shows) in
     let ends = ended_is nothing_beside asks c.in-Ended.field-0 c.answered.new.world came in
     outside_over m u t old o k passes due c.law_valid.ensures.valid e as' c.args.to c.requires.is c.from_vec.result site given_is sited c.in-Ended.field-0 ends.0 ends.1
 
@@ -189,7 +196,7 @@ returns-in_ok-shade_memory-in-Resumed-clause-went c = λ u t o passes.
     let value = c.in-Resumed.value in
     let world = c.answered.new.world in
     let came : Answered nothing_beside asks (answer.Resumed value) world = subst (λ (a : Answer). Answered nothing_beside asks a world) c.in-Resumed.is
-    (c.in_ok-answer.ensures.answered u o.state.frames nothing_beside o.state.world waits o.running.fill o.running.shows) in
+    (c.in_ok-answer.ensures.answered u o.state.frames nothing_beside o.state.world o.running.frames waits o.running.fill o.running.shows) in
     let effect = resumed_is nothing_beside asks value world came in
     let kept = c.answered.ensures.keeps in
     let on = c.resume.ensures.continues u nothing_beside nothing_beside old.world world o.state (call m u t old o k passes due e as' to is_call given site given_is sited) o.running waits came kept.fill kept.slots in
@@ -215,8 +222,8 @@ returns-in_ok-shade_memory-in-Resumed-clause-went c = λ u t o passes.
     let done = subst (λ (g : ℕ). Done nothing_beside old.event site (c.row-row.result.roots + count_undefs (operands c.row-row.result.inst.now.op) + 1) ps (sources old.shade.number (operands c.row-row.result.inst.now.op) c.row-row.result.roots) t.state.world g on.next.world moves c.shade_memory.new.world c.shade_memory.new.log e) given_value
     (c.in_ok-shade_memory-in-Resumed.ensures.shaded nothing_beside on.next.world t.state.world ps moves words masks size (subst (λ (g : ℕ). Facts e ps t.state.world g on.next.world) (sym given_value) facts) on.stands.shows on.stands.sound.world (c.in_ok-note_answer-in-Resumed.ensures.told t.moves o.log)) in
     outside_on m u t old o k passes due valid e as' to is_call given site given_is sited value effect.0 effect.1.0 on.next on.goes.0 new world on.stands c.shade_memory.ensures.keeps c.answer_mask-mask.result c.last_of-from.result c.row-row.result c.row-row.ensures
-    c.due_site-site.ensures (record { whole = refl; below = refl; made = refl; tables = refl; printf = refl; fill = refl }) refl refl
-    (c.in_ok-note_answer-in-Resumed.ensures.masks ∙ ap (λ x. noted_masks (put_of x) value c.answer_mask-mask.result old.shade.masks.items) is_call)
+    c.due_site-site.ensures (record { whole = refl; below = refl; made = refl; tables = refl; fill = refl }) refl refl
+    (c.in_ok-note_answer-in-Resumed.ensures.masks ∙ ap (λ x. noted_masks (put_of x) value c.answer_mask-mask.result old.shade.masks.items) is_call.1)
     (c.answer_mask-mask.ensures ps (c.as_slice-values.ensures.value ∙ words) (c.as_slice-shades.ensures.value ∙ masks))
     (c.last_of-from.ensures ∙ ap (λ (ms : List ℕ). last_masked 0 ms 0) (c.as_slice-shades.ensures.value ∙ masks)) done
 

@@ -54,7 +54,7 @@ returns-in_ok-tell_result-clause-went c = λ u t o passes.
     (subst (λ (b : Bool). Stepped m u nothing_beside o.state b fiber world) c.if-on.true
     (c.in_ok-on.ensures.stepped u nothing_beside o.state o.running (computed_asks m old.fiber old.world c.args.code.now c.requires.ready.due _ c.requires.computed u nothing_beside o.state o.running)))
     c.requires.computed c.requires.sets
-    c.row-row.ensures c.result_of-found.ensures.mask c.result_of-found.ensures.place (record { whole = refl; below = refl; made = refl; tables = refl; printf = refl; fill = refl }) refl
+    c.row-row.ensures c.result_of-found.ensures.mask c.result_of-found.ensures.place (record { whole = refl; below = refl; made = refl; tables = refl; fill = refl }) refl
     c.put_mask.ensures refl c.due_site-site.ensures (c.in_ok-tell_result.ensures.told t.moves o.log)
 
 pub returns-in_ok-tell_result-clause-grew : goal.returns-in_ok-tell_result-clause-grew

@@ -3,6 +3,9 @@ use Rattle.ms_machine_frames.specs.Meaning.{IsJump}
 use Rattle.ms_trail.proofs.Stopping.{stopped, sets_none}
 use Rattle.ms_trail.proofs.traced_run.TracedRun.do_access_or_call.Goals as goal
 
+pub call_external-requires-clause-is : goal.call_external-requires-clause-is
+call_external-requires-clause-is c = (c.in-External.types, cc)
+
 pub returns-in-LoadMarked-clause-went : goal.returns-in-LoadMarked-clause-went
 returns-in-LoadMarked-clause-went c = λ u t o passes. stopped c.args.self.now.m.now u t c.args.self.now o c.args.code.now passes c.requires.ready.due _ c.in-LoadMarked.is tt
 

@@ -168,7 +168,7 @@ returns-then-on-clause-went c = λ u t o passes.
     let site = site_is m u t old o k passes due stepped.0 stepped.1.0 c.requires.jumps edge c.requires.taken fiber world stepped.1.1 c.due_site-site.result here read is in
     let first = first_is m u t old o k passes due stepped.0 stepped.1.0 c.requires.jumps edge c.requires.taken in
     jump_on m u t old o k passes due stepped.0 stepped.1.0 c.requires.jumps edge c.requires.taken fiber world stepped.1.1 c.due_site-site.result here read is new refl refl
-    (record { whole = refl; below = refl; made = refl; tables = refl; printf = refl; fill = refl }) refl (c.put_masks.ensures.masks ∙ ap (λ (ms : List PhiMove). put_all old.shade.masks.items ms read) c.as_slice-moves.ensures) refl row c.row-row.ensures
+    (record { whole = refl; below = refl; made = refl; tables = refl; fill = refl }) refl (c.put_masks.ensures.masks ∙ ap (λ (ms : List PhiMove). put_all old.shade.masks.items ms read) c.as_slice-moves.ensures) refl row c.row-row.ensures
     (c.in_ok-tell_phis.ensures.told m _ _ t.moves o.tables o.bare (ap (λ (ms : List PhiMove). edge.to - length ms) c.as_slice-moves.ensures ∙ first) count site o.log)
 
 pub returns-then-on-clause-grew : goal.returns-then-on-clause-grew

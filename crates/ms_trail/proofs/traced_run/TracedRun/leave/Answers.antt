@@ -143,7 +143,7 @@ returns-in_ok-tell_back-in-Some-clause-went c = λ u t o passes.
     }
     in
     leave_on m p formed valid c.program-program.ensures u t old o k passes due c.args.value c.requires.is c.in-Some.shade c.pop.new.self.items c.in-Some.ensures.items stepped.0 stepped.1.0 new stepped.1.1
-    (record { whole = refl; tables = refl; printf = refl; fill = refl }) refl refl refl c.code_at-call.result.now call_is c.mask-mask.result c.mask-mask.ensures c.put_result.ensures refl c.row-row.result c.row-row.ensures c.due_site-site.result
+    (record { whole = refl; tables = refl; fill = refl }) refl refl refl c.code_at-call.result.now call_is c.mask-mask.result c.mask-mask.ensures c.put_result.ensures refl c.row-row.result c.row-row.ensures c.due_site-site.result
     c.due_site-site.ensures c.row-caller.result.inst.now inst_is (c.in_ok-tell_back-in-Some.ensures.told t.moves o.log)
 
 pub returns-in_ok-tell_back-in-Some-clause-grew : goal.returns-in_ok-tell_back-in-Some-clause-grew

@@ -63,7 +63,7 @@ returns-in_ok-tell_loaded-clause-went c = λ u t o passes.
     in
     loaded_on m u t old o c.args.code.now passes c.requires.ready.due c.args.size c.args.cut c.args.addr c.args.to c.requires.is stepped.0 stepped.1.0 c.value-first.result c.value-first.ensures
     c.loaded_source-from.result c.loaded_mask-mask.result c.loaded_source-from.ensures c.due_site-site.result c.row-row.result new stepped.1.1 c.row-row.ensures c.loaded_mask-mask.ensures
-    (record { whole = refl; below = refl; made = refl; tables = refl; printf = refl; fill = refl }) refl c.put_mask.ensures refl c.due_site-site.ensures (c.in_ok-tell_loaded.ensures.told t.moves o.log)
+    (record { whole = refl; below = refl; made = refl; tables = refl; fill = refl }) refl c.put_mask.ensures refl c.due_site-site.ensures (c.in_ok-tell_loaded.ensures.told t.moves o.log)
 
 pub returns-in_ok-tell_loaded-clause-grew : goal.returns-in_ok-tell_loaded-clause-grew
 returns-in_ok-tell_loaded-clause-grew c = record { count = omega (arith, c.tell_loaded.ensures.count); world = c.step.ensures.made; calls = omega arith }

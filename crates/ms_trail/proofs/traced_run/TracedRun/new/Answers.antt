@@ -1,9 +1,7 @@
 use Rattle.std.proofs.Common.{◌≡◌, ℕ, length, replicate, refl, sym, ap, subst, ◌∙◌, arith}
 use Rattle.ms_ir.specs.declared.syntax.Module.{Module}
 use Rattle.ms_check_valid.specs.Formed.{Formed}
-use Rattle.ms_check_valid.proofs.SmallNumbers.{small_numbers}
 use Rattle.ms_runs.specs.Plain.{plain_start}
-use Rattle.ms_printf.specs.CallSites.{AreCallSites}
 use Rattle.ms_runs_good_laws.proofs.Starts.{start_is_main}
 use Rattle.ms_runtime.proofs.RootCounts.{few_roots}
 use Rattle.ms_runs_laws.proofs.FollowedSteps.{start_follows}
@@ -13,9 +11,6 @@ use Rattle.ms_trail.proofs.traced_run.TracedRun.new.Goals as goal
 
 pub of-requires : goal.of-requires
 of-requires c = omega (arith, few_roots c.module-code.result.now (subst Formed (sym c.module-code.ensures) c.law_valid.ensures.formed))
-
-pub of-requires-2 : goal.of-requires-2
-of-requires-2 c = record { small = small_numbers c.module-code.result.now (subst Formed (sym c.module-code.ensures) c.law_valid.ensures.formed) }
 
 pub returns-clause-is : goal.returns-clause-is
 returns-clause-is c =
@@ -37,7 +32,6 @@ returns-clause-is c =
       event = refl;
       log = c.new-3.ensures;
       tables = subst (λ (x : Module). AreTables x c.in_ok-tables.tables.rows.items) c.module-code.ensures c.in_ok-tables.ensures;
-      printf = subst (λ (x : Module). AreCallSites x c.in_ok-printf.printf.calls) c.module-code.ensures c.in_ok-printf.ensures;
       fill = c.as_slice.ensures;
       filled = c.requires.limits.filled;
     }

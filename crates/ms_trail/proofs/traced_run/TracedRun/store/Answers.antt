@@ -84,7 +84,7 @@ returns-then-on-clause-went c = λ u t o passes.
     (asks_nothing m old.fiber old.world c.args.code.now c.requires.ready.due (subst IsInward (sym c.requires.is) tt) u nothing_beside o.state o.running))
     in
     store_on m u t old o c.args.code.now passes c.requires.ready.due stepped.0 stepped.1.0 c.args.size c.args.value c.args.addr c.requires.is c.value-first.result c.value-first.ensures new world stepped.1.1 c.mask-mask.result c.due_site-site.result
-    from c.row-row.result c.row-row.ensures c.mask-mask.ensures refl c.due_site-site.ensures (record { whole = refl; below = refl; made = refl; tables = refl; printf = refl; fill = refl }) refl refl
+    from c.row-row.result c.row-row.ensures c.mask-mask.ensures refl c.due_site-site.ensures (record { whole = refl; below = refl; made = refl; tables = refl; fill = refl }) refl refl
     c.shade_stored.ensures.keeps
     (c.in_ok-shade_stored.ensures.stored nothing_beside stepped.0.world t.moves from c.in_ok-from.ensures.read stepped.1.1.shows stepped.1.1.sound.world
     (good_stored m u t old o c.args.code.now passes c.requires.ready.due stepped.0 stepped.1.0 c.args.size c.args.value c.args.addr c.requires.is c.value-first.result c.value-first.ensures) o.log)

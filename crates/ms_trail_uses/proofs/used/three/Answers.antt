@@ -1,6 +1,0 @@
-use Rattle.std.proofs.Common.{◌∙◌}
-use Rattle.ms_trail_uses.specs.Used.{or_used}
-use Rattle.ms_trail_uses.proofs.used.three.Goals as goal
-
-pub returns : goal.returns
-returns c = c.or_else.ensures ∙ (λ i. or_used (c.two-first.ensures i) (c.word-third.ensures i))
