@@ -65,9 +65,9 @@ measure() { # kind, count
     [ -z "$has_llvm" ] || theirs=$(($(instructions llvm-as-19 -o /dev/null "$work/text.ll") - nothing))
     callgrind_annotate --inclusive=yes --threshold=100 "$work/counts" | awk -v kind="$1" -v count="$2" -v theirs="$theirs" '
         { gsub(",", "", $1) }
-        /:ms_top::files::answer_to_file::/ && !whole { whole = $1 }
-        /:ms_top::answers::answer_to_read::/ && !after { after = $1 }
-        /:ms_top::answers::checked / && !checked { checked = $1 }
+        /:ms_top::jobs::Job::run_file::/ && !whole { whole = $1 }
+        /:ms_top::jobs::Job::locate_sites::/ && !after { after = $1 }
+        /:ms_top::jobs::checked / && !checked { checked = $1 }
         /:ms_machine_compile::compiler::compile / && !compiled { compiled = $1 }
         END {
             if (!whole || !after || !checked || !compiled) { print "a function is missing in the counts"; exit 1 }

@@ -3,7 +3,7 @@ ghost use Rattle.std.specs.Prelude.{◌≡◌, ℕ, List, IfOk};
 ghost use Rattle.ms_ir.specs.Instructions.{strip};
 ghost use Rattle.ms_runs.specs.{declared.runs.Setup.{Setup as SetupOf}, Faithful.{Fair, Faithful, Undisturbed}};
 ghost use Rattle.ms_runs.specs.Plain.{plain};
-ghost use Rattle.ms_check_valid.specs.{Formed.{Formed}, Uninstrumented.{CanInstrument}, Valid.{Valid}};
+ghost use Rattle.ms_check_valid.specs.Uninstrumented.{CanInstrument};
 ghost use Rattle.ms_pass_form_laws.specs.Elided.{IsElided, ChecksUnclean};
 ghost use Rattle.ms_pass.specs.Passed.{IsMadeOf};
 ghost use Rattle.ms_runs_threads.specs.PlainFibers.{plain_threads};
@@ -12,8 +12,7 @@ ghost use Rattle.ms_threads.specs.{Faithful.{FaithfulThreads, IsSchedule}, Fills
 use ms_bits::NoMemory;
 use ms_check::CheckedModule;
 use ms_fork::Gate;
-use ms_ir::Module;
-use ms_pass::{instrument, instrumented};
+use ms_pass::instrument;
 use std::alloc::Global;
 use std::thread::Threads;
 
@@ -39,24 +38,4 @@ pub fn instrument_threads<R: Threads + Sync, G: Gate + Sync>(
 {
     m.law_valid();
     instrument(rt, alloc, m, gate)
-}
-
-/// The module of `instrument_threads`, to be written and not run, so that no code of it is made. It is formed and valid.
-pub fn instrumented_threads<R: Threads + Sync, G: Gate + Sync>(
-    rt: &R,
-    alloc: Global,
-    m: &CheckedModule,
-    gate: &G,
-) -> Result<Module, NoMemory>
-    requires { CanInstrument m.now }
-    ensures threads { IfOk result (λ j. FaithfulThreads m.now j) }
-    ensures pass { IfOk result (λ j. IsElided m.now j) }
-    ensures stripped { IfOk result (λ j. strip j ≡ m.now) }
-    ensures formed { IfOk result (λ j. Formed j) }
-    ensures valid { IfOk result (λ j. Valid j) }
-    ensures pieces { IfOk result (λ j. IsMadeOf m.now j) }
-    ensures holds { IfOk result (λ j. (setup : SetupOf) → Fair setup → (schedule : List ℕ) → IsSchedule schedule → ThreadsHoldUnderFills m.now setup schedule (plain_threads j setup schedule)) }
-{
-    m.law_valid();
-    instrumented(rt, alloc, m, gate)
 }

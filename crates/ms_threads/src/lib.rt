@@ -8,6 +8,6 @@ mod runs;
 mod searching;
 mod thread_table;
 
-pub use instruments::{instrument_threads, instrumented_threads};
+pub use instruments::instrument_threads;
 pub use runs::run_threads;
 pub use searching::threaded;

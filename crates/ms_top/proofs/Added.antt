@@ -33,7 +33,7 @@ use Rattle.ms_report.proofs.TrailLines.{trail_left}
 use Rattle.ms_words.specs.declared.commands.Command.{Command}
 use Rattle.ms_words.specs.declared.commands.Command.TheVariants.{Run, Check, Explain, Corpus}
 use Rattle.ms_words.specs.declared.commands.Options.{Options}
-use Rattle.ms_top.specs.declared.answers.Answer.{Answer}
+use Rattle.ms_top.specs.declared.output.Output.{Output}
 use Rattle.ms_top.specs.Added.{with_locations, without_lines, without_any_lines, CorpusAdds}
 use Rattle.ms_top.specs.Command.{form_of, located_file, only_input, setup_of}
 use Rattle.ms_top.specs.Explained.{way_with, trace_with, followed, no_report, explained_with}
@@ -96,50 +96,50 @@ reading_left cause = ap unindented (sym (append-nil (refusal_text (Read cause)))
 -- ---- answers
 
 -- of a command that takes no schedule
-by_threads : (t : Bool) (P Q : Type 0) (a : Answer) → (P → Q) → UnlessThreaded t a P → UnlessThreaded t (without_any_lines a) Q
+by_threads : (t : Bool) (P Q : Type 0) (a : Output) → (P → Q) → UnlessThreaded t a P → UnlessThreaded t (without_any_lines a) Q
 by_threads true P Q a h is = ap without_any_lines is ∙ ap (says 5) (threads_left no_lines (λ site. none_indented))
 by_threads false P Q a h is = h is
 
 module _ (Gives : Module → Module → Type 0) where
-  fault_said : (command : Command) (text : List ℕ) (m : Module) (under : Lines) (f : Fault) (a : Answer) → AreLines command text m under → a ≡ says 5 (fault_text_with under f)
+  fault_said : (command : Command) (text : List ℕ) (m : Module) (under : Lines) (f : Fault) (a : Output) → AreLines command text m under → a ≡ says 5 (fault_text_with under f)
       → without_lines a ≡ says 5 (fault_text_with no_lines f)
   fault_said command text m under f a are is = ap without_lines is ∙ ap (says 5) (fault_taken_out command text m under f are ∙ sym (fault_alone f))
 
-  run_said : (command : Command) (text : List ℕ) (m : Module) (under : Lines) (verdict : Bool) (r : RunResult) (a : Answer) → AreLines command text m under
+  run_said : (command : Command) (text : List ℕ) (m : Module) (under : Lines) (verdict : Bool) (r : RunResult) (a : Output) → AreLines command text m under
       → a ≡ answer_of (status_of r) r.output (run_text under verdict m r) → without_lines a ≡ answer_of (status_of r) r.output (run_text no_lines verdict m r)
   run_said command text m under verdict r a are is =
       ap without_lines is ∙ ap (answer_of (status_of r) r.output) (run_taken_out command text m under verdict r are ∙ sym (run_alone verdict m r))
 
-  reading_said : (cause : ReadError) (a : Answer) → a ≡ says 5 (refusal_text (Read cause)) → without_lines a ≡ says 5 (refusal_text (Read cause))
+  reading_said : (cause : ReadError) (a : Output) → a ≡ says 5 (refusal_text (Read cause)) → without_lines a ≡ says 5 (refusal_text (Read cause))
   reading_said cause a is = ap without_lines is ∙ ap (says 5) (reading_left cause)
 
   module _ (file : List ℕ) (o : Options) (inputs : List (List ℕ)) (text : List ℕ) where
-    run_module : (m : Module) (under : Lines) (a : Answer) → AreLines (Run file (with_locations true o)) text m under → IsAnswerToModule Gives under (Run file (with_locations true o)) inputs m a
+    run_module : (m : Module) (under : Lines) (a : Output) → AreLines (Run file (with_locations true o)) text m under → IsAnswerToModule Gives under (Run file (with_locations true o)) inputs m a
         → IsAnswerToModule Gives no_lines (Run file (with_locations false o)) inputs m (without_lines a)
     run_module m under a are (inl (f, refused, is)) = inl (f, refused, fault_said (Run file (with_locations true o)) text m under f a are is)
     run_module m under a are (inr (valid, is)) = inr (valid, run_said (Run file (with_locations true o)) text m under false (plain_under (is_threaded m) m (setup_of o (only_input inputs)) o.schedule) a are is)
 
-    run_reading : (r : Result Module ReadError) (a : Answer) → IsAnswerToReading Gives (Run file (with_locations true o)) inputs text r a
+    run_reading : (r : Result Module ReadError) (a : Output) → IsAnswerToReading Gives (Run file (with_locations true o)) inputs text r a
         → IsAnswerToReading Gives (Run file (with_locations false o)) inputs text r (without_lines a)
     run_reading (Ok m) a (under, are, is) = (no_lines, refl, run_module m under a are is)
     run_reading (Err (e.Lex cause)) a is = reading_said (e.Lex cause) a is
     run_reading (Err (e.Refused number w token place)) a is = reading_said (e.Refused number w token place) a is
     run_reading (Err e.NoMemory) a is = is
 
-    check_module : (m : Module) (under : Lines) (a : Answer) → AreLines (Check file (with_locations true o)) text m under → IsAnswerToModule Gives under (Check file (with_locations true o)) inputs m a
+    check_module : (m : Module) (under : Lines) (a : Output) → AreLines (Check file (with_locations true o)) text m under → IsAnswerToModule Gives under (Check file (with_locations true o)) inputs m a
         → IsAnswerToModule Gives no_lines (Check file (with_locations false o)) inputs m (without_lines a)
     check_module m under a are (inl (f, refused, is)) = inl (f, refused, fault_said (Check file (with_locations true o)) text m under f a are is)
     check_module m under a are (inr (valid, (j, gives, is))) =
         inr (valid, (j, gives, run_said (Check file (with_locations true o)) text m under true (plain_under (is_threaded m) j (setup_of o (only_input inputs)) o.schedule) a are is))
 
-    check_reading : (r : Result Module ReadError) (a : Answer) → IsAnswerToReading Gives (Check file (with_locations true o)) inputs text r a
+    check_reading : (r : Result Module ReadError) (a : Output) → IsAnswerToReading Gives (Check file (with_locations true o)) inputs text r a
         → IsAnswerToReading Gives (Check file (with_locations false o)) inputs text r (without_lines a)
     check_reading (Ok m) a (under, are, is) = (no_lines, refl, check_module m under a are is)
     check_reading (Err (e.Lex cause)) a is = reading_said (e.Lex cause) a is
     check_reading (Err (e.Refused number w token place)) a is = reading_said (e.Refused number w token place) a is
     check_reading (Err e.NoMemory) a is = is
 
-    explain_alone : (m : Module) (under : Lines) (a : Answer) → AreLines (Explain file (with_locations true o)) text m under → IsExplanation Gives under (setup_of o (only_input inputs)) m a
+    explain_alone : (m : Module) (under : Lines) (a : Output) → AreLines (Explain file (with_locations true o)) text m under → IsExplanation Gives under (setup_of o (only_input inputs)) m a
         → IsExplanation Gives no_lines (setup_of o (only_input inputs)) m (without_any_lines a)
     explain_alone m under a are (j, gives, is) =
         let s = setup_of o (only_input inputs) in
@@ -151,23 +151,23 @@ module _ (Gives : Module → Module → Type 0) where
               ∙ ap₂ (λ (out err : List ℕ). answer_of (status_of r) out err) (explained_left under all m s r) (closing_left under all m r true ∙ sym (closing_alone m r true)),
         )
 
-    explain_module : (m : Module) (under : Lines) (a : Answer) → AreLines (Explain file (with_locations true o)) text m under → IsAnswerToModule Gives under (Explain file (with_locations true o)) inputs m a
+    explain_module : (m : Module) (under : Lines) (a : Output) → AreLines (Explain file (with_locations true o)) text m under → IsAnswerToModule Gives under (Explain file (with_locations true o)) inputs m a
         → IsAnswerToModule Gives no_lines (Explain file (with_locations false o)) inputs m (without_any_lines a)
     explain_module m under a are (inl (f, refused, is)) =
-        inl (f, refused, ap (λ (x : Answer). record x { out = unindented x.out }) (fault_said (Explain file (with_locations true o)) text m under f a are is))
+        inl (f, refused, ap (λ (x : Output). record x { out = unindented x.out }) (fault_said (Explain file (with_locations true o)) text m under f a are is))
     explain_module m under a are (inr (valid, is)) =
         let s = setup_of o (only_input inputs) in
         inr (valid, by_threads (is_threaded m) (IsExplanation Gives under s m a) (IsExplanation Gives no_lines s m (without_any_lines a)) a (explain_alone m under a are) is)
 
-    explain_reading : (r : Result Module ReadError) (a : Answer) → IsAnswerToReading Gives (Explain file (with_locations true o)) inputs text r a
+    explain_reading : (r : Result Module ReadError) (a : Output) → IsAnswerToReading Gives (Explain file (with_locations true o)) inputs text r a
         → IsAnswerToReading Gives (Explain file (with_locations false o)) inputs text r (without_any_lines a)
     explain_reading (Ok m) a (under, are, is) = (no_lines, refl, explain_module m under a are is)
-    explain_reading (Err (e.Lex cause)) a is = ap (λ (x : Answer). record x { out = unindented x.out }) (reading_said (e.Lex cause) a is)
-    explain_reading (Err (e.Refused number w token place)) a is = ap (λ (x : Answer). record x { out = unindented x.out }) (reading_said (e.Refused number w token place) a is)
+    explain_reading (Err (e.Lex cause)) a is = ap (λ (x : Output). record x { out = unindented x.out }) (reading_said (e.Lex cause) a is)
+    explain_reading (Err (e.Refused number w token place)) a is = ap (λ (x : Output). record x { out = unindented x.out }) (reading_said (e.Refused number w token place) a is)
     explain_reading (Err e.NoMemory) a is = is
 
   module _ (file : List ℕ) (names : List (List ℕ)) (o : Options) (workers : ℕ) (inputs : List (List ℕ)) (text : List ℕ) where
-    corpus_module : (m : Module) (under : Lines) (a : Answer) → IsReading Plain text (Ok m) → AreLines (Corpus file names (with_locations true o) workers) text m under
+    corpus_module : (m : Module) (under : Lines) (a : Output) → IsReading Plain text (Ok m) → AreLines (Corpus file names (with_locations true o) workers) text m under
         → IsAnswerToModule Gives under (Corpus file names (with_locations true o) workers) inputs m a → CorpusAdds Gives file names o workers inputs text a
     corpus_module m under a reads are (inl (f, refused, is)) =
         inl (ap (λ x. x.out) is, (Ok m, reads, (no_lines, refl, inl (f, refused, fault_said (Corpus file names (with_locations true o) workers) text m under f a are is))))
@@ -203,7 +203,7 @@ module _ (Gives : Module → Module → Type 0) where
               (Ok m, reads, (no_lines, refl, inr (valid, subst (λ t. UnlessThreaded t same (AreSections Gives no_lines names o inputs m same)) (sym alone) (j, gives, refl)))),
             )
 
-    corpus_reading : (r : Result Module ReadError) (a : Answer) → IsReading Plain text r → IsAnswerToReading Gives (Corpus file names (with_locations true o) workers) inputs text r a
+    corpus_reading : (r : Result Module ReadError) (a : Output) → IsReading Plain text r → IsAnswerToReading Gives (Corpus file names (with_locations true o) workers) inputs text r a
         → CorpusAdds Gives file names o workers inputs text a
     corpus_reading (Ok m) a reads (under, are, is) = corpus_module m under a reads are is
     corpus_reading (Err (e.Lex cause)) a reads is = inl (ap (λ x. x.out) is, (Err (e.Lex cause), reads, reading_said (e.Lex cause) a is))
@@ -211,18 +211,18 @@ module _ (Gives : Module → Module → Type 0) where
         inl (ap (λ x. x.out) is, (Err (e.Refused number w token place), reads, reading_said (e.Refused number w token place) a is))
     corpus_reading (Err e.NoMemory) a reads is = absurd is
 
-pub run_added : (Gives : Module → Module → Type 0) (file : List ℕ) (o : Options) (inputs : List (List ℕ)) (text : List ℕ) (a : Answer)
+pub run_added : (Gives : Module → Module → Type 0) (file : List ℕ) (o : Options) (inputs : List (List ℕ)) (text : List ℕ) (a : Output)
     → IsAnswerToText Gives (Run file (with_locations true o)) inputs text a → IsAnswerToText Gives (Run file (with_locations false o)) inputs text (without_lines a)
 run_added Gives file o inputs text a (r, reading, answers) = (r, reading, run_reading Gives file o inputs text r a answers)
 
-pub check_added : (Gives : Module → Module → Type 0) (file : List ℕ) (o : Options) (inputs : List (List ℕ)) (text : List ℕ) (a : Answer)
+pub check_added : (Gives : Module → Module → Type 0) (file : List ℕ) (o : Options) (inputs : List (List ℕ)) (text : List ℕ) (a : Output)
     → IsAnswerToText Gives (Check file (with_locations true o)) inputs text a → IsAnswerToText Gives (Check file (with_locations false o)) inputs text (without_lines a)
 check_added Gives file o inputs text a (r, reading, answers) = (r, reading, check_reading Gives file o inputs text r a answers)
 
-pub explain_added : (Gives : Module → Module → Type 0) (file : List ℕ) (o : Options) (inputs : List (List ℕ)) (text : List ℕ) (a : Answer)
+pub explain_added : (Gives : Module → Module → Type 0) (file : List ℕ) (o : Options) (inputs : List (List ℕ)) (text : List ℕ) (a : Output)
     → IsAnswerToText Gives (Explain file (with_locations true o)) inputs text a → IsAnswerToText Gives (Explain file (with_locations false o)) inputs text (without_any_lines a)
 explain_added Gives file o inputs text a (r, reading, answers) = (r, reading, explain_reading Gives file o inputs text r a answers)
 
-pub corpus_added : (Gives : Module → Module → Type 0) (file : List ℕ) (names inputs : List (List ℕ)) (o : Options) (workers : ℕ) (text : List ℕ) (a : Answer)
+pub corpus_added : (Gives : Module → Module → Type 0) (file : List ℕ) (names inputs : List (List ℕ)) (o : Options) (workers : ℕ) (text : List ℕ) (a : Output)
     → IsAnswerToText Gives (Corpus file names (with_locations true o) workers) inputs text a → CorpusAdds Gives file names o workers inputs text a
 corpus_added Gives file names inputs o workers text a (r, reading, answers) = corpus_reading Gives file names o workers inputs text r a reading answers

@@ -21,7 +21,7 @@ use Rattle.ms_words.specs.declared.commands.Command.{Command}
 use Rattle.ms_words.specs.declared.commands.Command.TheVariants.{Instrument, Run, Check, Explain, Corpus, Gen, Help, Version}
 use Rattle.ms_words.specs.declared.commands.Options.{Options}
 use Rattle.ms_words.specs.Words.{command_of}
-use Rattle.ms_top.specs.declared.answers.Answer.{Answer}
+use Rattle.ms_top.specs.declared.output.Output.{Output}
 use Rattle.ms_top.specs.Answered.{AreHeld, IsTaken, IsDoneStatus, Begins}
 use Rattle.ms_top.specs.Command.{form_of, files_of, only_input, setup_of}
 use Rattle.ms_top.specs.Files.{Counted, Whole, CanRead}
@@ -36,20 +36,20 @@ use Rattle.ms_top.proofs.OneAnswer.{one_reading, one_read, memory_is_there}
 -- ---- a valid module is answered
 
 -- the answer to a command for a valid module
-for_valid : (under : Lines) (command : Command) (inputs : List (List ℕ)) (m : Module) (a : Answer) → Valid m → IsAnswerToModule IsInstrumented under command inputs m a
+for_valid : (under : Lines) (command : Command) (inputs : List (List ℕ)) (m : Module) (a : Output) → Valid m → IsAnswerToModule IsInstrumented under command inputs m a
     → IsAnswerToValid IsInstrumented under command inputs m a
 for_valid under command inputs m a valid (inl (fault, refused, is)) = absurd (invalid m fault refused valid)
 for_valid under command inputs m a valid (inr (checked, is)) = is
 
 -- a text that reads as a module comes to nothing else, unless memory runs out
-pub text_read : (command : Command) (inputs : List (List ℕ)) (text : List ℕ) (m : Module) (r : Result Module ReadError) (a : Answer) → Reads (form_of command) text m
+pub text_read : (command : Command) (inputs : List (List ℕ)) (text : List ℕ) (m : Module) (r : Result Module ReadError) (a : Output) → Reads (form_of command) text m
     → IsReading (form_of command) text r → IsAnswerToReading IsInstrumented command inputs text r a → r ≡ Ok m
 text_read command inputs text m r a reads reading answers =
     let some : Ok m ≢ Err e.NoMemory = λ h. absurd cc in
     one_reading (form_of command) text (Ok m) r reads reading some (memory_is_there command inputs text r a answers)
 
 -- the answer for a text that reads as a valid module, with the lines of that text
-pub text_answered : (command : Command) (inputs : List (List ℕ)) (text : List ℕ) (m : Module) (a : Answer) → Reads (form_of command) text m → Valid m
+pub text_answered : (command : Command) (inputs : List (List ℕ)) (text : List ℕ) (m : Module) (a : Output) → Reads (form_of command) text m → Valid m
     → IsAnswerToText IsInstrumented command inputs text a
     → (under : Lines) × AreLines command text m under × IsAnswerToValid IsInstrumented under command inputs m a
 text_answered command inputs text m a reads valid (r, reading, answers) =
@@ -63,7 +63,7 @@ held_read c files told ((name, limit) ∷ rest) (text ∷ texts) h =
 held_read c files told [] (text ∷ texts) h = absurd h
 held_read c files told ((name, limit) ∷ rest) [] h = absurd h
 
-pub words_answered : (c : Counted) (files : Holdings) (words : List (List ℕ)) (command : Command) (text : List ℕ) (inputs : List (List ℕ)) (m : Module) (a : Answer)
+pub words_answered : (c : Counted) (files : Holdings) (words : List (List ℕ)) (command : Command) (text : List ℕ) (inputs : List (List ℕ)) (m : Module) (a : Output)
     → c.told ≡ Some files → (Rose c.faults c.faults_after → ⊥) → command_of words ≡ Ok command → AreHeld files (files_of command) (text ∷ inputs)
     → Reads (form_of command) text m → Valid m → IsAnswer IsInstrumented c words a
     → (under : Lines) × AreLines command text m under × IsAnswerToValid IsInstrumented under command inputs m a
@@ -76,7 +76,7 @@ words_answered c files words command text inputs m a told steady is held reads v
         (subst (λ s. IsAnswerToFiles IsInstrumented command s a)
         (one_read c files told steady (files_of command) r (Whole (text ∷ inputs)) can (held_read c files told (files_of command) (text ∷ inputs) held)) answers)
 
-pub generated_answered : (c : Counted) (words : List (List ℕ)) (seed functions : ℕ) (run : Bool) (a : Answer) → command_of words ≡ Ok (Gen seed functions run) → IsAnswer IsInstrumented c words a
+pub generated_answered : (c : Counted) (words : List (List ℕ)) (seed functions : ℕ) (run : Bool) (a : Output) → command_of words ≡ Ok (Gen seed functions run) → IsAnswer IsInstrumented c words a
     → IsAnswerOfGen IsInstrumented run (generated seed functions) a
 generated_answered c words seed functions run a is answer = by_files (subst (λ r. IsAnswerFor IsInstrumented c r a) is answer)
   where
@@ -85,7 +85,7 @@ generated_answered c words seed functions run a is answer = by_files (subst (λ 
 
 -- ---- its status
 
-done : (a : Answer) (s : ℕ) (out err : List ℕ) → a ≡ answer_of s out err → IsDoneStatus s → IsDoneStatus a.status
+done : (a : Output) (s : ℕ) (out err : List ℕ) → a ≡ answer_of s out err → IsDoneStatus s → IsDoneStatus a.status
 done a s out err is h = subst (λ x. IsDoneStatus x.status) (sym is) h
 
 end_done : (e : End) → IsDoneStatus (end_status e)
@@ -105,15 +105,15 @@ all_done false false true = inr (inr (inl refl))
 all_done false false false = inl refl
 
 -- the answer of a command that takes no schedule, for a module without threads
-taken_done : (t : Bool) (a : Answer) (Is : Type 0) → t ≡ false → (Is → IsDoneStatus a.status) → UnlessThreaded t a Is → IsDoneStatus a.status
+taken_done : (t : Bool) (a : Output) (Is : Type 0) → t ≡ false → (Is → IsDoneStatus a.status) → UnlessThreaded t a Is → IsDoneStatus a.status
 taken_done false a Is alone h is = h is
 taken_done true a Is alone h is = absurd (true≢false alone)
 
-gen_done : (run : Bool) (m : Module) (a : Answer) → IsAnswerOfGen IsInstrumented run m a → IsDoneStatus a.status
+gen_done : (run : Bool) (m : Module) (a : Output) → IsAnswerOfGen IsInstrumented run m a → IsDoneStatus a.status
 gen_done true m a (j, gives, is) = done a _ _ _ is (run_done _ _)
 gen_done false m a is = done a 0 _ _ is (inl refl)
 
-pub valid_done : (under : Lines) (command : Command) (inputs : List (List ℕ)) (m : Module) (a : Answer) → IsTaken command m → IsAnswerToValid IsInstrumented under command inputs m a → IsDoneStatus a.status
+pub valid_done : (under : Lines) (command : Command) (inputs : List (List ℕ)) (m : Module) (a : Output) → IsTaken command m → IsAnswerToValid IsInstrumented under command inputs m a → IsDoneStatus a.status
 valid_done under (Instrument file) inputs m a taken (j, gives, is) = done a 0 _ _ is (inl refl)
 valid_done under (Run file o) inputs m a taken is = done a _ _ _ is (run_done _ _)
 valid_done under (Check file o) inputs m a taken (j, gives, is) = done a _ _ _ is (run_done _ _)
@@ -126,17 +126,17 @@ valid_done under Help inputs m a taken is = done a 0 _ _ is (inl refl)
 valid_done under Version inputs m a taken is = done a 0 _ _ is (inl refl)
 
 -- a module with threads is refused by the others
-pub explain_refused : (under : Lines) (file : List ℕ) (o : Options) (inputs : List (List ℕ)) (m : Module) (a : Answer) → is_threaded m ≡ true
+pub explain_refused : (under : Lines) (file : List ℕ) (o : Options) (inputs : List (List ℕ)) (m : Module) (a : Output) → is_threaded m ≡ true
     → IsAnswerToValid IsInstrumented under (Explain file o) inputs m a → a ≡ says 5 threads_text
 explain_refused under file o inputs m a threads is = subst (λ t. UnlessThreaded t a (IsExplanation IsInstrumented under (setup_of o (only_input inputs)) m a)) threads is
 
-pub corpus_refused : (under : Lines) (file : List ℕ) (names : List (List ℕ)) (o : Options) (workers : ℕ) (inputs : List (List ℕ)) (m : Module) (a : Answer) → is_threaded m ≡ true
+pub corpus_refused : (under : Lines) (file : List ℕ) (names : List (List ℕ)) (o : Options) (workers : ℕ) (inputs : List (List ℕ)) (m : Module) (a : Output) → is_threaded m ≡ true
     → IsAnswerToValid IsInstrumented under (Corpus file names o workers) inputs m a → a ≡ says 5 threads_text
 corpus_refused under file names o workers inputs m a threads is = subst (λ t. UnlessThreaded t a (AreSections IsInstrumented under names o inputs m a)) threads is
 
 -- ---- `check` and `run`
 
-pub valid_begins : (under below : Lines) (file name : List ℕ) (inputs : List (List ℕ)) (o : Options) (m : Module) (a b : Answer) → Fair (setup_of o (only_input inputs)) → IsSchedule o.schedule
+pub valid_begins : (under below : Lines) (file name : List ℕ) (inputs : List (List ℕ)) (o : Options) (m : Module) (a b : Output) → Fair (setup_of o (only_input inputs)) → IsSchedule o.schedule
     → IsAnswerToValid IsInstrumented under (Check file o) inputs m a → IsAnswerToValid IsInstrumented below (Run name o) inputs m b → Begins m a b
 valid_begins under below file name inputs o m a b fair some (j, made, is) same =
     let s = setup_of o (only_input inputs) in
@@ -152,7 +152,7 @@ valid_begins under below file name inputs o m a b fair some (j, made, is) same =
       output = subst (λ x. Prefix x.out b.out) (sym is) (subst (λ x. Prefix (plain_under (is_threaded m) j s o.schedule).output x.out) (sym same) undisturbed.output);
     }
 
-pub text_begins : (file name : List ℕ) (inputs : List (List ℕ)) (o : Options) (text : List ℕ) (m : Module) (a b : Answer) → Fair (setup_of o (only_input inputs)) → IsSchedule o.schedule
+pub text_begins : (file name : List ℕ) (inputs : List (List ℕ)) (o : Options) (text : List ℕ) (m : Module) (a b : Output) → Fair (setup_of o (only_input inputs)) → IsSchedule o.schedule
     → Reads Plain text m → Valid m → IsAnswerToText IsInstrumented (Check file o) inputs text a → IsAnswerToText IsInstrumented (Run name o) inputs text b → Begins m a b
 text_begins file name inputs o text m a b fair some reads valid p q =
     let checked = text_answered (Check file o) inputs text m a reads valid p in

@@ -17,7 +17,7 @@ use Rattle.ms_ir.specs.declared.forms.Form.TheVariants.{Plain}
 use Rattle.ms_text_grammar.specs.declared.refusals.Cause.{Cause}
 use Rattle.ms_text_grammar.specs.declared.refusals.Cause.TheVariants as refusal
 use Rattle.ms_text_grammar.specs.Causes.{printed_number}
-use Rattle.ms_text_grammar.specs.Texts.{HasTokens, Reads, max_bytes, max_tokens}
+use Rattle.ms_text_grammar.specs.Texts.{HasTokens, Reads, max_tokens}
 use Rattle.ms_read_body.specs.Calls.{what_of}
 use Rattle.ms_read_body.specs.declared.errors.What.{What}
 use Rattle.ms_read_body.specs.declared.errors.ReadError.{ReadError}
@@ -31,7 +31,7 @@ use Rattle.ms_check.specs.Faults.{fault_of}
 use Rattle.ms_check_valid.specs.Uninstrumented.{CanInstrument}
 use Rattle.ms_text_laws.proofs.FormedModules.{read_formed}
 use Rattle.ms_text_laws.proofs.SmallLimits.{can_instrument}
-use Rattle.ms_top.specs.declared.answers.Answer.{Answer}
+use Rattle.ms_top.specs.declared.output.Output.{Output}
 use Rattle.ms_words.specs.declared.commands.Command.{Command}
 use Rattle.ms_words.specs.declared.commands.Command.TheVariants.{Instrument, Run, Check, Explain, Corpus, Gen, Help, Version}
 use Rattle.ms_words.specs.declared.commands.Options.{Options}
@@ -40,7 +40,7 @@ use Rattle.ms_words.specs.Limits.{RunsWithinLimits}
 use Rattle.ms_where_places.specs.declared.marks.Mark.{Mark}
 use Rattle.ms_where_places.specs.Marks.{AreMarks}
 use Rattle.ms_where.specs.Lines.{lines_of_site}
-use Rattle.ms_top.specs.Command.{form_of, located_file, module_limit, input_limit, only_input, setup_of}
+use Rattle.ms_top.specs.Command.{form_of, located_file, input_limit, only_input, setup_of}
 use Rattle.ms_top.specs.Lines.{AreLinesIn, AreLines}
 use Rattle.ms_corpus.specs.Jobs.{with_input}
 use Rattle.ms_top.specs.Parts.{AreShort, AreWithinLimits, IsReady, IsRunOfGiven, AreRunsOfGiven}
@@ -66,6 +66,11 @@ within o input s fit short is = subst RunFits (sym is) (record {
   reports = fit.reports;
 })
 
+-- so is the one input of a run, where all inputs are short
+pub short_input : (inputs : List (List ℕ)) → AreShort inputs → length (only_input inputs) ≤ input_limit
+short_input [] short = omega arith
+short_input (input ∷ rest) short = short 0 [] (omega arith)
+
 -- its schedule isn't empty
 pub scheduled : (o : Options) (schedule : List ℕ) → RunsWithinLimits o → schedule ≡ o.schedule → IsSchedule schedule
 scheduled o schedule fit is = let some : 1 ≤ length schedule = subst (λ bytes. 1 ≤ length bytes) (sym is) fit.scheduled in omega (arith, some)
@@ -73,32 +78,33 @@ scheduled o schedule fit is = let some : 1 ≤ length schedule = subst (λ bytes
 -- ---- threads
 
 -- a module with threads is refused, and one without is answered
-pub threads_refused : (m : Module) (a : Answer) (Is : Type 0) → is_threaded m ≡ true → a ≡ says 5 threads_text → UnlessThreaded (is_threaded m) a Is
+pub threads_refused : (m : Module) (a : Output) (Is : Type 0) → is_threaded m ≡ true → a ≡ says 5 threads_text → UnlessThreaded (is_threaded m) a Is
 threads_refused m a Is threads is = subst (λ t. UnlessThreaded t a Is) (sym threads) is
 
-pub alone_answered : (m : Module) (a : Answer) (Is : Type 0) → is_threaded m ≡ false → Is → UnlessThreaded (is_threaded m) a Is
+pub alone_answered : (m : Module) (a : Output) (Is : Type 0) → is_threaded m ≡ false → Is → UnlessThreaded (is_threaded m) a Is
 alone_answered m a Is alone is = subst (λ t. UnlessThreaded t a Is) (sym alone) is
 
 -- ---- valid modules
 
 -- the run of the module as it is
-pub run_answer : (under : Lines) (m n : Module) (threads : Bool) (s t : Setup) (schedule picks : List ℕ) (r : RunResult) (a : Answer) → n ≡ m → threads ≡ is_threaded m → s ≡ t → schedule ≡ picks
+pub run_answer : (under : Lines) (m n : Module) (threads : Bool) (s t : Setup) (schedule picks : List ℕ) (r : RunResult) (a : Output) → n ≡ m → threads ≡ is_threaded m → s ≡ t → schedule ≡ picks
     → r ≡ plain_under threads m s schedule → a ≡ answer_of_result under false n r → a ≡ answer_of_result under false m (plain_under (is_threaded m) m t picks)
 run_answer under m n threads s t schedule picks r a same known given alike runs is =
     let run : r ≡ plain_under (is_threaded m) m t picks = runs ∙ ap (λ b. plain_under b m s schedule) known ∙ ap₂ (plain_under (is_threaded m) m) given alike in
     is ∙ ap (λ k. answer_of_result under false k r) same ∙ ap (answer_of_result under false m) run
 
-pub check_valid : (Gives : Module → Module → Type 0) (under : Lines) (command : Command) (file : List ℕ) (o : Options) (inputs : List (List ℕ)) (m : Module) (a : Answer) → command ≡ Check file o
-    → IsAnswerOfCheck Gives under (setup_of o (only_input inputs)) o.schedule m a → IsAnswerToValid Gives under command inputs m a
-check_valid Gives under command file o inputs m a is answers = subst (λ c. IsAnswerToValid Gives under c inputs m a) (sym is) answers
+-- what is said of a module for a command is said for the same command
+pub same_valid : (Gives : Module → Module → Type 0) (under : Lines) (command other : Command) (inputs : List (List ℕ)) (m : Module) (a : Output) → command ≡ other
+    → IsAnswerToValid Gives under other inputs m a → IsAnswerToValid Gives under command inputs m a
+same_valid Gives under command other inputs m a is answers = subst (λ c. IsAnswerToValid Gives under c inputs m a) (sym is) answers
 
-pub check_answer : (Gives : Module → Module → Type 0) (under : Lines) (m n : Module) (s t : Setup) (schedule picks : List ℕ) (r : RunResult) (a : Answer) → n ≡ m → s ≡ t → schedule ≡ picks
+pub check_answer : (Gives : Module → Module → Type 0) (under : Lines) (m n : Module) (s t : Setup) (schedule picks : List ℕ) (r : RunResult) (a : Output) → n ≡ m → s ≡ t → schedule ≡ picks
     → IsRunOfGiven Gives m s schedule r → a ≡ answer_of_result under true n r → IsAnswerOfCheck Gives under t picks m a
 check_answer Gives under m n s t schedule picks r a same given alike q is =
     (q.0, q.1, is ∙ ap (λ k. answer_of_result under true k r) same ∙ ap (answer_of_result under true m) (q.2 ∙ ap₂ (plain_under (is_threaded m) q.0) given alike))
 
 -- the runs on many inputs
-pub corpus_answer : (Gives : Module → Module → Type 0) (under : Lines) (m n : Module) (names : List (List ℕ)) (o : Options) (s : Setup) (inputs : List (List ℕ)) (rs : List RunResult) (a : Answer) → n ≡ m → s ≡ setup_of o []
+pub corpus_answer : (Gives : Module → Module → Type 0) (under : Lines) (m n : Module) (names : List (List ℕ)) (o : Options) (s : Setup) (inputs : List (List ℕ)) (rs : List RunResult) (a : Output) → n ≡ m → s ≡ setup_of o []
     → AreRunsOfGiven Gives m s inputs rs → a ≡ answer_of_results under n names rs → AreSections Gives under names o inputs m a
 corpus_answer Gives under m n names o s inputs rs a same given q is =
     let runs : rs ≡ map (λ input. plain q.0 (setup_of o input)) inputs = q.2 ∙ ap (λ t. map (λ input. plain q.0 (with_input t input)) inputs) given in
@@ -109,7 +115,7 @@ pub all_within : (o : Options) (s : Setup) (inputs : List (List ℕ)) → RunsWi
 all_within o s inputs fit short is n d below = within o (get_or inputs n d) (with_input s (get_or inputs n d)) fit (short n d below) (ap (λ t. with_input t (get_or inputs n d)) is)
 
 -- the summary of that run
-pub summary_answer : (Gives : Module → Module → Type 0) (m n : Module) (s : Setup) (schedule : List ℕ) (r : RunResult) (a : Answer) → n ≡ m → s ≡ setup_of defaults [] → schedule ≡ defaults.schedule
+pub summary_answer : (Gives : Module → Module → Type 0) (m n : Module) (s : Setup) (schedule : List ℕ) (r : RunResult) (a : Output) → n ≡ m → s ≡ setup_of defaults [] → schedule ≡ defaults.schedule
     → IsRunOfGiven Gives m s schedule r → a ≡ answer_of (status_of r) (summary_of n r) [] → IsAnswerOfGen Gives true m a
 summary_answer Gives m n s schedule r a same given picks q is =
     let run : r ≡ plain_under (is_threaded m) q.0 (setup_of defaults []) defaults.schedule = q.2 ∙ ap₂ (plain_under (is_threaded m) q.0) given picks in
@@ -117,12 +123,12 @@ summary_answer Gives m n s schedule r a same given picks q is =
 
 -- ---- validity
 
-faulty : (Gives : Module → Module → Type 0) (under : Lines) (command : Command) (inputs : List (List ℕ)) (m : Module) (o : Option Fault) (a : Answer) → IfSome o (IsRefused m) → is_none o ≡ false
+faulty : (Gives : Module → Module → Type 0) (under : Lines) (command : Command) (inputs : List (List ℕ)) (m : Module) (o : Option Fault) (a : Output) → IfSome o (IsRefused m) → is_none o ≡ false
     → a ≡ says 5 (fault_line o ++ under_line under (fault_site o)) → IsAnswerToModule Gives under command inputs m a
 faulty Gives under command inputs m None a refused h is = absurd (true≢false h)
 faulty Gives under command inputs m (Some fault) a refused h is = inl (fault, refused, is)
 
-pub invalid_answer : (Gives : Module → Module → Type 0) (under : Lines) (command : Command) (inputs : List (List ℕ)) (m : Module) (cause : CheckError) (a : Answer)
+pub invalid_answer : (Gives : Module → Module → Type 0) (under : Lines) (command : Command) (inputs : List (List ℕ)) (m : Module) (cause : CheckError) (a : Output)
     → IfSome (fault_of cause) (IsRefused m) → wants_memory (OfCheck cause) ≡ false → a ≡ says 5 (refusal_text_with under (OfCheck cause)) → IsAnswerToModule Gives under command inputs m a
 invalid_answer Gives under command inputs m cause a refused h is = faulty Gives under command inputs m (fault_of cause) a refused h is
 
@@ -205,31 +211,19 @@ pub lines_shown : (command : Command) (file text : List ℕ) (tokens : List Toke
     → AreLines command text m under
 lines_shown command file text tokens marks m under named has are is = subst (λ o. AreLinesIn o (form_of command) text m under) (sym named) (tokens, has, marks, are, is)
 
-pub module_answer : (Gives : Module → Module → Type 0) (command : Command) (inputs : List (List ℕ)) (form : Form) (text : List ℕ) (r : Result Module ReadError) (m : Module) (a : Answer)
+pub module_answer : (Gives : Module → Module → Type 0) (command : Command) (inputs : List (List ℕ)) (form : Form) (text : List ℕ) (r : Result Module ReadError) (m : Module) (a : Output)
     → form ≡ form_of command → Read form text r → r ≡ Ok m → IsAnswerToReading Gives command inputs text (Ok m) a → IsAnswerToText Gives command inputs text a
 module_answer Gives command inputs form text r m a same read is answers =
     (Ok m, subst (λ f. IsReading f text (Ok m)) same (subst (IsReading form text) is (reading_is form text r read)), answers)
 
-error_answer : (Gives : Module → Module → Type 0) (command : Command) (inputs : List (List ℕ)) (text : List ℕ) (cause : ReadError) (a : Answer) → wants_memory (Of cause) ≡ false
+error_answer : (Gives : Module → Module → Type 0) (command : Command) (inputs : List (List ℕ)) (text : List ℕ) (cause : ReadError) (a : Output) → wants_memory (Of cause) ≡ false
     → a ≡ says 5 (refusal_text (Of cause)) → IsAnswerToReading Gives command inputs text (Err cause) a
 error_answer Gives command inputs text (e.Lex cause) a some is = is
 error_answer Gives command inputs text (e.Refused number w token place) a some is = is
 error_answer Gives command inputs text e.NoMemory a some is = absurd (true≢false some)
 
-pub refusal_answer : (Gives : Module → Module → Type 0) (command : Command) (inputs : List (List ℕ)) (form : Form) (text : List ℕ) (r : Result Module ReadError) (cause : ReadError) (a : Answer)
+pub refusal_answer : (Gives : Module → Module → Type 0) (command : Command) (inputs : List (List ℕ)) (form : Form) (text : List ℕ) (r : Result Module ReadError) (cause : ReadError) (a : Output)
     → form ≡ form_of command → Read form text r → r ≡ Err cause → wants_memory (Of cause) ≡ false → a ≡ says 5 (refusal_text_with no_lines (Of cause)) → IsAnswerToText Gives command inputs text a
 refusal_answer Gives command inputs form text r cause a same read is some answers =
     let line : a ≡ says 5 (refusal_text (Of cause)) = answers ∙ ap (says 5) (append-nil (refusal_text (Of cause))) in
     (Err cause, subst (λ f. IsReading f text (Err cause)) same (subst (IsReading form text) is (reading_is form text r read)), error_answer Gives command inputs text cause a some line)
-
--- the limit of a module's file is that of its form
-pub file_limit : (command : Command) (n : ℕ) → n ≤ module_limit command → n ≤ max_bytes (form_of command)
-unfolding max_bytes
-file_limit (Instrument file) n h = h
-file_limit (Run file o) n h = h
-file_limit (Check file o) n h = h
-file_limit (Explain file o) n h = h
-file_limit (Corpus file inputs o workers) n h = h
-file_limit (Gen seed functions run) n h = h
-file_limit Help n h = h
-file_limit Version n h = h

@@ -29,26 +29,21 @@ use Rattle.ms_trail.specs.declared.found.Trace.TheVariants.{NoReport, TooLong, F
 use Rattle.ms_trail_bytes.specs.Logs.{move_limit}
 use Rattle.ms_trail.specs.Tracing.{limited}
 use Rattle.ms_report.specs.WithLines.{Lines, reports_with}
-use Rattle.ms_words.specs.declared.commands.Command.{Command}
 use Rattle.ms_words.specs.declared.commands.Command.TheVariants.{Explain}
 use Rattle.ms_words.specs.declared.commands.Options.{Options}
-use Rattle.ms_top.specs.declared.answers.Answer.{Answer}
+use Rattle.ms_top.specs.declared.output.Output.{Output}
 use Rattle.ms_top.specs.Command.{only_input, setup_of}
 use Rattle.ms_top.specs.Explained.{CanLead, explained_with, followed, no_report, trace_with, way_with}
 use Rattle.ms_top.specs.Instrumented.{IsInstrumented}
 use Rattle.ms_top.specs.Parts.{IsRunOfGiven}
 use Rattle.ms_top.specs.Promised.{ShowsWay}
 use Rattle.ms_top.specs.Runs.{plain_under}
-use Rattle.ms_top.specs.Said.{answer_of_explained, IsExplanation, IsAnswerOfExplain, IsAnswerToValid}
+use Rattle.ms_top.specs.Said.{answer_of_explained, IsExplanation, IsAnswerToValid}
 use Rattle.ms_top.proofs.Faithful.{alone_says, runs_alone}
 
 -- ---- answers
 
-pub explain_valid : (Gives : Module → Module → Type 0) (under : Lines) (command : Command) (file : List ℕ) (o : Options) (inputs : List (List ℕ)) (m : Module) (a : Answer) → command ≡ Explain file o
-    → IsAnswerOfExplain Gives under (setup_of o (only_input inputs)) m a → IsAnswerToValid Gives under command inputs m a
-explain_valid Gives under command file o inputs m a is answers = subst (λ c. IsAnswerToValid Gives under c inputs m a) (sym is) answers
-
-pub explain_answer : (Gives : Module → Module → Type 0) (under : Lines) (m : Module) (s t : Setup) (schedule : List ℕ) (r : RunResult) (a : Answer) → is_threaded m ≡ false → s ≡ t → IsRunOfGiven Gives m s schedule r
+pub explain_answer : (Gives : Module → Module → Type 0) (under : Lines) (m : Module) (s t : Setup) (schedule : List ℕ) (r : RunResult) (a : Output) → is_threaded m ≡ false → s ≡ t → IsRunOfGiven Gives m s schedule r
     → a ≡ answer_of_explained under m s r → IsExplanation Gives under t m a
 explain_answer Gives under m s t schedule r a alone given q is =
     let run : r ≡ plain q.0 s = subst (λ b. r ≡ plain_under b q.0 s schedule) alone q.2 in
@@ -130,26 +125,26 @@ module _ (under : Lines) (m : Module) (s : Setup) where
 
 -- ---- where the pass gives faithful modules
 
-pub explains_shadow : (Gives : Module → Module → Type 0) (under : Lines) (file : List ℕ) (inputs : List (List ℕ)) (o : Options) (m : Module) (a : Answer) → ((j : Module) → Gives m j → Faithful m j)
+pub explains_shadow : (Gives : Module → Module → Type 0) (under : Lines) (file : List ℕ) (inputs : List (List ℕ)) (o : Options) (m : Module) (a : Output) → ((j : Module) → Gives m j → Faithful m j)
     → is_threaded m ≡ false → let s = setup_of o (only_input inputs) in Fair s → IsAnswerToValid Gives under (Explain file o) inputs m a → a ≡ answer_of_explained under m s (shadow m s)
 explains_shadow Gives under file inputs o m a faithful alone fair is =
     let s = setup_of o (only_input inputs) in
     let h = alone_says m a (IsExplanation Gives under s m a) alone is in
     h.2 ∙ ap (answer_of_explained under m s) ((faithful h.0 h.1).runs s fair)
 
-pub explained_shadow : (under : Lines) (file : List ℕ) (inputs : List (List ℕ)) (o : Options) (m : Module) (a : Answer) → is_threaded m ≡ false → let s = setup_of o (only_input inputs) in Fair s
+pub explained_shadow : (under : Lines) (file : List ℕ) (inputs : List (List ℕ)) (o : Options) (m : Module) (a : Output) → is_threaded m ≡ false → let s = setup_of o (only_input inputs) in Fair s
     → IsAnswerToValid IsInstrumented under (Explain file o) inputs m a → a ≡ answer_of_explained under m s (shadow m s)
 explained_shadow under file inputs o m a alone fair is =
     let s = setup_of o (only_input inputs) in
     let h = alone_says m a (IsExplanation IsInstrumented under s m a) alone is in
     h.2 ∙ ap (answer_of_explained under m s) (runs_alone m h.0 h.1 alone s fair)
 
-pub explained_way : (under : Lines) (file : List ℕ) (inputs : List (List ℕ)) (o : Options) (m : Module) (a : Answer) → is_threaded m ≡ false → let s = setup_of o (only_input inputs) in Fair s
+pub explained_way : (under : Lines) (file : List ℕ) (inputs : List (List ℕ)) (o : Options) (m : Module) (a : Output) → is_threaded m ≡ false → let s = setup_of o (only_input inputs) in Fair s
     → IsAnswerToValid IsInstrumented under (Explain file o) inputs m a → (shadow m s).reports ≢ [] → ShowsWay under m s a.out
 explained_way under file inputs o m a alone fair answers some =
     shows_way under m (setup_of o (only_input inputs)) alone a.out (ap (λ x. x.out) (explained_shadow under file inputs o m a alone fair answers)) some
 
-pub explained_none : (under : Lines) (file : List ℕ) (inputs : List (List ℕ)) (o : Options) (m : Module) (a : Answer) → is_threaded m ≡ false → let s = setup_of o (only_input inputs) in Fair s
+pub explained_none : (under : Lines) (file : List ℕ) (inputs : List (List ℕ)) (o : Options) (m : Module) (a : Output) → is_threaded m ≡ false → let s = setup_of o (only_input inputs) in Fair s
     → IsAnswerToValid IsInstrumented under (Explain file o) inputs m a → (shadow m s).reports ≡ [] → a.out ≡ no_report
 explained_none under file inputs o m a alone fair answers none =
     shows_none under m (setup_of o (only_input inputs)) a.out (ap (λ x. x.out) (explained_shadow under file inputs o m a alone fair answers)) none

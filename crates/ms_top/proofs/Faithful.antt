@@ -10,7 +10,7 @@ use Rattle.ms_runs.specs.Plain.{plain}
 use Rattle.ms_runs.specs.Shadow.{shadow}
 use Rattle.ms_runs.specs.Faithful.{Fair}
 use Rattle.ms_runs_fills_laws.specs.Checked.{HoldsUnderFills}
-use Rattle.ms_top.specs.declared.answers.Answer.{Answer}
+use Rattle.ms_top.specs.declared.output.Output.{Output}
 use Rattle.ms_words.specs.declared.commands.Command.TheVariants.{Check, Corpus}
 use Rattle.ms_words.specs.declared.commands.Options.{Options}
 use Rattle.ms_words.specs.Limits.{RunsWithinLimits}
@@ -51,7 +51,7 @@ fair_options o input fit short bytes = record {
 -- ---- modules without threads
 
 -- the answer of a command that takes no schedule
-pub alone_says : (m : Module) (a : Answer) (Is : Type 0) → is_threaded m ≡ false → UnlessThreaded (is_threaded m) a Is → Is
+pub alone_says : (m : Module) (a : Output) (Is : Type 0) → is_threaded m ≡ false → UnlessThreaded (is_threaded m) a Is → Is
 alone_says m a Is alone is = subst (λ t. UnlessThreaded t a Is) alone is
 
 pub runs_alone : (m j : Module) → IsInstrumented m j → is_threaded m ≡ false → (s : Setup) → Fair s → plain j s ≡ shadow m s
@@ -63,11 +63,11 @@ holds_alone m j made alone s fair =
 
 -- ---- checks
 
-pub shadow_answer : (under : Lines) (file : List ℕ) (inputs : List (List ℕ)) (o : Options) (m : Module) (a : Answer) → let s = setup_of o (only_input inputs) in Fair s → IsSchedule o.schedule
+pub shadow_answer : (under : Lines) (file : List ℕ) (inputs : List (List ℕ)) (o : Options) (m : Module) (a : Output) → let s = setup_of o (only_input inputs) in Fair s → IsSchedule o.schedule
     → IsAnswerToValid IsInstrumented under (Check file o) inputs m a → a ≡ answer_of_result under true m (shadow_under (is_threaded m) m s o.schedule)
 shadow_answer under file inputs o m a fair some (j, made, is) = is ∙ ap (answer_of_result under true m) (made.runs (setup_of o (only_input inputs)) fair o.schedule some)
 
-pub under_fills : (under : Lines) (file : List ℕ) (inputs : List (List ℕ)) (o : Options) (m : Module) (a : Answer) → let s = setup_of o (only_input inputs) in Fair s → IsSchedule o.schedule
+pub under_fills : (under : Lines) (file : List ℕ) (inputs : List (List ℕ)) (o : Options) (m : Module) (a : Output) → let s = setup_of o (only_input inputs) in Fair s → IsSchedule o.schedule
     → IsAnswerToValid IsInstrumented under (Check file o) inputs m a → HoldsUnder (is_threaded m) m s o.schedule (shadow_under (is_threaded m) m s o.schedule)
 under_fills under file inputs o m a fair some (j, made, is) =
     let s = setup_of o (only_input inputs) in subst (HoldsUnder (is_threaded m) m s o.schedule) (made.runs s fair o.schedule some) (made.holds s fair o.schedule some)
@@ -79,16 +79,16 @@ all_shadow m j o [] made alone fair = refl
 all_shadow m j o (input ∷ rest) made alone fair =
     ap₂ (λ r rs. r ∷ rs) (runs_alone m j made alone (setup_of o input) (fair 0 [] (omega arith))) (all_shadow m j o rest made alone (λ n d below. fair (suc n) d (omega (arith, below))))
 
-pub corpus_shown : (under : Lines) (file : List ℕ) (names inputs : List (List ℕ)) (o : Options) (workers : ℕ) (m : Module) (a : Answer) → is_threaded m ≡ false → All (λ input. Fair (setup_of o input)) inputs
+pub corpus_shown : (under : Lines) (file : List ℕ) (names inputs : List (List ℕ)) (o : Options) (workers : ℕ) (m : Module) (a : Output) → is_threaded m ≡ false → All (λ input. Fair (setup_of o input)) inputs
     → IsAnswerToValid IsInstrumented under (Corpus file names o workers) inputs m a → a ≡ answer_of_results under m names (map (λ input. shadow m (setup_of o input)) inputs)
 corpus_shown under file names inputs o workers m a alone fair is =
     let h = alone_says m a (AreSections IsInstrumented under names o inputs m a) alone is in h.2 ∙ ap (answer_of_results under m names) (all_shadow m h.0 o inputs h.1 alone fair)
 
-pub corpus_holds : (under : Lines) (file : List ℕ) (names inputs : List (List ℕ)) (o : Options) (workers : ℕ) (m : Module) (a : Answer) → is_threaded m ≡ false
+pub corpus_holds : (under : Lines) (file : List ℕ) (names inputs : List (List ℕ)) (o : Options) (workers : ℕ) (m : Module) (a : Output) → is_threaded m ≡ false
     → IsAnswerToValid IsInstrumented under (Corpus file names o workers) inputs m a → (input : List ℕ) → Fair (setup_of o input) → HoldsUnderFills m (setup_of o input) (shadow m (setup_of o input))
 corpus_holds under file names inputs o workers m a alone is input fair =
     let h = alone_says m a (AreSections IsInstrumented under names o inputs m a) alone is in holds_alone m h.0 h.1 alone (setup_of o input) fair
 
-pub summary_shown : (m : Module) (a : Answer) → IsAnswerOfGen IsInstrumented true m a
+pub summary_shown : (m : Module) (a : Output) → IsAnswerOfGen IsInstrumented true m a
     → let r = shadow_under (is_threaded m) m (setup_of defaults []) defaults.schedule in a ≡ answer_of (status_of r) (summary_of m r) []
 summary_shown m a (j, made, is) = is ∙ ap (λ r. answer_of (status_of r) (summary_of m r) []) (made.runs (setup_of defaults []) fair_default defaults.schedule (omega arith))

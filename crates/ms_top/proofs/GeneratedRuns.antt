@@ -15,7 +15,7 @@ use Rattle.ms_runs.specs.Shadow.{shadow}
 use Rattle.ms_runs_good_laws.proofs.CallTypes.{external_named_so}
 use Rattle.ms_gen.specs.Generator.{function_of, functions_of, generated, main_of, name_of, operations, state_after}
 use Rattle.ms_words.specs.Words.{defaults}
-use Rattle.ms_top.specs.declared.answers.Answer.{Answer}
+use Rattle.ms_top.specs.declared.output.Output.{Output}
 use Rattle.ms_top.specs.Command.{setup_of}
 use Rattle.ms_top.specs.Instrumented.{IsInstrumented}
 use Rattle.ms_top.specs.Runs.{shadow_under}
@@ -73,7 +73,7 @@ pub generated_alone : (seed n : ℕ) → is_threaded (generated seed n) ≡ fals
 generated_alone seed n = functions_alone (func_index (functions_of seed n ++ main_of n ∷ [])) (λ k. state_after (16 * k) seed) n 0 n
 
 -- so its summary is that of its shadow run
-pub generated_shown : (seed n : ℕ) (a : Answer) → IsAnswerOfGen IsInstrumented true (generated seed n) a
+pub generated_shown : (seed n : ℕ) (a : Output) → IsAnswerOfGen IsInstrumented true (generated seed n) a
     → let r = shadow (generated seed n) (setup_of defaults []) in a ≡ answer_of (status_of r) (summary_of (generated seed n) r) []
 generated_shown seed n a is =
     summary_shown (generated seed n) a is

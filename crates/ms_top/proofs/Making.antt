@@ -1,63 +1,72 @@
--- The module that the pass makes, of one without threads and of one with threads.
-use Rattle.std.proofs.Common.{◌≡◌, ◌∙◌, true, false, sym, ap, subst, true≢false}
-use Rattle.std.specs.Prelude.{List, ℕ}
+-- The module that the pass makes, with threads or without.
+use Rattle.std.proofs.Common.{◌≡◌, ◌∙◌, Bool, true, false, refl, sym, ap, subst, true≢false}
 use Rattle.ms_ir.specs.declared.syntax.Module.{Module}
 use Rattle.ms_ir.specs.Instructions.{strip}
 use Rattle.ms_ir.specs.ThreadCalls.{is_threaded}
-use Rattle.ms_runs.specs.declared.runs.Setup.{Setup}
-use Rattle.ms_runs.specs.Faithful.{Fair, Faithful, Undisturbed}
-use Rattle.ms_runs.specs.Plain.{plain}
-use Rattle.ms_runs_threads.specs.PlainFibers.{plain_threads}
+use Rattle.ms_runs.specs.Faithful.{Faithful, Undisturbed}
 use Rattle.ms_check_valid.specs.Formed.{Formed}
+use Rattle.ms_check_valid.specs.Uninstrumented.{CanInstrument}
 use Rattle.ms_check_valid.specs.Valid.{Valid}
-use Rattle.ms_runs_good_laws.specs.Fills.{InsertedUnderFills}
-use Rattle.ms_runs_fills_laws.specs.Checked.{HoldsUnderFills}
-use Rattle.ms_runs_fills_laws.specs.Chosen.{HoldsUnderChoices}
+use Rattle.ms_runs_laws.proofs.SameOutput.{faithful_undisturbed}
+use Rattle.ms_runs_fills_laws.proofs.Chosen.{checked_holds_chosen}
+use Rattle.ms_runs_fills_laws.proofs.Whole.{inserted_fills, checked_holds}
 use Rattle.ms_pass_form_laws.specs.Elided.{IsElided}
 use Rattle.ms_pass.specs.Passed.{IsMadeOf}
-use Rattle.ms_threads.specs.Faithful.{FaithfulThreads, IsSchedule}
-use Rattle.ms_threads.specs.Fills.{ThreadsHoldUnderFills}
+use Rattle.ms_threads.proofs.FaithfulRuns.{faithful_threads, threads_hold}
+use Rattle.ms_threads.proofs.Stripped.{same_threads as inserted_same}
 use Rattle.ms_top.specs.Instrumented.{IsInstrumented}
 use Rattle.ms_top.specs.Runs.{plain_under, shadow_under, HoldsUnder}
-use Rattle.ms_threads.proofs.Stripped.{same_threads as inserted_same}
 
--- what both have
+-- what the pass makes of m is j
 pub record IsMade (m j : Module) : Type 0 where
   pub strips : strip j ≡ m
   pub formed : Formed j
   pub valid : Valid j
   pub elided : IsElided m j
   pub made : IsMadeOf m j
+  pub faithful : Faithful m j
 
-pub instrumented_alone : (m j : Module) → is_threaded m ≡ false → IsMade m j → Faithful m j → ((s : Setup) → Fair s → HoldsUnderFills m s (plain j s)) → ((s : Setup) → Fair s → Undisturbed (plain j s) (plain m s))
-    → ((s : Setup) → Fair s → InsertedUnderFills j s) → ((s : Setup) → Fair s → HoldsUnderChoices m s (plain j s)) → IsInstrumented m j
-instrumented_alone m j alone is faithful holds undisturbed under_fills choices = record {
-  strips = is.strips;
-  formed = is.formed;
-  valid = is.valid;
-  elided = is.elided;
-  made = is.made;
-  runs = λ s fair schedule some. subst (λ t. plain_under t j s schedule ≡ shadow_under t m s schedule) (sym alone) (faithful.runs s fair);
-  holds = λ s fair schedule some. subst (λ t. HoldsUnder t m s schedule (plain_under t j s schedule)) (sym alone) (holds s fair);
-  undisturbed = λ s fair schedule some. subst (λ t. Undisturbed (plain_under t j s schedule) (plain_under t m s schedule)) (sym alone) (undisturbed s fair);
-  under_fills = λ none. under_fills;
-  choices = λ none. choices;
-}
+module _ (m : Module) (formed : Formed m) (valid : Valid m) (can : CanInstrument m) (j : Module) (is : IsMade m j) where
+  alone : is_threaded m ≡ false → IsInstrumented m j
+  alone none = record {
+    strips = is.strips;
+    formed = is.formed;
+    valid = is.valid;
+    elided = is.elided;
+    made = is.made;
+    runs = λ s fair schedule some. subst (λ t. plain_under t j s schedule ≡ shadow_under t m s schedule) (sym none) (is.faithful.runs s fair);
+    holds = λ s fair schedule some.
+        subst (λ t. HoldsUnder t m s schedule (plain_under t j s schedule)) (sym none) (checked_holds m formed valid none can.plain.unmarked j is.faithful s fair);
+    undisturbed = λ s fair schedule some.
+        subst (λ t. Undisturbed (plain_under t j s schedule) (plain_under t m s schedule)) (sym none) (faithful_undisturbed m j is.faithful s fair);
+    under_fills = λ calm s fair. inserted_fills m formed valid calm j is.faithful s fair;
+    choices = λ calm s fair. checked_holds_chosen m formed valid calm can.plain.unmarked j is.faithful s fair;
+  }
 
-pub instrumented_with_threads : (m j : Module) → is_threaded m ≡ true → IsMade m j → FaithfulThreads m j
-    → ((s : Setup) → Fair s → (schedule : List ℕ) → IsSchedule schedule → ThreadsHoldUnderFills m s schedule (plain_threads j s schedule)) → IsInstrumented m j
-instrumented_with_threads m j threads is faithful holds = record {
-  strips = is.strips;
-  formed = is.formed;
-  valid = is.valid;
-  elided = is.elided;
-  made = is.made;
-  runs = λ s fair schedule some. subst (λ t. plain_under t j s schedule ≡ shadow_under t m s schedule) (sym threads) (faithful.runs s fair schedule some);
-  holds = λ s fair schedule some. subst (λ t. HoldsUnder t m s schedule (plain_under t j s schedule)) (sym threads) (holds s fair schedule some);
-  undisturbed = λ s fair schedule some. subst (λ t. Undisturbed (plain_under t j s schedule) (plain_under t m s schedule)) (sym threads) (faithful.undisturbed s fair schedule some);
-  under_fills = λ none. absurd (true≢false (sym threads ∙ none));
-  choices = λ none. absurd (true≢false (sym threads ∙ none));
-}
+  with_threads : is_threaded m ≡ true → IsInstrumented m j
+  with_threads some_are =
+      let threads = faithful_threads m formed valid can j is.elided in
+      record {
+        strips = is.strips;
+        formed = is.formed;
+        valid = is.valid;
+        elided = is.elided;
+        made = is.made;
+        runs = λ s fair schedule some. subst (λ t. plain_under t j s schedule ≡ shadow_under t m s schedule) (sym some_are) (threads.runs s fair schedule some);
+        holds = λ s fair schedule some.
+            subst (λ t. HoldsUnder t m s schedule (plain_under t j s schedule)) (sym some_are) (threads_hold m formed valid can j is.elided s fair schedule);
+        undisturbed = λ s fair schedule some.
+            subst (λ t. Undisturbed (plain_under t j s schedule) (plain_under t m s schedule)) (sym some_are) (threads.undisturbed s fair schedule some);
+        under_fills = λ calm. absurd (true≢false (sym some_are ∙ calm));
+        choices = λ calm. absurd (true≢false (sym some_are ∙ calm));
+      }
+
+  pub instrumented : IsInstrumented m j
+  instrumented = by_threads (is_threaded m) refl
+    where
+      by_threads : (t : Bool) → is_threaded m ≡ t → IsInstrumented m j
+      by_threads true e = with_threads e
+      by_threads false e = alone e
 
 -- a valid module that is another one once its inserted code is gone has threads exactly where that one has
 pub same_threads : (m j k : Module) → k ≡ j → strip j ≡ m → Valid j → is_threaded k ≡ is_threaded m

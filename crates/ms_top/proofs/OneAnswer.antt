@@ -23,7 +23,7 @@ use Rattle.ms_where_places.specs.Marks.{AreMarks}
 use Rattle.ms_where_places.proofs.One.{one_list_of_marks}
 use Rattle.ms_where.specs.Lines.{lines_of_site}
 use Rattle.ms_report.specs.WithLines.{Lines}
-use Rattle.ms_top.specs.declared.answers.Answer.{Answer}
+use Rattle.ms_top.specs.declared.output.Output.{Output}
 use Rattle.ms_words.specs.declared.commands.Command.{Command}
 use Rattle.ms_words.specs.declared.commands.Command.TheVariants.{Instrument, Run, Check, Explain, Corpus, Gen, Help, Version}
 use Rattle.ms_words.specs.declared.commands.WordsError.{WordsError}
@@ -61,7 +61,7 @@ pub one_lines : (command : Command) (text : List ℕ) (m : Module) (under other 
 one_lines command text m under other p q = one_lines_in (located_file command) (form_of command) text m under other p q
 
 -- two faults that differ in no more than the path
-of_faults : (under : Lines) (f g : ModuleFault) (a b : Answer) → without_path f ≡ without_path g → a ≡ says 5 (fault_text_with under f) → b ≡ says 5 (fault_text_with under g) → (a ≡ b) ⊎ DifferInPath a b
+of_faults : (under : Lines) (f g : ModuleFault) (a b : Output) → without_path f ≡ without_path g → a ≡ says 5 (fault_text_with under f) → b ≡ says 5 (fault_text_with under g) → (a ≡ b) ⊎ DifferInPath a b
 of_faults under (Undefined s path) (Undefined t other) a b e p q =
     let same : s ≡ t = cc in
     inr (under, t, path, other, p ∙ ap (λ site. says 5 (fault_text_with under (Undefined site path))) same, q)
@@ -73,25 +73,25 @@ of_faults under f g a b e p q = inl (p ∙ ap (λ x. says 5 (fault_text_with und
 pub made_once : (m j k : Module) → IsInstrumented m j → IsInstrumented m k → j ≡ k
 made_once m j k p q = elided_once m j k p.elided q.elided
 
-of_gen : (run : Bool) (m : Module) (a b : Answer) → IsAnswerOfGen IsInstrumented run m a → IsAnswerOfGen IsInstrumented run m b → a ≡ b
+of_gen : (run : Bool) (m : Module) (a b : Output) → IsAnswerOfGen IsInstrumented run m a → IsAnswerOfGen IsInstrumented run m b → a ≡ b
 of_gen true m a b (j, p, is) (k, q, same) =
     is ∙ ap (λ n. let r = plain_under (is_threaded m) n (setup_of defaults []) defaults.schedule in answer_of (status_of r) (summary_of m r) []) (made_once m j k p q) ∙ sym same
 of_gen false m a b p q = p ∙ sym q
 
 -- two answers of a command that takes no schedule
-by_threads : (t : Bool) (a b : Answer) (P Q : Type 0) → (P → Q → a ≡ b) → UnlessThreaded t a P → UnlessThreaded t b Q → a ≡ b
+by_threads : (t : Bool) (a b : Output) (P Q : Type 0) → (P → Q → a ≡ b) → UnlessThreaded t a P → UnlessThreaded t b Q → a ≡ b
 by_threads true a b P Q h p q = p ∙ sym q
 by_threads false a b P Q h p q = h p q
 
-of_sections : (under : Lines) (names : List (List ℕ)) (o : Options) (inputs : List (List ℕ)) (m : Module) (a b : Answer) → AreSections IsInstrumented under names o inputs m a
+of_sections : (under : Lines) (names : List (List ℕ)) (o : Options) (inputs : List (List ℕ)) (m : Module) (a b : Output) → AreSections IsInstrumented under names o inputs m a
     → AreSections IsInstrumented under names o inputs m b → a ≡ b
 of_sections under names o inputs m a b (j, p, is) (k, q, same) =
     is ∙ ap (λ n. answer_of_results under m names (map (λ input. plain n (setup_of o input)) inputs)) (made_once m j k p q) ∙ sym same
 
-of_explanation : (under : Lines) (s : Setup) (m : Module) (a b : Answer) → IsExplanation IsInstrumented under s m a → IsExplanation IsInstrumented under s m b → a ≡ b
+of_explanation : (under : Lines) (s : Setup) (m : Module) (a b : Output) → IsExplanation IsInstrumented under s m a → IsExplanation IsInstrumented under s m b → a ≡ b
 of_explanation under s m a b (j, p, is) (k, q, same) = is ∙ ap (λ n. answer_of_explained under m s (plain n s)) (made_once m j k p q) ∙ sym same
 
-of_valid : (under : Lines) (command : Command) (inputs : List (List ℕ)) (m : Module) (a b : Answer) → IsAnswerToValid IsInstrumented under command inputs m a
+of_valid : (under : Lines) (command : Command) (inputs : List (List ℕ)) (m : Module) (a b : Output) → IsAnswerToValid IsInstrumented under command inputs m a
     → IsAnswerToValid IsInstrumented under command inputs m b → a ≡ b
 of_valid under (Instrument file) inputs m a b (j, p, is) (k, q, same) = is ∙ ap (λ n. answer_of 0 (written n) []) (made_once m j k p q) ∙ sym same
 of_valid under (Run file o) inputs m a b p q = p ∙ sym q
@@ -104,17 +104,17 @@ of_valid under (Check file o) inputs m a b (j, p, is) (k, q, same) =
     is ∙ ap (λ n. answer_of_result under true m (plain_under (is_threaded m) n (setup_of o (only_input inputs)) o.schedule)) (made_once m j k p q) ∙ sym same
 
 module _ (command : Command) (inputs : List (List ℕ)) where
-  of_module : (under : Lines) (m : Module) (a b : Answer) → IsAnswerToModule IsInstrumented under command inputs m a → IsAnswerToModule IsInstrumented under command inputs m b → (a ≡ b) ⊎ DifferInPath a b
+  of_module : (under : Lines) (m : Module) (a b : Output) → IsAnswerToModule IsInstrumented under command inputs m a → IsAnswerToModule IsInstrumented under command inputs m b → (a ≡ b) ⊎ DifferInPath a b
   of_module under m a b (inl (f, p, is)) (inl (g, q, same)) = of_faults under f g a b (one_fault m f g p q) is same
   of_module under m a b (inl (f, p, is)) (inr (valid, q)) = absurd (invalid m f p valid)
   of_module under m a b (inr (valid, p)) (inl (g, q, same)) = absurd (invalid m g q valid)
   of_module under m a b (inr (valid, p)) (inr (other, q)) = inl (of_valid under command inputs m a b p q)
 
   module _ (text : List ℕ) where
-    pub memory_is_there : (r : Result Module ReadError) (a : Answer) → IsAnswerToReading IsInstrumented command inputs text r a → r ≢ Err e.NoMemory
+    pub memory_is_there : (r : Result Module ReadError) (a : Output) → IsAnswerToReading IsInstrumented command inputs text r a → r ≢ Err e.NoMemory
     memory_is_there r a is none = subst (λ s. IsAnswerToReading IsInstrumented command inputs text s a) none is
 
-    of_reading : (r : Result Module ReadError) (a b : Answer) → IsAnswerToReading IsInstrumented command inputs text r a → IsAnswerToReading IsInstrumented command inputs text r b
+    of_reading : (r : Result Module ReadError) (a b : Output) → IsAnswerToReading IsInstrumented command inputs text r a → IsAnswerToReading IsInstrumented command inputs text r b
         → (a ≡ b) ⊎ DifferInPath a b
     of_reading (Ok m) a b (under, are, p) (other, show, q) =
         of_module under m a b p (subst (λ l. IsAnswerToModule IsInstrumented l command inputs m b) (one_lines command text m other under show are) q)
@@ -122,12 +122,12 @@ module _ (command : Command) (inputs : List (List ℕ)) where
     of_reading (Err (e.Refused number w token place)) a b p q = inl (p ∙ sym q)
     of_reading (Err e.NoMemory) a b p q = absurd p
 
-    pub of_text : (a b : Answer) → IsAnswerToText IsInstrumented command inputs text a → IsAnswerToText IsInstrumented command inputs text b → (a ≡ b) ⊎ DifferInPath a b
+    pub of_text : (a b : Output) → IsAnswerToText IsInstrumented command inputs text a → IsAnswerToText IsInstrumented command inputs text b → (a ≡ b) ⊎ DifferInPath a b
     of_text a b (r, is, p) (s, same, q) =
         let e = one_reading (form_of command) text r s is same (memory_is_there r a p) (memory_is_there s b q) in
         of_reading r a b p (subst (λ t. IsAnswerToReading IsInstrumented command inputs text t b) e q)
 
-pub one_answer : (command : Command) (inputs : List (List ℕ)) (text : List ℕ) (a b : Answer)
+pub one_answer : (command : Command) (inputs : List (List ℕ)) (text : List ℕ) (a b : Output)
     → IsAnswerToText IsInstrumented command inputs text a → IsAnswerToText IsInstrumented command inputs text b → (a ≡ b) ⊎ DifferInPath a b
 one_answer command inputs text a b p q = of_text command inputs text a b p q
 
@@ -168,7 +168,7 @@ module _ (c : Counted) (files : Holdings) (told : c.told ≡ Some files) (steady
       let f : later ≡ last = one_read rest later last read again in
       p ∙ ap (λ t. after t later) e ∙ ap (after other) f ∙ sym q
 
-  without_file : (command : Command) (a b : Answer) → IsAnswerWithoutFile IsInstrumented command a → IsAnswerWithoutFile IsInstrumented command b → a ≡ b
+  without_file : (command : Command) (a b : Output) → IsAnswerWithoutFile IsInstrumented command a → IsAnswerWithoutFile IsInstrumented command b → a ≡ b
   without_file (Instrument file) a b p q = absurd p
   without_file (Run file o) a b p q = absurd p
   without_file (Check file o) a b p q = absurd p
@@ -178,29 +178,29 @@ module _ (c : Counted) (files : Holdings) (told : c.told ≡ Some files) (steady
   without_file Help a b p q = p ∙ sym q
   without_file Version a b p q = p ∙ sym q
 
-  of_texts : (command : Command) (texts : List (List ℕ)) (a b : Answer) → IsAnswerToTexts IsInstrumented command texts a → IsAnswerToTexts IsInstrumented command texts b
+  of_texts : (command : Command) (texts : List (List ℕ)) (a b : Output) → IsAnswerToTexts IsInstrumented command texts a → IsAnswerToTexts IsInstrumented command texts b
       → (a ≡ b) ⊎ DifferInPath a b
   of_texts command [] a b p q = inl (without_file command a b p q)
   of_texts command (text ∷ inputs) a b p q = of_text command inputs text a b p q
 
-  of_files : (command : Command) (r : FilesRead) (a b : Answer) → IsAnswerToFiles IsInstrumented command r a → IsAnswerToFiles IsInstrumented command r b
+  of_files : (command : Command) (r : FilesRead) (a b : Output) → IsAnswerToFiles IsInstrumented command r a → IsAnswerToFiles IsInstrumented command r b
       → (a ≡ b) ⊎ DifferInPath a b
   of_files command (Fault name) a b p q = inl (p ∙ sym q)
   of_files command (Long name) a b p q = inl (p ∙ sym q)
   of_files command (Whole texts) a b p q = of_texts command texts a b p q
 
-  of_command : (command : Command) (a b : Answer) → IsAnswerToCommand IsInstrumented c command a → IsAnswerToCommand IsInstrumented c command b → (a ≡ b) ⊎ DifferInPath a b
+  of_command : (command : Command) (a b : Output) → IsAnswerToCommand IsInstrumented c command a → IsAnswerToCommand IsInstrumented c command b → (a ≡ b) ⊎ DifferInPath a b
   of_command command a b (r, can, p) (s, again, q) =
       of_files command r a b p (subst (λ x. IsAnswerToFiles IsInstrumented command x b) (one_read (files_of command) s r again can) q)
 
-  of_words : (r : Result Command WordsError) (a b : Answer) → IsAnswerFor IsInstrumented c r a → IsAnswerFor IsInstrumented c r b → (a ≡ b) ⊎ DifferInPath a b
+  of_words : (r : Result Command WordsError) (a b : Output) → IsAnswerFor IsInstrumented c r a → IsAnswerFor IsInstrumented c r b → (a ≡ b) ⊎ DifferInPath a b
   of_words (Ok command) a b p q = of_command command a b p q
   of_words (Err fault) a b p q = inl (p ∙ sym q)
 
-pub one_answer_to_commands : (c : Counted) (files : Holdings) (command : Command) (a b : Answer) → c.told ≡ Some files → (Rose c.faults c.faults_after → ⊥)
+pub one_answer_to_commands : (c : Counted) (files : Holdings) (command : Command) (a b : Output) → c.told ≡ Some files → (Rose c.faults c.faults_after → ⊥)
     → IsAnswerToCommand IsInstrumented c command a → IsAnswerToCommand IsInstrumented c command b → (a ≡ b) ⊎ DifferInPath a b
 one_answer_to_commands c files command a b told steady p q = of_command c files told steady command a b p q
 
-pub one_answer_to_words : (c : Counted) (files : Holdings) (words : List (List ℕ)) (a b : Answer) → c.told ≡ Some files → (Rose c.faults c.faults_after → ⊥)
+pub one_answer_to_words : (c : Counted) (files : Holdings) (words : List (List ℕ)) (a b : Output) → c.told ≡ Some files → (Rose c.faults c.faults_after → ⊥)
     → IsAnswer IsInstrumented c words a → IsAnswer IsInstrumented c words b → (a ≡ b) ⊎ DifferInPath a b
 one_answer_to_words c files words a b told steady p q = of_words c files told steady (command_of words) a b p q

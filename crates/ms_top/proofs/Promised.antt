@@ -15,7 +15,7 @@ use Rattle.ms_words.specs.Limits.{RunsWithinLimits}
 use Rattle.ms_words.specs.declared.commands.Command.TheVariants.{Check, Explain}
 use Rattle.ms_words.specs.declared.commands.Command.{Command}
 use Rattle.ms_words.specs.declared.commands.Options.{Options}
-use Rattle.ms_top.specs.declared.answers.Answer.{Answer}
+use Rattle.ms_top.specs.declared.output.Output.{Output}
 use Rattle.ms_top.specs.Command.{files_of, form_of, input_files, input_limit, only_input, setup_of}
 use Rattle.ms_top.specs.Files.{Counted, FilesRead, Whole, Fault, Long, CanRead}
 use Rattle.ms_top.specs.Instrumented.{IsInstrumented}
@@ -28,7 +28,7 @@ use Rattle.ms_check_valid.specs.Valid.{Valid}
 use Rattle.ms_check_valid.proofs.Refused.{invalid}
 use Rattle.ms_words.specs.Words.{command_of}
 use Rattle.ms_words.proofs.WithinLimits.{command_within}
-use Rattle.ms_text_grammar.specs.Texts.{Reads}
+use Rattle.ms_text_grammar.specs.Texts.{Reads, max_bytes}
 use Rattle.ms_ir.specs.declared.forms.Form.TheVariants.{Plain}
 use Rattle.ms_text_laws.proofs.FormedModules.{read_formed}
 use Rattle.ms_runs_fills_laws.specs.Chosen.{HoldsUnderChoices}
@@ -109,27 +109,27 @@ tail_same text other inputs more h = ap tail h
 pub check_is_fair : (c : Counted) (file : List ℕ) (o : Options) (text : List ℕ) (inputs : List (List ℕ)) → RunsWithinLimits o → CanRead c (files_of (Check file o)) (Whole (text ∷ inputs))
     → Fair (setup_of o (only_input inputs))
 check_is_fair c file o text inputs fit can =
-    let f = first_read c file (2 ^ 22) (input_files (names o.input)) (text ∷ inputs) (by_input o.input can) in
+    let f = first_read c file (max_bytes Plain) (input_files (names o.input)) (text ∷ inputs) (by_input o.input can) in
     subst (λ ts. Fair (setup_of o (only_input ts))) (sym (tail_same text f.text inputs f.more f.is)) (inputs_fair c o fit (names o.input) f.more f.others)
   where
     names : Option (List ℕ) → List (List ℕ)
     names None = []
     names (Some name) = name ∷ []
 
-    by_input : (input : Option (List ℕ)) → CanRead c (files_of (Check file (record o { input = input }))) (Whole (text ∷ inputs)) → CanRead c ((file, 2 ^ 22) ∷ input_files (names input)) (Whole (text ∷ inputs))
+    by_input : (input : Option (List ℕ)) → CanRead c (files_of (Check file (record o { input = input }))) (Whole (text ∷ inputs)) → CanRead c ((file, max_bytes Plain) ∷ input_files (names input)) (Whole (text ∷ inputs))
     by_input None h = h
     by_input (Some name) h = h
 
 -- ---- what is said
 
-says_status : (a : Answer) (s : ℕ) (err : List ℕ) → a ≡ says s err → a.status ≡ s
+says_status : (a : Output) (s : ℕ) (err : List ℕ) → a ≡ says s err → a.status ≡ s
 says_status a s err is = ap (λ x. x.status) is
 
-says_nothing : (a : Answer) (s : ℕ) (err : List ℕ) → a ≡ says s err → a.out ≡ []
+says_nothing : (a : Output) (s : ℕ) (err : List ℕ) → a ≡ says s err → a.out ≡ []
 says_nothing a s err is = ap (λ x. x.out) is
 
 -- a text was read as a valid module, and this is the answer to the command for it
-pub record Answered (c : Counted) (command : Command) (a : Answer) : Type 0 where
+pub record Answered (c : Counted) (command : Command) (a : Output) : Type 0 where
   pub text : List ℕ
   pub inputs : List (List ℕ)
   pub read : CanRead c (files_of command) (Whole (text ∷ inputs))
@@ -141,7 +141,7 @@ pub record Answered (c : Counted) (command : Command) (a : Answer) : Type 0 wher
   pub answer : IsAnswerToValid IsInstrumented under command inputs module_read a
 
 -- of a command that reads the plain form from a file
-module _ (c : Counted) (command : Command) (a : Answer) (is_plain : form_of command ≡ Plain) (has_file : IsAnswerWithoutFile IsInstrumented command a → ⊥) where
+module _ (c : Counted) (command : Command) (a : Output) (is_plain : form_of command ≡ Plain) (has_file : IsAnswerWithoutFile IsInstrumented command a → ⊥) where
   abbrev Promise : Type 0
   Promise = NothingRan c (files_of command) a ⊎ Answered c command a
 
@@ -176,7 +176,7 @@ module _ (c : Counted) (command : Command) (a : Answer) (is_plain : form_of comm
 -- ---- checks and explanations
 
 -- what `check` says of a text that is read as a valid module
-shadow_is_shown : (c : Counted) (file : List ℕ) (o : Options) (a : Answer) → RunsWithinLimits o → Answered c (Check file o) a → ShadowShown c file o a
+shadow_is_shown : (c : Counted) (file : List ℕ) (o : Options) (a : Output) → RunsWithinLimits o → Answered c (Check file o) a → ShadowShown c file o a
 shadow_is_shown c file o a fit h =
     let s = setup_of o (only_input h.inputs) in
     let j = h.answer.0 in
@@ -201,22 +201,22 @@ shadow_is_shown c file o a fit h =
       choices = λ alone. subst (HoldsUnderChoices h.module_read s) (runs_alone h.module_read j made alone s fair) (made.choices alone s fair);
     }
 
-pub check_promises : (c : Counted) (file : List ℕ) (o : Options) (a : Answer) → RunsWithinLimits o → IsAnswerToCommand IsInstrumented c (Check file o) a
+pub check_promises : (c : Counted) (file : List ℕ) (o : Options) (a : Output) → RunsWithinLimits o → IsAnswerToCommand IsInstrumented c (Check file o) a
     → NothingRan c (files_of (Check file o)) a ⊎ ShadowShown c file o a
 check_promises c file o a fit answer = elim (promises c (Check file o) a refl (λ h. h) answer) [ inl nothing ↦ inl nothing | inr answered ↦ inr (shadow_is_shown c file o a fit answered) ]
 
-pub words_promise : (c : Counted) (words : List (List ℕ)) (file : List ℕ) (o : Options) (a : Answer) → command_of words ≡ Ok (Check file o) → IsAnswer IsInstrumented c words a
+pub words_promise : (c : Counted) (words : List (List ℕ)) (file : List ℕ) (o : Options) (a : Output) → command_of words ≡ Ok (Check file o) → IsAnswer IsInstrumented c words a
     → NothingRan c (files_of (Check file o)) a ⊎ ShadowShown c file o a
 words_promise c words file o a is answer = check_promises c file o a (command_within words (Check file o) is) (subst (λ r. IsAnswerFor IsInstrumented c r a) is answer)
 
 -- what `check` says of the text of which this is what `explain` says
-abbrev check_of : (o : Options) (m j : Module) (under : Lines) (inputs : List (List ℕ)) → Answer
+abbrev check_of : (o : Options) (m j : Module) (under : Lines) (inputs : List (List ℕ)) → Output
 check_of o m j under inputs = answer_of_result under true m (plain_under (is_threaded m) j (setup_of o (only_input inputs)) o.schedule)
 
-abbrev explanation_of : (c : Counted) (file : List ℕ) (o : Options) (a : Answer) → Answered c (Explain file o) a → Type 0
+abbrev explanation_of : (c : Counted) (file : List ℕ) (o : Options) (a : Output) → Answered c (Explain file o) a → Type 0
 explanation_of c file o a h = IsExplanation IsInstrumented h.under (setup_of o (only_input h.inputs)) h.module_read a
 
-abbrev checked_too : (c : Counted) (file : List ℕ) (o : Options) (a : Answer) → (h : Answered c (Explain file o) a) (x : explanation_of c file o a h)
+abbrev checked_too : (c : Counted) (file : List ℕ) (o : Options) (a : Output) → (h : Answered c (Explain file o) a) (x : explanation_of c file o a h)
     → Answered c (Check file o) (check_of o h.module_read x.0 h.under h.inputs)
 checked_too c file o a h x = record {
   text = h.text;
@@ -230,7 +230,7 @@ checked_too c file o a h x = record {
   answer = (x.0, x.1, refl);
 }
 
-way_shown : (c : Counted) (file : List ℕ) (o : Options) (a : Answer) → RunsWithinLimits o → (h : Answered c (Explain file o) a) → is_threaded h.module_read ≡ false → WayShown c file o a
+way_shown : (c : Counted) (file : List ℕ) (o : Options) (a : Output) → RunsWithinLimits o → (h : Answered c (Explain file o) a) → is_threaded h.module_read ≡ false → WayShown c file o a
 unfolding shadow_is_shown
 way_shown c file o a fit h alone =
     let fair = check_is_fair c file o h.text h.inputs fit h.read in
@@ -245,7 +245,7 @@ way_shown c file o a fit h alone =
     }
 
 -- a module with threads is refused
-refused_or_shown : (c : Counted) (file : List ℕ) (o : Options) (a : Answer) → RunsWithinLimits o → (h : Answered c (Explain file o) a) (t : Bool) → is_threaded h.module_read ≡ t
+refused_or_shown : (c : Counted) (file : List ℕ) (o : Options) (a : Output) → RunsWithinLimits o → (h : Answered c (Explain file o) a) (t : Bool) → is_threaded h.module_read ≡ t
     → ThreadsRefused c file o a ⊎ WayShown c file o a
 refused_or_shown c file o a fit h true threads = inl (record {
   text = h.text;
@@ -259,7 +259,7 @@ refused_or_shown c file o a fit h true threads = inl (record {
 })
 refused_or_shown c file o a fit h false alone = inr (way_shown c file o a fit h alone)
 
-pub explain_promises : (c : Counted) (file : List ℕ) (o : Options) (a : Answer) → RunsWithinLimits o → IsAnswerToCommand IsInstrumented c (Explain file o) a
+pub explain_promises : (c : Counted) (file : List ℕ) (o : Options) (a : Output) → RunsWithinLimits o → IsAnswerToCommand IsInstrumented c (Explain file o) a
     → NothingRan c (files_of (Explain file o)) a ⊎ (ThreadsRefused c file o a ⊎ WayShown c file o a)
 explain_promises c file o a fit answer =
     elim (promises c (Explain file o) a refl (λ h. h) answer) [
@@ -267,7 +267,7 @@ explain_promises c file o a fit answer =
       | inr answered ↦ inr (refused_or_shown c file o a fit answered (is_threaded answered.module_read) refl)
     ]
 
-pub explaining_words_promise : (c : Counted) (words : List (List ℕ)) (file : List ℕ) (o : Options) (a : Answer) → command_of words ≡ Ok (Explain file o) → IsAnswer IsInstrumented c words a
+pub explaining_words_promise : (c : Counted) (words : List (List ℕ)) (file : List ℕ) (o : Options) (a : Output) → command_of words ≡ Ok (Explain file o) → IsAnswer IsInstrumented c words a
     → NothingRan c (files_of (Explain file o)) a ⊎ (ThreadsRefused c file o a ⊎ WayShown c file o a)
 explaining_words_promise c words file o a is answer =
     explain_promises c file o a (command_within words (Explain file o) is).runs (subst (λ r. IsAnswerFor IsInstrumented c r a) is answer)

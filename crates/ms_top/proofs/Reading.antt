@@ -1,5 +1,5 @@
 -- From what reading files answers to what the answer is.
-use Rattle.std.proofs.Common.{◌≡◌, ◌⊎◌, ℕ, ◌+◌, ◌<◌, ◌≤◌, List, [], ◌∷◌, ◌++◌, length, get_or, drop, append_assoc, append-nil, codes, Option, Some, None, Result, Ok, Err, refl, ap, sym, ◌∙◌, subst, inl, inr, arith}
+use Rattle.std.proofs.Common.{◌≡◌, ◌⊎◌, ℕ, ◌+◌, ◌^◌, ◌<◌, ◌≤◌, List, [], ◌∷◌, ◌++◌, length, get_or, drop, append_assoc, append-nil, codes, Option, Some, None, Result, Ok, Err, refl, ap, sym, ◌∙◌, subst, inl, inr, arith}
 use Rattle.std.specs.Prelude.{false, Bool}
 use Rattle.std.proofs.lemmas.Bool.{true≢false}
 use Rattle.std.proofs.lemmas.List.{drop_all, get_or_read}
@@ -9,7 +9,7 @@ use Rattle.ms_io.specs.declared.traits.FileError.TheVariants.{Failed, Absent, To
 use Rattle.ms_io.specs.Counts.{Rose, RoseBy}
 use Rattle.ms_io.specs.Reading.{Holdings, IsWholeFile, IsAbsent, IsTooLong, IfFailed, IfAbsent, IfTooLong}
 use Rattle.ms_report.specs.RunTexts.{line}
-use Rattle.ms_top.specs.declared.answers.Answer.{Answer}
+use Rattle.ms_top.specs.declared.output.Output.{Output}
 use Rattle.ms_words.specs.declared.commands.Command.{Command}
 use Rattle.ms_words.specs.declared.commands.Command.TheVariants.{Gen, Help, Version}
 use Rattle.ms_words.specs.declared.commands.WordsError.{WordsError}
@@ -18,7 +18,12 @@ use Rattle.ms_words.specs.Words.{command_of, name_of, place_of, IsAnswer as IsRe
 use Rattle.ms_gen.specs.Generator.{generated}
 use Rattle.ms_ir.specs.declared.syntax.Module.{Module}
 use Rattle.ms_ir.proofs.Sizes.{drop_next}
-use Rattle.ms_top.specs.Command.{input_names, module_file, module_limit, input_limit, input_files, files_of}
+use Rattle.ms_text_grammar.specs.Texts.{max_bytes}
+use Rattle.ms_read_top.proofs.Told.{short_text}
+use Rattle.ms_top.specs.Command.{form_of, input_names, module_file, module_limit, input_limit, input_files, files_of}
+use Rattle.ms_top.specs.declared.commands.Action.{Action}
+use Rattle.ms_top.specs.declared.commands.Action.TheVariants as actions
+use Rattle.ms_top.specs.OnFile.{command_with}
 use Rattle.ms_top.specs.Unread.{CauseShows}
 use Rattle.ms_top.specs.Files.{Counted, counted, FilesRead, Whole, Fault, Long, after, IsAtFault, IsLong, CanRead}
 use Rattle.ms_top.specs.Instrumented.{IsInstrumented}
@@ -28,17 +33,17 @@ use Rattle.ms_top.specs.Said.{says, answer_of_help, answer_of_version, IsAnswerO
 
 -- ---- words
 
-pub command_answer : (c : Counted) (words : List (List ℕ)) (r : Result Command WordsError) (command : Command) (a : Answer) → IsRead words r → r ≡ Ok command
+pub command_answer : (c : Counted) (words : List (List ℕ)) (r : Result Command WordsError) (command : Command) (a : Output) → IsRead words r → r ≡ Ok command
     → IsAnswerToCommand IsInstrumented c command a → IsAnswer IsInstrumented c words a
 command_answer c words r command a (inl none) is answers = absurd cc
 command_answer c words r command a (inr read) is answers = subst (λ o. IsAnswerFor IsInstrumented c o a) (sym is ∙ read) answers
 
-by_fault : (c : Counted) (words : List (List ℕ)) (fault : WordsError) (a : Answer) → IsRead words (Err fault) → is_want_of_memory fault ≡ false
+by_fault : (c : Counted) (words : List (List ℕ)) (fault : WordsError) (a : Output) → IsRead words (Err fault) → is_want_of_memory fault ≡ false
     → a ≡ says 2 (words_text (name_of fault) (place_of fault)) → IsAnswer IsInstrumented c words a
 by_fault c words fault a (inl none) some answers = let wants : fault ≡ WantsMemory = cc in absurd (true≢false (ap is_want_of_memory (sym wants) ∙ some))
 by_fault c words fault a (inr read) some answers = subst (λ o. IsAnswerFor IsInstrumented c o a) read answers
 
-pub fault_answer : (c : Counted) (words : List (List ℕ)) (r : Result Command WordsError) (fault : WordsError) (a : Answer) → IsRead words r → r ≡ Err fault → is_want_of_memory fault ≡ false
+pub fault_answer : (c : Counted) (words : List (List ℕ)) (r : Result Command WordsError) (fault : WordsError) (a : Output) → IsRead words r → r ≡ Err fault → is_want_of_memory fault ≡ false
     → a ≡ says 2 (words_text (name_of fault) (place_of fault)) → IsAnswer IsInstrumented c words a
 fault_answer c words r fault a read is some answers = by_fault c words fault a (subst (IsRead words) is read) some answers
 
@@ -47,17 +52,40 @@ pub no_command : (words : List (List ℕ)) (r : Result Command WordsError) (comm
 no_command words r command fault (inl none) is wrong = absurd cc
 no_command words r command fault (inr read) is wrong = absurd cc
 
+-- ---- by the parts of a command
+
+-- a command on a file names that file
+pub named : (file : List ℕ) (action : Action) → module_file (command_with file action) ≡ Some file
+named file actions.Instrument = refl
+named file (actions.Run options) = refl
+named file (actions.Check options) = refl
+named file (actions.Explain options) = refl
+named file (actions.Corpus inputs options workers) = refl
+
+-- the limit of a module's file fits 32 bits
+pub limit_fits : (command : Command) → module_limit command < 2 ^ 32
+limit_fits command =
+    let most = max_bytes (form_of command) in
+    let own : most ≤ most = omega arith in
+    let short : most ≤ 2 ^ 27 = short_text (form_of command) most own in
+    omega (arith, short)
+
+-- what is said for a command is said for the same command
+pub same_command : (Gives : Module → Module → Type 0) (c : Counted) (command other : Command) (a : Output) → command ≡ other
+    → IsAnswerToCommand Gives c other a → IsAnswerToCommand Gives c command a
+same_command Gives c command other a is answers = subst (λ x. IsAnswerToCommand Gives c x a) (sym is) answers
+
 -- ---- without a file
 
-pub generated_answer : (Gives : Module → Module → Type 0) (c : Counted) (command : Command) (seed functions : ℕ) (run : Bool) (a : Answer) → command ≡ Gen seed functions run
+pub generated_answer : (Gives : Module → Module → Type 0) (c : Counted) (command : Command) (seed functions : ℕ) (run : Bool) (a : Output) → command ≡ Gen seed functions run
     → IsAnswerOfGen Gives run (generated seed functions) a → IsAnswerToCommand Gives c command a
 generated_answer Gives c command seed functions run a is answers = subst (λ x. IsAnswerToCommand Gives c x a) (sym is) (Whole [], refl, answers)
 
-pub help_answer : (Gives : Module → Module → Type 0) (c : Counted) (command : Command) (a : Answer) → command ≡ Help → a ≡ answer_of_help
+pub help_answer : (Gives : Module → Module → Type 0) (c : Counted) (command : Command) (a : Output) → command ≡ Help → a ≡ answer_of_help
     → IsAnswerToCommand Gives c command a
 help_answer Gives c command a is answers = subst (λ x. IsAnswerToCommand Gives c x a) (sym is) (Whole [], refl, answers)
 
-pub version_answer : (Gives : Module → Module → Type 0) (c : Counted) (command : Command) (a : Answer) → command ≡ Version → a ≡ answer_of_version
+pub version_answer : (Gives : Module → Module → Type 0) (c : Counted) (command : Command) (a : Output) → command ≡ Version → a ≡ answer_of_version
     → IsAnswerToCommand Gives c command a
 version_answer Gives c command a is answers = subst (λ x. IsAnswerToCommand Gives c x a) (sym is) (Whole [], refl, answers)
 
@@ -105,7 +133,7 @@ module _ (c d : Counted) (e : IsEarlier c d) where
       inr (inr (text, subst (λ t. IsWholeFile t name limit text) (sym e.told) whole, later, can_read_earlier rest later read, is))
 
   -- the module's file is read whole, and then the others
-  pub after_first : (Gives : Module → Module → Type 0) (command : Command) (file text bytes : List ℕ) (a : Answer) → module_file command ≡ Some file → IsWholeFile c.told file (module_limit command) text → bytes ≡ text
+  pub after_first : (Gives : Module → Module → Type 0) (command : Command) (file text bytes : List ℕ) (a : Output) → module_file command ≡ Some file → IsWholeFile c.told file (module_limit command) text → bytes ≡ text
       → IsAnswerAfter Gives d command bytes a → IsAnswerToCommand Gives c command a
   after_first Gives command file text bytes a named whole same (r, read, is) = (
     after text r,
@@ -122,21 +150,21 @@ pub record Answered (c : Counted) (name : List ℕ) (limit : ℕ) {A : Type 0} (
   pub too_long : IfTooLong r (λ n. IsTooLong c.told name limit n c.taken c.taken_after)
 
 -- why a file isn't read whole, with the answer
-abbrev pub Unread : Counted → List ℕ → ℕ → Answer → Type 0
+abbrev pub Unread : Counted → List ℕ → ℕ → Output → Type 0
 Unread c name limit a =
     (IsAtFault c name × (a ≡ says 6 (line (codes "file fault") name))) ⊎ (IsLong c name limit × (a ≡ says 9 (line (codes "file too long") name)))
 
-by_cause : {A : Type 0} (c : Counted) (name : List ℕ) (limit : ℕ) (cause : FileError) (a : Answer) → Answered c name limit {A = A} (Err cause) → IsAnswerToFault cause name a → Unread c name limit a
+by_cause : {A : Type 0} (c : Counted) (name : List ℕ) (limit : ℕ) (cause : FileError) (a : Output) → Answered c name limit {A = A} (Err cause) → IsAnswerToFault cause name a → Unread c name limit a
 by_cause c name limit Failed a h is = inl (inr h.failed, is)
 by_cause c name limit Absent a h is = inl (inl h.absent, is)
 by_cause c name limit (TooLong n) a h is = inr ((n, h.too_long), is)
 by_cause c name limit NoMemory a h is = absurd is
 
-pub unread : {A : Type 0} (c : Counted) (name : List ℕ) (limit : ℕ) (r : Result A FileError) (cause : FileError) (a : Answer) → Answered c name limit r → r ≡ Err cause
+pub unread : {A : Type 0} (c : Counted) (name : List ℕ) (limit : ℕ) (r : Result A FileError) (cause : FileError) (a : Output) → Answered c name limit r → r ≡ Err cause
     → IsAnswerToFault cause name a → Unread c name limit a
 unread c name limit r cause a h same is = by_cause c name limit cause a (subst (Answered c name limit) same h) is
 
-pub unread_first : (Gives : Module → Module → Type 0) (c : Counted) (command : Command) (file : List ℕ) (a : Answer) → module_file command ≡ Some file → Unread c file (module_limit command) a
+pub unread_first : (Gives : Module → Module → Type 0) (c : Counted) (command : Command) (file : List ℕ) (a : Output) → module_file command ≡ Some file → Unread c file (module_limit command) a
     → IsAnswerToCommand Gives c command a
 unread_first Gives c command file a named (inl (fault, is)) = (Fault file, subst (λ fs. CanRead c fs (Fault file)) (sym (files_named command file named)) (inl (fault, refl)), is)
 unread_first Gives c command file a named (inr (long, is)) = (Long file, subst (λ fs. CanRead c fs (Long file)) (sym (files_named command file named)) (inr (inl (long, refl))), is)
@@ -234,11 +262,11 @@ read_all held faults taken faults_now taken_now texts all names i past is before
     let reads = subst (ReadSoFar held faults taken faults_now taken_now texts names) (drop_all i names past) before in
     subst (λ l. CanRead (counted held faults faults_now taken taken_now) (input_files names) (Whole l)) (append-nil texts ∙ sym is) (reads faults_now taken_now (Whole []) refl)
 
-pub inputs_read : (Gives : Module → Module → Type 0) (c : Counted) (command : Command) (names : List (List ℕ)) (text : List ℕ) (inputs : List (List ℕ)) (a : Answer) → names ≡ input_names command
+pub inputs_read : (Gives : Module → Module → Type 0) (c : Counted) (command : Command) (names : List (List ℕ)) (text : List ℕ) (inputs : List (List ℕ)) (a : Output) → names ≡ input_names command
     → CanRead c (input_files names) (Whole inputs) → IsAnswerToText Gives command inputs text a → IsAnswerAfter Gives c command text a
 inputs_read Gives c command names text inputs a same can answers = (Whole inputs, subst (λ ns. CanRead c (input_files ns) (Whole inputs)) same can, answers)
 
-pub input_unread : (Gives : Module → Module → Type 0) (c : Counted) (command : Command) (names : List (List ℕ)) (name text : List ℕ) (cause : FileError) (a : Answer) → names ≡ input_names command
+pub input_unread : (Gives : Module → Module → Type 0) (c : Counted) (command : Command) (names : List (List ℕ)) (name text : List ℕ) (cause : FileError) (a : Output) → names ≡ input_names command
     → CauseShows c names name cause → IsAnswerToFault cause name a → IsAnswerAfter Gives c command text a
 input_unread Gives c command names name text Failed a same can is = (Fault name, subst (λ ns. CanRead c (input_files ns) (Fault name)) same can, is)
 input_unread Gives c command names name text Absent a same can is = (Fault name, subst (λ ns. CanRead c (input_files ns) (Fault name)) same can, is)

@@ -18,7 +18,7 @@ use Rattle.ms_text_laws.proofs.ReadBack.{text_back, same_text}
 use Rattle.ms_text_laws.proofs.WrittenTexts.{written_reads, written_stops, written_cut}
 use Rattle.ms_pass_form_laws.specs.Elided.{IsElided}
 use Rattle.ms_pass_form_laws.proofs.ElidedOnce.{elided_once}
-use Rattle.ms_top.specs.declared.answers.Answer.{Answer}
+use Rattle.ms_top.specs.declared.output.Output.{Output}
 use Rattle.ms_words.specs.declared.commands.Command.TheVariants.{Instrument, Run}
 use Rattle.ms_words.specs.declared.commands.Options.{Options}
 use Rattle.ms_top.specs.Command.{only_input, setup_of}
@@ -33,11 +33,11 @@ use Rattle.ms_top.proofs.SameLines.{same_answer}
 use Rattle.ms_threads.proofs.Stripped.{same_threads}
 
 -- the text is that of no other formed module
-pub named : (under : Lines) (file : List ℕ) (inputs : List (List ℕ)) (m j : Module) (a : Answer) → IsAnswerToValid IsInstrumented under (Instrument file) inputs m a → Formed j → a.out ≡ written j
+pub named : (under : Lines) (file : List ℕ) (inputs : List (List ℕ)) (m j : Module) (a : Output) → IsAnswerToValid IsInstrumented under (Instrument file) inputs m a → Formed j → a.out ≡ written j
     → IsInstrumented m j
 named under file inputs m j a (k, made, is) formed text = subst (IsInstrumented m) (same_text k j made.formed formed (sym (ap (λ x. x.out) is) ∙ text)) made
 
-module _ (under : Lines) (name : List ℕ) (inputs : List (List ℕ)) (o : Options) (m : Module) (a b c : Answer)
+module _ (under : Lines) (name : List ℕ) (inputs : List (List ℕ)) (o : Options) (m : Module) (a b c : Output)
     (answered : IsAnswerOfInstrument IsInstrumented m a) (read : IsAnswerToText IsInstrumented (Run name o) inputs a.out b) (checked : IsAnswerOfCheck IsInstrumented under (setup_of o (only_input inputs)) o.schedule m c) where
   j : Module
   j = answered.0

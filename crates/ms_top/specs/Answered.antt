@@ -8,7 +8,7 @@ use Rattle.ms_ir.specs.ThreadCalls.{is_threaded}
 use Rattle.ms_report.specs.WithLines.{Lines}
 use Rattle.ms_words.specs.declared.commands.Command.{Command}
 use Rattle.ms_words.specs.declared.commands.Command.TheVariants.{Explain, Corpus}
-use Rattle.ms_top.specs.declared.answers.Answer.{Answer}
+use Rattle.ms_top.specs.declared.output.Output.{Output}
 use Rattle.ms_top.specs.Said.{answer_of_result}
 use Rattle.ms_top.specs.Statuses as statuses
 
@@ -30,7 +30,7 @@ IsDoneStatus n = (n ≡ statuses.done) ⊎ ((n ≡ statuses.trapped) ⊎ ((n ≡
 
 -- a is what `check` says of a module and b is what `run` says of it, each with some lines under its sites: the output of a is a
 -- beginning of that of b, and unless the checked run ends as reported, output and end are the same
-pub record Begins (m : Module) (a b : Answer) : Type 0 where
+pub record Begins (m : Module) (a b : Output) : Type 0 where
   pub checked : RunResult
   pub plainly : RunResult
   pub under : Lines

@@ -3,6 +3,7 @@ use Rattle.std.specs.Prelude.{ℕ, ◌^◌, List, [], ◌∷◌, if◌then◌els
 use Rattle.ms_runs.specs.declared.runs.Setup.{Setup}
 use Rattle.ms_ir.specs.declared.forms.Form.{Form}
 use Rattle.ms_ir.specs.declared.forms.Form.TheVariants.{Plain, Instrumented}
+use Rattle.ms_text_grammar.specs.Texts.{max_bytes}
 use Rattle.ms_words.specs.declared.commands.Command.{Command}
 use Rattle.ms_words.specs.declared.commands.Command.TheVariants.{Instrument, Run, Check, Explain, Corpus, Gen, Help, Version}
 use Rattle.ms_words.specs.declared.commands.Options.{Options}
@@ -31,16 +32,9 @@ form_of (Gen seed functions run) = Plain
 form_of Help = Plain
 form_of Version = Plain
 
--- the most bytes that the module's text may have
+-- the most bytes that the module's text may have: as many as its form takes
 abbrev pub module_limit : Command → ℕ
-module_limit (Instrument file) = 2 ^ 22
-module_limit (Run file options) = 2 ^ 27
-module_limit (Check file options) = 2 ^ 22
-module_limit (Explain file options) = 2 ^ 22
-module_limit (Corpus file inputs options workers) = 2 ^ 22
-module_limit (Gen seed functions run) = 2 ^ 22
-module_limit Help = 2 ^ 22
-module_limit Version = 2 ^ 22
+module_limit command = max_bytes (form_of command)
 
 -- the names of the inputs' files; `instrument` runs nothing, and what is generated reads nothing
 abbrev pub input_names : Command → List (List ℕ)

@@ -4,6 +4,7 @@ pub mod Command
 pub mod Runs
 pub mod Files
 pub mod Lines
+pub mod OnFile
 pub mod Explained
 pub mod Instrumented
 pub mod Said

@@ -11,7 +11,7 @@ use Rattle.ms_runs.specs.Plain.{plain}
 use Rattle.ms_ir.specs.ThreadCalls.{is_threaded}
 use Rattle.ms_check_valid.specs.Uninstrumented.{CanInstrument}
 use Rattle.ms_report.specs.RunTexts.{line}
-use Rattle.ms_top.specs.declared.answers.Answer.{Answer}
+use Rattle.ms_top.specs.declared.output.Output.{Output}
 use Rattle.ms_words.specs.declared.commands.Command.{Command}
 use Rattle.ms_words.specs.declared.commands.Command.TheVariants.{Instrument, Run, Check, Explain, Corpus, Gen, Help, Version}
 use Rattle.ms_words.specs.declared.commands.WordsError.{WordsError}
@@ -25,14 +25,14 @@ use Rattle.ms_top.specs.Said.{says, IsAnswerToFiles}
 use Rattle.ms_top.specs.Statuses as statuses
 
 -- the answer for why a file isn't read whole; running out of memory has an answer of its own
-abbrev pub IsAnswerToFault : FileError → List ℕ → Answer → Type 0
+abbrev pub IsAnswerToFault : FileError → List ℕ → Output → Type 0
 IsAnswerToFault Failed name a = a ≡ says statuses.file_fault (line (codes "file fault") name)
 IsAnswerToFault Absent name a = a ≡ says statuses.file_fault (line (codes "file fault") name)
 IsAnswerToFault (TooLong taken) name a = a ≡ says statuses.too_long (line (codes "file too long") name)
 IsAnswerToFault NoMemory name a = ⊥
 
 -- the answer to a command whose module's file has this text, for what reading the other files comes to
-abbrev pub IsAnswerAfter : (Module → Module → Type 0) → Counted → Command → List ℕ → Answer → Type 0
+abbrev pub IsAnswerAfter : (Module → Module → Type 0) → Counted → Command → List ℕ → Output → Type 0
 IsAnswerAfter Gives c command text a =
     (r : FilesRead) × CanRead c (input_files (input_names command)) r × IsAnswerToFiles Gives command (after text r) a
 

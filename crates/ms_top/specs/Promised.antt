@@ -22,7 +22,7 @@ use Rattle.ms_report.specs.WithLines.{Lines, reports_with}
 use Rattle.ms_report.specs.RefusalTexts.{threads_text}
 use Rattle.ms_words.specs.declared.commands.Command.TheVariants.{Check, Explain}
 use Rattle.ms_words.specs.declared.commands.Options.{Options}
-use Rattle.ms_top.specs.declared.answers.Answer.{Answer}
+use Rattle.ms_top.specs.declared.output.Output.{Output}
 use Rattle.ms_top.specs.Command.{files_of, only_input, setup_of}
 use Rattle.ms_top.specs.Files.{Counted, CanRead, Whole, Fault, Long}
 use Rattle.ms_top.specs.Lines.{AreLines}
@@ -32,28 +32,28 @@ use Rattle.ms_top.specs.Said.{answer_of_result, answer_of_explained, says}
 use Rattle.ms_top.specs.Statuses as statuses
 
 -- the answer that a file can't be read: the first of these files that isn't read whole is at fault, and the answer names it
-abbrev pub IsFileFault : Counted → List (List ℕ × ℕ) → Answer → Type 0
+abbrev pub IsFileFault : Counted → List (List ℕ × ℕ) → Output → Type 0
 IsFileFault c files a = (name : List ℕ) × CanRead c files (Fault name) × (a ≡ says statuses.file_fault (line (codes "file fault") name))
 
 -- the answer that a file is too long: the first of these files that isn't read whole has more bytes than its limit, and the
 -- answer names it
-abbrev pub IsFileTooLong : Counted → List (List ℕ × ℕ) → Answer → Type 0
+abbrev pub IsFileTooLong : Counted → List (List ℕ × ℕ) → Output → Type 0
 IsFileTooLong c files a = (name : List ℕ) × CanRead c files (Long name) × (a ≡ says statuses.too_long (line (codes "file too long") name))
 
 -- the answer that a text is refused: the files were read, and the first text isn't that of a valid module
-abbrev pub IsTextRefused : Counted → List (List ℕ × ℕ) → Answer → Type 0
+abbrev pub IsTextRefused : Counted → List (List ℕ × ℕ) → Output → Type 0
 IsTextRefused c files a =
     (a.status ≡ statuses.refused) × ((text : List ℕ) × (inputs : List (List ℕ)) × CanRead c files (Whole (text ∷ inputs)) × ((m : Module) → Reads Plain text m → Valid m → ⊥))
 
 -- nothing was run and nothing printed on the standard output, for one of these three reasons
-pub record NothingRan (c : Counted) (files : List (List ℕ × ℕ)) (a : Answer) : Type 0 where
+pub record NothingRan (c : Counted) (files : List (List ℕ × ℕ)) (a : Output) : Type 0 where
   pub out : a.out ≡ []
   pub why : IsFileFault c files a ⊎ (IsFileTooLong c files a ⊎ IsTextRefused c files a)
 
 -- A text was read as a valid module, and the answer a says what the module's shadow run with a fair setup is, with the lines that
 -- are asked for; where it has threads, under the schedule that is asked for. A clean verdict and a first report hold under every
 -- fill, a clean verdict without threads also where each step has a fill of its own
-pub record ShadowShown (c : Counted) (file : List ℕ) (o : Options) (a : Answer) : Type 0 where
+pub record ShadowShown (c : Counted) (file : List ℕ) (o : Options) (a : Output) : Type 0 where
   pub text : List ℕ
   pub inputs : List (List ℕ)
   pub read : CanRead c (files_of (Check file o)) (Whole (text ∷ inputs))
@@ -71,7 +71,7 @@ pub record ShadowShown (c : Counted) (file : List ℕ) (o : Options) (a : Answer
   pub choices : is_threaded module_read ≡ false → HoldsUnderChoices module_read (setup_of o (only_input inputs)) (shadow module_read (setup_of o (only_input inputs)))
 
 -- A text was read as a valid module with threads, which a command refuses
-pub record ThreadsRefused (c : Counted) (file : List ℕ) (o : Options) (a : Answer) : Type 0 where
+pub record ThreadsRefused (c : Counted) (file : List ℕ) (o : Options) (a : Output) : Type 0 where
   pub text : List ℕ
   pub inputs : List (List ℕ)
   pub read : CanRead c (files_of (Explain file o)) (Whole (text ∷ inputs))
@@ -92,8 +92,8 @@ pub record ShowsWay (under : Lines) (m : Module) (setup : Setup) (text : List �
 
 -- The answer a explains what `check` says of the same files with the same options, and shows the way of a report's bits where there
 -- is one
-pub record WayShown (c : Counted) (file : List ℕ) (o : Options) (a : Answer) : Type 0 where
-  pub checked : Answer
+pub record WayShown (c : Counted) (file : List ℕ) (o : Options) (a : Output) : Type 0 where
+  pub checked : Output
   pub shadow_shown : ShadowShown c file o checked
   pub alone : is_threaded shadow_shown.module_read ≡ false
   pub explained : a ≡ answer_of_explained shadow_shown.under shadow_shown.module_read (setup_of o (only_input shadow_shown.inputs)) (shadow shadow_shown.module_read (setup_of o (only_input shadow_shown.inputs)))

@@ -22,7 +22,7 @@ use Rattle.ms_report.specs.SummaryTexts.{summary_of}
 use Rattle.ms_report.specs.WithLines.{Lines, reports_with, closing_text_with}
 use Rattle.ms_report.specs.RefusalTexts.{refusal_text, threads_text}
 use Rattle.ms_report.specs.WordsTexts.{words_text}
-use Rattle.ms_top.specs.declared.answers.Answer.{Answer}
+use Rattle.ms_top.specs.declared.output.Output.{Output}
 use Rattle.ms_gen.specs.Generator.{generated}
 use Rattle.ms_words.specs.declared.commands.Command.{Command}
 use Rattle.ms_words.specs.declared.commands.Command.TheVariants.{Instrument, Run, Check, Explain, Corpus, Gen, Help, Version}
@@ -37,15 +37,15 @@ use Rattle.ms_top.specs.Lines.{AreLines, fault_text_with}
 use Rattle.ms_top.specs.Runs.{plain_under}
 use Rattle.ms_top.specs.Statuses as statuses
 
-abbrev pub answer_of : ℕ → List ℕ → List ℕ → Answer
+abbrev pub answer_of : ℕ → List ℕ → List ℕ → Output
 answer_of status out err = record { status = status; out = out; err = err }
 
 -- an answer with nothing on the standard output
-abbrev pub says : ℕ → List ℕ → Answer
+abbrev pub says : ℕ → List ℕ → Output
 says status err = answer_of status [] err
 
 -- both say that a use of a value isn't defined at one site, each with a path that shows it and the same lines under it
-abbrev pub DifferInPath : Answer → Answer → Type 0
+abbrev pub DifferInPath : Output → Output → Type 0
 DifferInPath a b =
     (under : Lines) × (site : ℕ) × (p : List ℕ) × (q : List ℕ)
     × (a ≡ says statuses.refused (fault_text_with under (Undefined site p))) × (b ≡ says statuses.refused (fault_text_with under (Undefined site q)))
@@ -53,11 +53,11 @@ DifferInPath a b =
 -- ---- the program itself
 
 -- the answer of `help` is the usage
-abbrev pub answer_of_help : Answer
+abbrev pub answer_of_help : Output
 answer_of_help = answer_of statuses.done usage []
 
 -- the answer of `version` is its line
-abbrev pub answer_of_version : Answer
+abbrev pub answer_of_version : Output
 answer_of_version = answer_of statuses.done version_line []
 
 -- ---- a run
@@ -78,12 +78,12 @@ abbrev pub run_text : Lines → (verdict : Bool) → Module → RunResult → Li
 run_text under verdict m r = reports_with under m 1 r.reports ++ closing_text_with under m r verdict
 
 -- the answer for the result of a module's run: its output, and those lines
-abbrev pub answer_of_result : Lines → (verdict : Bool) → Module → RunResult → Answer
+abbrev pub answer_of_result : Lines → (verdict : Bool) → Module → RunResult → Output
 answer_of_result under verdict m r = answer_of (status_of r) r.output (run_text under verdict m r)
 
 -- the answer that explains the result of a module's run with a setup: its report with the way of the bits that this is about, and
 -- the closing lines with the verdict
-abbrev pub answer_of_explained : Lines → Module → Setup → RunResult → Answer
+abbrev pub answer_of_explained : Lines → Module → Setup → RunResult → Output
 answer_of_explained under m s r = answer_of (status_of r) (explained_with under m s r) (closing_text_with under m r true)
 
 -- ---- many runs
@@ -112,13 +112,13 @@ status_of_all rs =
     if has_status statuses.reported rs then statuses.reported else if has_status statuses.trapped rs then statuses.trapped else if has_status statuses.spent rs then statuses.spent else statuses.done
 
 -- the answer for the results of many runs
-abbrev pub answer_of_results : Lines → Module → (names : List (List ℕ)) → List RunResult → Answer
+abbrev pub answer_of_results : Lines → Module → (names : List (List ℕ)) → List RunResult → Output
 answer_of_results under m names rs = answer_of (status_of_all rs) (sections_of under m 1 names rs) []
 
 -- ---- threads
 
 -- the answer of a command that takes no schedule: it refuses a module with threads
-abbrev pub UnlessThreaded : (threads : Bool) → Answer → Type 0 → Type 0
+abbrev pub UnlessThreaded : (threads : Bool) → Output → Type 0 → Type 0
 UnlessThreaded true a Is = a ≡ says statuses.refused threads_text
 UnlessThreaded false a Is = Is
 
@@ -126,39 +126,39 @@ UnlessThreaded false a Is = Is
 
 module _ (Gives : Module → Module → Type 0) where
   -- the answer of `instrument`: the text of a module that the pass gives
-  abbrev pub IsAnswerOfInstrument : Module → Answer → Type 0
+  abbrev pub IsAnswerOfInstrument : Module → Output → Type 0
   IsAnswerOfInstrument m a = (j : Module) × Gives m j × (a ≡ answer_of statuses.done (written j) [])
 
   -- the answer of `check`: of the run of a module that the pass gives, with the verdict; where the module has threads, under a schedule
-  abbrev pub IsAnswerOfCheck : Lines → Setup → (schedule : List ℕ) → Module → Answer → Type 0
+  abbrev pub IsAnswerOfCheck : Lines → Setup → (schedule : List ℕ) → Module → Output → Type 0
   IsAnswerOfCheck under s schedule m a = (j : Module) × Gives m j × (a ≡ answer_of_result under true m (plain_under (is_threaded m) j s schedule))
 
   -- what explains a run of a module that the pass gives, and the moves of the shadow run of the module itself
-  abbrev pub IsExplanation : Lines → Setup → Module → Answer → Type 0
+  abbrev pub IsExplanation : Lines → Setup → Module → Output → Type 0
   IsExplanation under s m a = (j : Module) × Gives m j × (a ≡ answer_of_explained under m s (plain j s))
 
   -- the answer of `explain`
-  abbrev pub IsAnswerOfExplain : Lines → Setup → Module → Answer → Type 0
+  abbrev pub IsAnswerOfExplain : Lines → Setup → Module → Output → Type 0
   IsAnswerOfExplain under s m a = UnlessThreaded (is_threaded m) a (IsExplanation under s m a)
 
   -- the sections of the runs on the inputs of a module that the pass gives
-  abbrev pub AreSections : Lines → (names : List (List ℕ)) → Options → (inputs : List (List ℕ)) → Module → Answer → Type 0
+  abbrev pub AreSections : Lines → (names : List (List ℕ)) → Options → (inputs : List (List ℕ)) → Module → Output → Type 0
   AreSections under names options inputs m a =
       (j : Module) × Gives m j × (a ≡ answer_of_results under m names (map (λ input. plain j (setup_of options input)) inputs))
 
   -- the answer of `corpus`
-  abbrev pub IsAnswerOfCorpus : Lines → (names : List (List ℕ)) → Options → (inputs : List (List ℕ)) → Module → Answer → Type 0
+  abbrev pub IsAnswerOfCorpus : Lines → (names : List (List ℕ)) → Options → (inputs : List (List ℕ)) → Module → Output → Type 0
   IsAnswerOfCorpus under names options inputs m a = UnlessThreaded (is_threaded m) a (AreSections under names options inputs m a)
 
   -- the answer of `gen` for the module that it makes: the module's text, or the summary of the run of a module that the
   -- pass gives, with no option given
-  abbrev pub IsAnswerOfGen : (run : Bool) → Module → Answer → Type 0
+  abbrev pub IsAnswerOfGen : (run : Bool) → Module → Output → Type 0
   IsAnswerOfGen false m a = a ≡ answer_of statuses.done (written m) []
   IsAnswerOfGen true m a =
       (j : Module) × Gives m j × (let r = plain_under (is_threaded m) j (setup_of defaults []) defaults.schedule in a ≡ answer_of (status_of r) (summary_of m r) [])
 
   -- the answer for a valid module, with these lines under each site; `run` runs it as it stands
-  abbrev pub IsAnswerToValid : Lines → Command → List (List ℕ) → Module → Answer → Type 0
+  abbrev pub IsAnswerToValid : Lines → Command → List (List ℕ) → Module → Output → Type 0
   IsAnswerToValid under (Instrument file) inputs m a = IsAnswerOfInstrument m a
   IsAnswerToValid under (Run file options) inputs m a =
       a ≡ answer_of_result under false m (plain_under (is_threaded m) m (setup_of options (only_input inputs)) options.schedule)
@@ -170,53 +170,53 @@ module _ (Gives : Module → Module → Type 0) where
   IsAnswerToValid under Version inputs m a = a ≡ answer_of_version
 
   -- the answer for a module: why it isn't valid, or else the answer for a valid one
-  abbrev pub IsAnswerToModule : Lines → Command → List (List ℕ) → Module → Answer → Type 0
+  abbrev pub IsAnswerToModule : Lines → Command → List (List ℕ) → Module → Output → Type 0
   IsAnswerToModule under command inputs m a =
       ((fault : ModuleFault) × IsRefused m fault × (a ≡ says statuses.refused (fault_text_with under fault))) ⊎ (Valid m × IsAnswerToValid under command inputs m a)
 
   -- the answer for what reading a text comes to: a module, with the lines under its sites that the command asks for, or why
   -- there is none; running out of memory has an answer of its own
-  abbrev pub IsAnswerToReading : Command → List (List ℕ) → List ℕ → Result Module ReadError → Answer → Type 0
+  abbrev pub IsAnswerToReading : Command → List (List ℕ) → List ℕ → Result Module ReadError → Output → Type 0
   IsAnswerToReading command inputs text (Ok m) a = (under : Lines) × AreLines command text m under × IsAnswerToModule under command inputs m a
   IsAnswerToReading command inputs text (Err e.NoMemory) a = ⊥
   IsAnswerToReading command inputs text (Err cause) a = a ≡ says statuses.refused (refusal_text (Read cause))
 
   -- the answer for a module's text: what it reads as in the form of the command, or why it isn't read, decides
-  abbrev pub IsAnswerToText : Command → List (List ℕ) → List ℕ → Answer → Type 0
+  abbrev pub IsAnswerToText : Command → List (List ℕ) → List ℕ → Output → Type 0
   IsAnswerToText command inputs text a = (r : Result Module ReadError) × IsReading (form_of command) text r × IsAnswerToReading command inputs text r a
 
   -- the answer without a file, which `gen`, `help` and `version` have
-  abbrev pub IsAnswerWithoutFile : Command → Answer → Type 0
+  abbrev pub IsAnswerWithoutFile : Command → Output → Type 0
   IsAnswerWithoutFile (Gen seed functions run) a = IsAnswerOfGen run (generated seed functions) a
   IsAnswerWithoutFile Help a = a ≡ answer_of_help
   IsAnswerWithoutFile Version a = a ≡ answer_of_version
   IsAnswerWithoutFile command a = ⊥
 
   -- the answer for the texts of a command's files, the module's first
-  abbrev pub IsAnswerToTexts : Command → List (List ℕ) → Answer → Type 0
+  abbrev pub IsAnswerToTexts : Command → List (List ℕ) → Output → Type 0
   IsAnswerToTexts command [] a = IsAnswerWithoutFile command a
   IsAnswerToTexts command (text ∷ inputs) a = IsAnswerToText command inputs text a
 
   -- the answer for what reading the files comes to
-  abbrev pub IsAnswerToFiles : Command → FilesRead → Answer → Type 0
+  abbrev pub IsAnswerToFiles : Command → FilesRead → Output → Type 0
   IsAnswerToFiles command (Whole texts) a = IsAnswerToTexts command texts a
   IsAnswerToFiles command (Fault name) a = a ≡ says statuses.file_fault (line (codes "file fault") name)
   IsAnswerToFiles command (Long name) a = a ≡ says statuses.too_long (line (codes "file too long") name)
 
-  abbrev pub IsAnswerToCommand : Counted → Command → Answer → Type 0
+  abbrev pub IsAnswerToCommand : Counted → Command → Output → Type 0
   IsAnswerToCommand c command a = (r : FilesRead) × CanRead c (files_of command) r × IsAnswerToFiles command r a
 
   -- the answer for what words come to: a command, or the first fault in them
-  abbrev pub IsAnswerFor : Counted → Result Command WordsError → Answer → Type 0
+  abbrev pub IsAnswerFor : Counted → Result Command WordsError → Output → Type 0
   IsAnswerFor c (Ok command) a = IsAnswerToCommand c command a
   IsAnswerFor c (Err fault) a = a ≡ says statuses.bad_words (words_text (name_of fault) (place_of fault))
 
   -- what a call with these words and these files is to say, but for running out of memory
-  abbrev pub IsAnswer : Counted → List (List ℕ) → Answer → Type 0
+  abbrev pub IsAnswer : Counted → List (List ℕ) → Output → Type 0
   IsAnswer c words a = IsAnswerFor c (command_of words) a
 
 -- the answer where memory runs out
-abbrev pub no_memory : Answer
+abbrev pub no_memory : Output
 no_memory = says statuses.no_memory (codes "out of memory\n")
 
 -- ---- what the sinks have then
@@ -232,12 +232,12 @@ abbrev pub between : (out err out_after err_after : Option (List ℕ)) → Writt
 between out err out_after err_after = record { out = out; err = err; out_after = out_after; err_after = err_after }
 
 -- both texts were written whole
-pub record WritesWhole (w : Written) (a : Answer) : Type 0 where
+pub record WritesWhole (w : Written) (a : Output) : Type 0 where
   pub out : w.out_after ≡ with_appended w.out a.out
   pub err : w.err_after ≡ with_appended w.err a.err
 
 -- a first part of the two texts was written, the standard output's before the standard error's
-abbrev pub WritesPart : Written → Answer → Type 0
+abbrev pub WritesPart : Written → Output → Type 0
 WritesPart w a =
     (AppendsPrefix w.out w.out_after a.out × (w.err_after ≡ w.err))
     ⊎ ((w.out_after ≡ with_appended w.out a.out) × AppendsPrefix w.err w.err_after a.err)
@@ -245,12 +245,12 @@ WritesPart w a =
 -- ---- the whole call
 
 -- an answer of which so much is known, or running out of memory, was written whole, and has this status
-abbrev pub IsWritten : (Answer → Type 0) → Written → ℕ → Type 0
-IsWritten Is w status = (a : Answer) × ((Is a ⊎ (a ≡ no_memory)) × (a.status ≡ status) × WritesWhole w a)
+abbrev pub IsWritten : (Output → Type 0) → Written → ℕ → Type 0
+IsWritten Is w status = (a : Output) × ((Is a ⊎ (a ≡ no_memory)) × (a.status ≡ status) × WritesWhole w a)
 
 -- a first part of such an answer was written
-abbrev pub IsPartlyWritten : (Answer → Type 0) → Written → Type 0
-IsPartlyWritten Is w = (a : Answer) × ((Is a ⊎ (a ≡ no_memory)) × WritesPart w a)
+abbrev pub IsPartlyWritten : (Output → Type 0) → Written → Type 0
+IsPartlyWritten Is w = (a : Output) × ((Is a ⊎ (a ≡ no_memory)) × WritesPart w a)
 
 -- what these words ask for was said
 abbrev pub IsSaid : (Module → Module → Type 0) → Counted → Written → List (List ℕ) → ℕ → Type 0
@@ -267,14 +267,14 @@ abbrev pub IsPartlyDone : (Module → Module → Type 0) → Counted → Written
 IsPartlyDone Gives c w command = IsPartlyWritten (IsAnswerToCommand Gives c command) w
 
 -- an answer that was found, or running out of memory where none was
-abbrev pub IsFound : {E : Type 0} → Result Answer E → Answer → Type 0
+abbrev pub IsFound : {E : Type 0} → Result Output E → Output → Type 0
 IsFound (Ok b) a = a ≡ b
 IsFound (Err e) a = a ≡ no_memory
 
 -- it was written whole, and has this status
-abbrev pub IsTold : {E : Type 0} → Result Answer E → Written → ℕ → Type 0
-IsTold r w status = (a : Answer) × (IsFound r a × (a.status ≡ status) × WritesWhole w a)
+abbrev pub IsTold : {E : Type 0} → Result Output E → Written → ℕ → Type 0
+IsTold r w status = (a : Output) × (IsFound r a × (a.status ≡ status) × WritesWhole w a)
 
 -- a first part of it was written
-abbrev pub IsPartlyTold : {E : Type 0} → Result Answer E → Written → Type 0
-IsPartlyTold r w = (a : Answer) × (IsFound r a × WritesPart w a)
+abbrev pub IsPartlyTold : {E : Type 0} → Result Output E → Written → Type 0
+IsPartlyTold r w = (a : Output) × (IsFound r a × WritesPart w a)

@@ -10,7 +10,7 @@ use Rattle.ms_report.specs.RefusalTexts.{refusal_text}
 use Rattle.ms_report.specs.WithLines.{Lines}
 use Rattle.ms_words.specs.declared.commands.Command.TheVariants.{Run}
 use Rattle.ms_words.specs.declared.commands.Options.{Options}
-use Rattle.ms_top.specs.declared.answers.Answer.{Answer}
+use Rattle.ms_top.specs.declared.output.Output.{Output}
 use Rattle.ms_top.specs.Instrumented.{IsInstrumented}
 use Rattle.ms_top.specs.Lines.{AreLines}
 use Rattle.ms_top.specs.Said.{answer_of_result, says}
@@ -23,12 +23,12 @@ IsBeyondLimit (Refused number what token place) = (number ≡ 6) ⊎ (number ≡
 IsBeyondLimit NoMemory = ⊥
 
 -- the answer to a text that is refused for one of these
-abbrev pub IsLimitRefusal : Answer → Type 0
+abbrev pub IsLimitRefusal : Output → Type 0
 IsLimitRefusal b = (cause : ReadError) × IsBeyondLimit cause × (b ≡ says statuses.refused (refusal_text (Read cause)))
 
 -- b is what `run` says of a text, and c is what `check` says of m: both of one result, b without the verdict. The text is read as a
 -- module that the pass makes of m; each answer has lines of its own under the sites
-pub record RunsAlike (m : Module) (name : List ℕ) (o : Options) (text : List ℕ) (under : Lines) (b c : Answer) : Type 0 where
+pub record RunsAlike (m : Module) (name : List ℕ) (o : Options) (text : List ℕ) (under : Lines) (b c : Output) : Type 0 where
   pub made : Module
   pub instrumented : IsInstrumented m made
   pub below : Lines

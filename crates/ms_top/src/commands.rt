@@ -1,12 +1,14 @@
-//! The command that words ask for, and what belongs to it: the form and the size of its module's text, the name of its file,
-//! and those of its inputs' files.
+//! The command that words ask for, and what belongs to one on the module in a file: the form and the size of the module's text, and
+//! the names of its inputs' files.
 ghost use Rattle.std.specs.Prelude.{◌≡◌, None, Some, IfOk, IfSome};
 ghost use Rattle.ms_words.specs.{Limits.{IsWithinLimits}, Words.{IsAnswer}};
-ghost use Rattle.ms_top.specs.Command.{form_of, input_names, located_file as located_file_of, module_limit};
+ghost use Rattle.ms_top.specs.Command.{form_of, input_names, located_file, module_limit};
+ghost use Rattle.ms_top.specs.OnFile.{command_of};
 
-use ms_bits::{Boxed, Text};
+use ms_bits::{Boxed, List, Text};
 use ms_ir::Form;
-use ms_words::{Command, WordsError, read_words};
+use ms_read_top::max_bytes;
+use ms_words::{Command, Options, WordsError, read_words};
 use std::alloc::Global;
 
 /// The command that words ask for, on the heap.
@@ -18,66 +20,79 @@ pub fn read_command(alloc: Global, words: &[Text]) -> Result<Boxed<Command>, Wor
     Ok(Boxed::new(alloc, command)?)
 }
 
-/// The names of the inputs' files, in order.
-pub fn inputs_of(command: &Command) -> &[Text]
-    ensures { result.now ≡ input_names command.now }
-{
-    match command {
-        Command::Run { options, .. } => options.input.as_slice(),
-        Command::Check { options, .. } => options.input.as_slice(),
-        Command::Explain { options, .. } => options.input.as_slice(),
-        Command::Corpus { inputs, .. } => inputs.as_slice(),
-        Command::Instrument { .. } => &[],
-        Command::Gen { .. } => &[],
-        Command::Help => &[],
-        Command::Version => &[],
-    }
+/// What a command does with a module.
+#[derive(Clone, Copy)]
+pub enum Action<'a> {
+    /// Its instrumented form is written.
+    Instrument,
+    /// It is run as it is.
+    Run(&'a Options),
+    /// Its instrumented form is run.
+    Check(&'a Options),
+    /// That run's first report is explained.
+    Explain(&'a Options),
+    /// Its instrumented form is run on each of the inputs in these files, by at most so many threads.
+    Corpus {
+        inputs: &'a List<Text>,
+        options: &'a Options,
+        workers: u8,
+    },
 }
 
-/// The form in which the module is read; what is generated has the plain one. Where no module is read the plain one too.
-pub fn form_of(command: &Command) -> Form
-    ensures { result ≡ form_of command.now }
-{
-    match command {
-        Command::Run { .. } => Form::Instrumented,
-        Command::Instrument { .. } => Form::Plain,
-        Command::Check { .. } => Form::Plain,
-        Command::Explain { .. } => Form::Plain,
-        Command::Corpus { .. } => Form::Plain,
-        Command::Gen { .. } => Form::Plain,
-        Command::Help => Form::Plain,
-        Command::Version => Form::Plain,
-    }
+/// A command on the module in a file.
+#[derive(Clone, Copy)]
+pub struct FileCommand<'a> {
+    pub file: &'a Text,
+    pub action: Action<'a>,
 }
 
-/// The name of the module's file, where each line that names a site is to be followed by where it stands.
-pub fn located_file(command: &Command) -> Option<&[u8]>
-    ensures named { IfSome result (λ file. located_file_of command.now ≡ Some file.now) }
-    ensures unnamed { result ≡ None → located_file_of command.now ≡ None }
-{
-    match command {
-        Command::Run { file, options }
-        | Command::Check { file, options }
-        | Command::Explain { file, options }
-        | Command::Corpus { file, options, .. } => {
-            options.locations.then_some(file.as_str().as_bytes())
+impl FileCommand<'_> {
+    /// The names of the inputs' files, in order.
+    pub fn inputs(&self) -> &[Text]
+        ensures { result.now ≡ input_names (command_of self.now) }
+    {
+        match &self.action {
+            Action::Instrument => &[],
+            Action::Run(options) => options.input.as_slice(),
+            Action::Check(options) => options.input.as_slice(),
+            Action::Explain(options) => options.input.as_slice(),
+            Action::Corpus { inputs, .. } => inputs.as_slice(),
         }
-        _ => None,
     }
-}
 
-/// The most bytes that the module's text may have.
-pub fn module_limit(command: &Command) -> u64
-    ensures { result ≡ module_limit command.now }
-{
-    match command {
-        Command::Run { .. } => 1 << 27,
-        Command::Instrument { .. } => 1 << 22,
-        Command::Check { .. } => 1 << 22,
-        Command::Explain { .. } => 1 << 22,
-        Command::Corpus { .. } => 1 << 22,
-        Command::Gen { .. } => 1 << 22,
-        Command::Help => 1 << 22,
-        Command::Version => 1 << 22,
+    /// The form in which the module is read.
+    pub fn form(&self) -> Form
+        ensures { result ≡ form_of (command_of self.now) }
+    {
+        match &self.action {
+            Action::Run(_) => Form::Instrumented,
+            Action::Instrument => Form::Plain,
+            Action::Check(_) => Form::Plain,
+            Action::Explain(_) => Form::Plain,
+            Action::Corpus { .. } => Form::Plain,
+        }
+    }
+
+    /// The most bytes that the module's text may have.
+    pub fn limit(&self) -> u64
+        ensures { result ≡ module_limit (command_of self.now) }
+    {
+        max_bytes(self.form())
+    }
+
+    /// The name of the module's file, where each line that names a site is to be followed by where it stands.
+    pub fn located(&self) -> Option<&[u8]>
+        ensures named { IfSome result (λ file. located_file (command_of self.now) ≡ Some file.now) }
+        ensures unnamed { result ≡ None → located_file (command_of self.now) ≡ None }
+    {
+        match &self.action {
+            Action::Instrument => None,
+            Action::Run(options)
+            | Action::Check(options)
+            | Action::Explain(options)
+            | Action::Corpus { options, .. } => {
+                options.locations.then_some(self.file.as_str().as_bytes())
+            }
+        }
     }
 }

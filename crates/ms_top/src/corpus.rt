@@ -6,11 +6,12 @@ ghost use Rattle.ms_words.specs.Limits.{RunsWithinLimits};
 ghost use Rattle.ms_top.specs.{Command.{setup_of as setup_with}, Parts.{AreShort, AreRunsOfGiven, AreWithinLimits}};
 ghost use Rattle.ms_top.specs.Said.{answer_of_results, has_status, heading_of, section_of, sections_of, status_of_all as status_of_runs, AreSections, IsAnswerOfCorpus};
 
-use crate::answers::{Answer, refused_threads, setup_of, status_of, text_of_run};
 use crate::exit_codes::Status;
+use crate::modules::{ModuleJob, setup_of, status_of, text_of_run};
+use crate::output::Output;
 use crate::passes::{Pass, has_threads, instrumented_by};
+use crate::refused::refused_threads;
 use ms_bits::{Bytes, List, NoMemory, Text};
-use ms_check::CheckedModule;
 use ms_corpus::run_all;
 use ms_fork::Gate;
 use ms_ir::Module;
@@ -21,123 +22,96 @@ use ms_write_values::push_number;
 use std::alloc::Global;
 use std::thread::Threads;
 
-/// The inputs of a corpus with the names of their files, and by how many threads they are run at most.
-#[derive(Clone, Copy)]
-pub struct CorpusInputs<'a> {
-    pub names: &'a [Text],
-    pub inputs: &'a [Bytes],
-    pub workers: u8,
-}
+impl<R: Threads + Sync, P: Pass, G: Gate + Sync, L: SiteLines> ModuleJob<'_, R, P, G, L> {
+    /// `corpus`: the runs of the module that the pass gives on inputs in files with these names, one section each, by so many threads
+    /// at most. A module with threads is refused.
+    pub fn corpus(&self, names: &[Text], options: &Options, workers: u8) -> Result<Output, NoMemory>
+        requires plain { CanInstrument self.now.m.now }
+        requires limits { RunsWithinLimits options.now }
+        requires workers { (1 ≤ workers) × (workers ≤ 8) }
+        requires inputs { AreShort self.now.inputs.now }
+        ensures { IfOk result (λ a. IsAnswerOfCorpus P.gives (L.lines self.now.lines.now) names.now options.now self.now.inputs.now self.now.m.now a) }
+    {
+        if has_threads(self.m) {
+            refused_threads(self.job.alloc)
+        } else {
+            self.write_sections(names, options, workers)
+        }
+    }
 
-/// The answer of `corpus`: the runs of the module that the pass gives, one section each. A module with threads is refused.
-pub fn answer_of_corpus<R: Threads + Sync, P: Pass, G: Gate + Sync, L: SiteLines>(
-    rt: &R,
-    alloc: Global,
-    m: &CheckedModule,
-    options: &Options,
-    jobs: &CorpusInputs<'_>,
-    pass: &P,
-    gate: &G,
-    under: &L,
-) -> Result<Answer, NoMemory>
-    requires plain { CanInstrument m.now }
-    requires limits { RunsWithinLimits options.now }
-    requires workers { (1 ≤ jobs.now.workers) × (jobs.now.workers ≤ 8) }
-    requires inputs { AreShort jobs.now.inputs.now }
-    ensures { IfOk result (λ a. IsAnswerOfCorpus P.gives (L.lines under.now) jobs.now.names.now options.now jobs.now.inputs.now m.now a) }
-{
-    if has_threads(m) {
-        refused_threads(alloc)
-    } else {
-        answer_of_jobs(rt, alloc, m, options, jobs, pass, gate, under)
+    /// The same for a module without threads.
+    fn write_sections(
+        &self,
+        names: &[Text],
+        options: &Options,
+        workers: u8,
+    ) -> Result<Output, NoMemory>
+        requires plain { CanInstrument self.now.m.now }
+        requires limits { RunsWithinLimits options.now }
+        requires workers { (1 ≤ workers) × (workers ≤ 8) }
+        requires inputs { AreShort self.now.inputs.now }
+        requires alone { is_threaded self.now.m.now ≡ false }
+        ensures { IfOk result (λ a. AreSections P.gives (L.lines self.now.lines.now) names.now options.now self.now.inputs.now self.now.m.now a) }
+    {
+        self.m.law_valid();
+        let results = self.run_all_with(options, workers)?;
+        output_of_runs(
+            self.job.alloc,
+            self.m.module(),
+            names,
+            results.as_slice(),
+            self.lines,
+        )
+    }
+
+    /// The runs with these options of the module that the pass gives, in the order of the inputs.
+    fn run_all_with(&self, options: &Options, workers: u8) -> Result<List<RunResult>, NoMemory>
+        requires plain { CanInstrument self.now.m.now }
+        requires limits { RunsWithinLimits options.now }
+        requires workers { (1 ≤ workers) × (workers ≤ 8) }
+        requires inputs { AreShort self.now.inputs.now }
+        requires alone { is_threaded self.now.m.now ≡ false }
+        ensures { IfOk result (λ rs. AreRunsOfGiven P.gives self.now.m.now (setup_with options.now []) self.now.inputs.now rs) }
+    {
+        let setup = setup_of(self.job.alloc, options, b"")?;
+        self.run_inputs(&setup, workers)
+    }
+
+    /// The runs of the module that the pass gives, in the order of the inputs.
+    fn run_inputs(&self, setup: &Setup, workers: u8) -> Result<List<RunResult>, NoMemory>
+        requires plain { CanInstrument self.now.m.now }
+        requires limits { AreWithinLimits setup.now self.now.inputs.now }
+        requires workers { (1 ≤ workers) × (workers ≤ 8) }
+        requires alone { is_threaded self.now.m.now ≡ false }
+        ensures { IfOk result (λ rs. AreRunsOfGiven P.gives self.now.m.now setup.now self.now.inputs.now rs) }
+    {
+        let job = self.job;
+        let instrumented = instrumented_by(job.rt, job.alloc, self.m, job.pass)?;
+        run_all(
+            job.rt,
+            job.alloc,
+            instrumented.get(),
+            self.inputs,
+            setup,
+            workers,
+            job.gate,
+        )
     }
 }
 
-/// The runs of the module that the pass gives, one section each.
-fn answer_of_jobs<R: Threads + Sync, P: Pass, G: Gate + Sync, L: SiteLines>(
-    rt: &R,
-    alloc: Global,
-    m: &CheckedModule,
-    options: &Options,
-    jobs: &CorpusInputs<'_>,
-    pass: &P,
-    gate: &G,
-    under: &L,
-) -> Result<Answer, NoMemory>
-    requires plain { CanInstrument m.now }
-    requires limits { RunsWithinLimits options.now }
-    requires workers { (1 ≤ jobs.now.workers) × (jobs.now.workers ≤ 8) }
-    requires inputs { AreShort jobs.now.inputs.now }
-    requires alone { is_threaded m.now ≡ false }
-    ensures { IfOk result (λ a. AreSections P.gives (L.lines under.now) jobs.now.names.now options.now jobs.now.inputs.now m.now a) }
-{
-    m.law_valid();
-    let results = run_with(rt, alloc, m, options, jobs, pass, gate)?;
-    answer_of_runs(alloc, m.module(), jobs.names, results.as_slice(), under)
-}
-
-/// The runs with these options of the module that the pass gives, in the order of the inputs.
-fn run_with<R: Threads + Sync, P: Pass, G: Gate + Sync>(
-    rt: &R,
-    alloc: Global,
-    m: &CheckedModule,
-    options: &Options,
-    jobs: &CorpusInputs<'_>,
-    pass: &P,
-    gate: &G,
-) -> Result<List<RunResult>, NoMemory>
-    requires plain { CanInstrument m.now }
-    requires limits { RunsWithinLimits options.now }
-    requires workers { (1 ≤ jobs.now.workers) × (jobs.now.workers ≤ 8) }
-    requires inputs { AreShort jobs.now.inputs.now }
-    requires alone { is_threaded m.now ≡ false }
-    ensures { IfOk result (λ rs. AreRunsOfGiven P.gives m.now (setup_with options.now []) jobs.now.inputs.now rs) }
-{
-    let setup = setup_of(alloc, options, b"")?;
-    run_jobs(rt, alloc, m, &setup, jobs, pass, gate)
-}
-
-/// The runs of the module that the pass gives, in the order of the inputs.
-fn run_jobs<R: Threads + Sync, P: Pass, G: Gate + Sync>(
-    rt: &R,
-    alloc: Global,
-    m: &CheckedModule,
-    setup: &Setup,
-    jobs: &CorpusInputs<'_>,
-    pass: &P,
-    gate: &G,
-) -> Result<List<RunResult>, NoMemory>
-    requires plain { CanInstrument m.now }
-    requires limits { AreWithinLimits setup.now jobs.now.inputs.now }
-    requires workers { (1 ≤ jobs.now.workers) × (jobs.now.workers ≤ 8) }
-    requires alone { is_threaded m.now ≡ false }
-    ensures { IfOk result (λ rs. AreRunsOfGiven P.gives m.now setup.now jobs.now.inputs.now rs) }
-{
-    let instrumented = instrumented_by(rt, alloc, m, pass)?;
-    run_all(
-        rt,
-        alloc,
-        instrumented.get(),
-        jobs.inputs,
-        setup,
-        jobs.workers,
-        gate,
-    )
-}
-
-/// The answer for the results of runs.
-fn answer_of_runs<L: SiteLines>(
+/// The sections of the results of runs, and the status that they decide.
+fn output_of_runs<L: SiteLines>(
     alloc: Global,
     m: &Module,
     names: &[Text],
     results: &[RunResult],
-    under: &L,
-) -> Result<Answer, NoMemory>
+    lines: &L,
+) -> Result<Output, NoMemory>
     requires { Formed m.now }
-    ensures { IfOk result (λ a. a ≡ answer_of_results (L.lines under.now) m.now names.now results.now) }
+    ensures { IfOk result (λ a. a ≡ answer_of_results (L.lines lines.now) m.now names.now results.now) }
 {
-    let out = sections(alloc, m, names, results, under)?;
-    Ok(Answer {
+    let out = sections(alloc, m, names, results, lines)?;
+    Ok(Output {
         status: status_of_all(results),
         out: Bytes::from_vec(out),
         err: Bytes::from_vec(Vec::new(alloc)),
@@ -150,21 +124,20 @@ fn sections<L: SiteLines>(
     m: &Module,
     names: &[Text],
     results: &[RunResult],
-    under: &L,
+    lines: &L,
 ) -> Result<Vec<u8>, NoMemory>
     requires { Formed m.now }
-    ensures { IfOk result (λ text. text.items ≡ sections_of (L.lines under.now) m.now 1 names.now results.now) }
+    ensures { IfOk result (λ text. text.items ≡ sections_of (L.lines lines.now) m.now 1 names.now results.now) }
 {
     let mut text = Vec::new(alloc);
     for index in 0..names.len().min(results.len()) {
         push_section(
-            alloc,
             &mut text,
             m,
             index as u64 + 1,
             &names[index],
             &results[index],
-            under,
+            lines,
         )?;
     }
     Ok(text)
@@ -172,22 +145,22 @@ fn sections<L: SiteLines>(
 
 /// Adds the section of a run.
 fn push_section<L: SiteLines>(
-    alloc: Global,
     text: &mut Vec<u8>,
     m: &Module,
     number: u64,
     name: &Text,
     r: &RunResult,
-    under: &L,
+    lines: &L,
 ) -> Result<(), NoMemory>
     requires { Formed m.now }
-    ensures { IfOk result (λ _. text.new.items ≡ text.old.items ++ section_of (L.lines under.now) m.now number name.now r.now) }
+    ensures { IfOk result (λ _. text.new.items ≡ text.old.items ++ section_of (L.lines lines.now) m.now number name.now r.now) }
 {
+    let alloc = *text.allocator();
     push_heading(text, number, name, r)?;
     text.extend_from_slice(r.output.as_slice())?;
     text.push(b'\n')?;
-    let lines = text_of_run(alloc, m, r, true, under)?;
-    text.extend_from_slice(&lines)?;
+    let run = text_of_run(alloc, m, r, true, lines)?;
+    text.extend_from_slice(&run)?;
     Ok(())
 }
 

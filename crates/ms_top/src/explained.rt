@@ -5,14 +5,17 @@ ghost use Rattle.ms_trail_moves.specs.Scanned.{Ascending, trail_of};
 ghost use Rattle.ms_runs.specs.Limits.{WithinLimits};
 ghost use Rattle.ms_check_valid.specs.{Formed.{Formed}, Uninstrumented.{CanInstrument}};
 ghost use Rattle.ms_words.specs.Limits.{RunsWithinLimits};
-ghost use Rattle.ms_top.specs.Command.{input_limit, setup_of as setup_with};
+ghost use Rattle.ms_top.specs.Command.{input_limit, only_input, setup_of as setup_with};
 ghost use Rattle.ms_top.specs.Explained.{CanLead, explained_with, followed, trace_with, way_with};
 ghost use Rattle.ms_top.specs.Said.{answer_of_explained, IsExplanation, IsAnswerOfExplain};
 
-use crate::answers::{Answer, refused_threads, run_given, setup_of, status_of};
+use crate::modules::{ModuleJob, setup_of, status_of};
+use crate::output::Output;
 use crate::passes::{Pass, has_threads};
+use crate::refused::refused_threads;
 use ms_bits::{Bytes, NoMemory};
 use ms_check::CheckedModule;
+use ms_fork::Gate;
 use ms_ir::Module;
 use ms_report::{SiteLines, closing_with, report_text_with, trail_text_with};
 use ms_runs::{RunResult, Setup};
@@ -24,67 +27,54 @@ use ms_words::Options;
 use std::alloc::Global;
 use std::thread::Threads;
 
-/// The answer of `explain`: for the run of the module that the pass gives, and for the way of the bits that it reports. A module with
-/// threads is refused.
-pub fn answer_of_explain<R: Threads + Sync, P: Pass, L: SiteLines>(
-    rt: &R,
-    alloc: Global,
-    m: &CheckedModule,
-    options: &Options,
-    input: &[u8],
-    pass: &P,
-    under: &L,
-) -> Result<Answer, NoMemory>
-    requires plain { CanInstrument m.now }
-    requires limits { RunsWithinLimits options.now }
-    requires input { length input.now ≤ input_limit }
-    ensures { IfOk result (λ a. IsAnswerOfExplain P.gives (L.lines under.now) (setup_with options.now input.now) m.now a) }
-{
-    if has_threads(m) {
-        refused_threads(alloc)
-    } else {
-        explanation_of_run(rt, alloc, m, options, input, pass, under)
+impl<R: Threads + Sync, P: Pass, G: Gate + Sync, L: SiteLines> ModuleJob<'_, R, P, G, L> {
+    /// `explain`: the run of the module that the pass gives, and the way of the bits that it reports. A module with threads is
+    /// refused.
+    pub fn explain(&self, options: &Options) -> Result<Output, NoMemory>
+        requires plain { CanInstrument self.now.m.now }
+        requires limits { RunsWithinLimits options.now }
+        requires input { length (only_input self.now.inputs.now) ≤ input_limit }
+        ensures { IfOk result (λ a. IsAnswerOfExplain P.gives (L.lines self.now.lines.now) (setup_with options.now (only_input self.now.inputs.now)) self.now.m.now a) }
+    {
+        if has_threads(self.m) {
+            refused_threads(self.job.alloc)
+        } else {
+            self.explain_run(options)
+        }
+    }
+
+    /// The same for a module without threads.
+    fn explain_run(&self, options: &Options) -> Result<Output, NoMemory>
+        requires plain { CanInstrument self.now.m.now }
+        requires limits { RunsWithinLimits options.now }
+        requires input { length (only_input self.now.inputs.now) ≤ input_limit }
+        requires alone { is_threaded self.now.m.now ≡ false }
+        ensures { IfOk result (λ a. IsExplanation P.gives (L.lines self.now.lines.now) (setup_with options.now (only_input self.now.inputs.now)) self.now.m.now a) }
+    {
+        let alloc = self.job.alloc;
+        let setup = setup_of(alloc, options, self.input())?;
+        let result = self.job.run(self.m, &setup, options.schedule.as_slice())?;
+        explanation(alloc, self.m, &setup, &result, self.lines)
     }
 }
 
-/// What explains the run of the module that the pass gives: that run, and the way of the bits that it reports.
-fn explanation_of_run<R: Threads + Sync, P: Pass, L: SiteLines>(
-    rt: &R,
-    alloc: Global,
-    m: &CheckedModule,
-    options: &Options,
-    input: &[u8],
-    pass: &P,
-    under: &L,
-) -> Result<Answer, NoMemory>
-    requires plain { CanInstrument m.now }
-    requires limits { RunsWithinLimits options.now }
-    requires input { length input.now ≤ input_limit }
-    requires alone { is_threaded m.now ≡ false }
-    ensures { IfOk result (λ a. IsExplanation P.gives (L.lines under.now) (setup_with options.now input.now) m.now a) }
-{
-    let setup = setup_of(alloc, options, input)?;
-    let result = run_given(rt, alloc, m, &setup, options.schedule.as_slice(), pass)?;
-    explanation(alloc, m, &setup, &result, under)
-}
-
-/// The answer for the result of a run with a setup.
+/// What explains the result of a run with a setup.
 fn explanation<L: SiteLines>(
     alloc: Global,
     m: &CheckedModule,
     setup: &Setup,
     r: &RunResult,
-    under: &L,
-) -> Result<Answer, NoMemory>
+    lines: &L,
+) -> Result<Output, NoMemory>
     requires plain { CanInstrument m.now }
     requires limits { WithinLimits setup.now }
     requires alone { is_threaded m.now ≡ false }
-    ensures { IfOk result (λ a. a ≡ answer_of_explained (L.lines under.now) m.now setup.now r.now) }
+    ensures { IfOk result (λ a. a ≡ answer_of_explained (L.lines lines.now) m.now setup.now r.now) }
 {
     m.law_valid();
-    let out = explained(alloc, m, setup, r, under)?;
-    let err = closing_with(alloc, m.module(), r, true, under)?;
-    Ok(Answer {
+    let out = explained(alloc, m, setup, r, lines)?;
+    let err = closing_with(alloc, m.module(), r, true, lines)?;
+    Ok(Output {
         status: status_of(r),
         out: Bytes::from_vec(out),
         err: Bytes::from_vec(err),
@@ -97,20 +87,20 @@ fn explained<L: SiteLines>(
     m: &CheckedModule,
     setup: &Setup,
     r: &RunResult,
-    under: &L,
+    lines: &L,
 ) -> Result<Vec<u8>, NoMemory>
     requires plain { CanInstrument m.now }
     requires limits { WithinLimits setup.now }
     requires alone { is_threaded m.now ≡ false }
-    ensures { IfOk result (λ text. text.items ≡ explained_with (L.lines under.now) m.now setup.now r.now) }
+    ensures { IfOk result (λ text. text.items ≡ explained_with (L.lines lines.now) m.now setup.now r.now) }
 {
     m.law_valid();
     if r.reports.as_slice().is_empty() {
         return Vec::from_slice(alloc, b"no report\n");
     }
-    let mut text = report_text_with(alloc, m.module(), r, under)?;
-    let lines = lines_of_run(alloc, m, setup, under)?;
-    text.extend_from_slice(&lines)?;
+    let mut text = report_text_with(alloc, m.module(), r, lines)?;
+    let way = lines_of_run(alloc, m, setup, lines)?;
+    text.extend_from_slice(&way)?;
     Ok(text)
 }
 
@@ -119,16 +109,16 @@ fn lines_of_run<L: SiteLines>(
     alloc: Global,
     m: &CheckedModule,
     setup: &Setup,
-    under: &L,
+    lines: &L,
 ) -> Result<Vec<u8>, NoMemory>
     requires plain { CanInstrument m.now }
     requires limits { WithinLimits setup.now }
     requires alone { is_threaded m.now ≡ false }
-    ensures { IfOk result (λ text. text.items ≡ trace_with (L.lines under.now) m.now (followed m.now setup.now)) }
+    ensures { IfOk result (λ text. text.items ≡ trace_with (L.lines lines.now) m.now (followed m.now setup.now)) }
 {
     m.law_valid();
     let found = trace(alloc, m, setup)?;
-    lines_of_trace(alloc, m.module(), &found, under)
+    lines_of_trace(alloc, m.module(), &found, lines)
 }
 
 /// The lines of what following a run comes to.
@@ -136,16 +126,16 @@ fn lines_of_trace<L: SiteLines>(
     alloc: Global,
     m: &Module,
     found: &Trace,
-    under: &L,
+    lines: &L,
 ) -> Result<Vec<u8>, NoMemory>
     requires formed { Formed m.now }
     requires leads { CanLead found.now }
-    ensures { IfOk result (λ text. text.items ≡ trace_with (L.lines under.now) m.now found.now) }
+    ensures { IfOk result (λ text. text.items ≡ trace_with (L.lines lines.now) m.now found.now) }
 {
     match found {
         Trace::NoReport => Ok(Vec::new(alloc)),
         Trace::TooLong { .. } => Vec::from_slice(alloc, b"  trail: too long\n"),
-        Trace::Found { moves, at } => lines_of_way(alloc, m, moves.as_slice(), at, under),
+        Trace::Found { moves, at } => lines_of_way(alloc, m, moves.as_slice(), at, lines),
     }
 }
 
@@ -155,15 +145,15 @@ fn lines_of_way<L: SiteLines>(
     m: &Module,
     moves: &[Move],
     at: &Source,
-    under: &L,
+    lines: &L,
 ) -> Result<Vec<u8>, NoMemory>
     requires formed { Formed m.now }
     requires ascending { Ascending moves.now }
     requires few { length moves.now < 2 ^ 32 }
-    ensures { IfOk result (λ text. text.items ≡ way_with (L.lines under.now) m.now moves.now at.now (trail_of moves.now at.now)) }
+    ensures { IfOk result (λ text. text.items ≡ way_with (L.lines lines.now) m.now moves.now at.now (trail_of moves.now at.now)) }
 {
     match trail(alloc, moves, at)? {
-        Some(hops) => trail_text_with(alloc, m, moves, at, &hops, under),
+        Some(hops) => trail_text_with(alloc, m, moves, at, &hops, lines),
         None => Ok(Vec::new(alloc)),
     }
 }

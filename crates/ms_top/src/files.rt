@@ -1,17 +1,17 @@
 //! What is said of words and files.
-ghost use Rattle.std.specs.Prelude.{◌≡◌, ◌≤◌, ◌++◌, false, codes, length, Some, IfErr, IfOk};
+ghost use Rattle.std.specs.Prelude.{◌≡◌, ◌≤◌, ◌++◌, false, length, IfErr, IfOk};
 ghost use Rattle.ms_report.specs.{RunTexts.{line}, WordsTexts.{words_text}};
 ghost use Rattle.ms_words.specs.{Limits.{IsWithinLimits}, Words.{name_of, place_of}};
-ghost use Rattle.ms_top.specs.{Command.{input_files, module_file, module_limit}, Files.{counted, CanRead, Whole}};
+ghost use Rattle.ms_top.specs.{Command.{input_files, module_limit}, Files.{counted, CanRead, Whole}, OnFile.{command_of, command_with}};
 ghost use Rattle.ms_top.specs.Parts.{AreShort, IsAnswerAfter, IsAnswerToFault, is_want_of_memory};
 ghost use Rattle.ms_top.specs.{Said.{IsAnswerToCommand, says}, Unread.{IsUnread}};
 ghost use Rattle.ms_top.specs.Statuses as statuses;
 
-use crate::answers::{Answer, answer_to_text};
-use crate::commands::{inputs_of, module_limit};
+use crate::commands::{Action, FileCommand};
 use crate::exit_codes::Status;
-use crate::generated::answer_of_gen;
-use crate::help::{answer_of_help, answer_of_version};
+use crate::help::{help, version};
+use crate::jobs::Job;
+use crate::output::Output;
 use crate::passes::Pass;
 use ms_bits::{Bytes, List, NoMemory, Text};
 use ms_fork::Gate;
@@ -24,8 +24,8 @@ use std::thread::Threads;
 /// The most bytes that an input file may have.
 const INPUT_LIMIT: u64 = 1 << 20;
 
-/// The answer for words that are no command. Where the fault is that memory ran out, so is the error.
-pub fn no_command(alloc: Global, fault: WordsError) -> Result<Answer, NoMemory>
+/// What is said of words that are no command. Where the fault is that memory ran out, so is the error.
+pub fn no_command(alloc: Global, fault: WordsError) -> Result<Output, NoMemory>
     ensures reason { IfOk result (λ a. is_want_of_memory fault ≡ false) }
     ensures line { IfOk result (λ a. a ≡ says statuses.bad_words (words_text (name_of fault) (place_of fault))) }
 {
@@ -37,7 +37,7 @@ pub fn no_command(alloc: Global, fault: WordsError) -> Result<Answer, NoMemory>
         place: fault.place(),
     };
     let line = words_line(alloc, &fault)?;
-    Ok(Answer::on_err(alloc, Status::BadWords as u8, line))
+    Ok(Output::on_err(alloc, Status::BadWords as u8, line))
 }
 
 /// Whether a fault in words is that memory ran out.
@@ -50,86 +50,94 @@ fn wants_memory(fault: WordsError) -> bool
     }
 }
 
-/// The answer to a command: what is generated needs no file, nor does what the program says of itself.
-pub fn answer_to_command<R: Threads + Sync, F: Files, P: Pass, G: Gate + Sync>(
-    rt: &R,
-    alloc: Global,
-    command: &Command,
-    files: &mut F,
-    pass: &P,
-    gate: &G,
-) -> Result<Answer, NoMemory>
-    requires { IsWithinLimits command.now }
-    ensures said { IfOk result (λ a. IsAnswerToCommand P.gives
-        (counted (F.held files.old) (F.faults files.old) (F.faults files.new) (F.taken files.old) (F.taken files.new)) command.now a) }
-    ensures holdings_stay { F.held files.new ≡ F.held files.old }
-    ensures faults_never_fall { F.faults files.old ≤ F.faults files.new }
-    ensures taken_never_falls { F.taken files.old ≤ F.taken files.new }
-{
-    match command {
-        Command::Instrument { file } => answer_to_file(rt, alloc, command, file, files, pass, gate),
-        Command::Run { file, .. } => answer_to_file(rt, alloc, command, file, files, pass, gate),
-        Command::Check { file, .. } => answer_to_file(rt, alloc, command, file, files, pass, gate),
-        Command::Explain { file, .. } => answer_to_file(
-            rt, alloc, command, file, files, pass, gate,
-        ),
-        Command::Corpus { file, .. } => answer_to_file(rt, alloc, command, file, files, pass, gate),
-        Command::Gen {
-            seed,
-            functions,
-            run,
-        } => { answer_of_gen(rt, alloc, *seed, *functions, *run, pass) }
-        Command::Help => answer_of_help(alloc),
-        Command::Version => answer_of_version(alloc),
+impl<R: Threads + Sync, P: Pass, G: Gate + Sync> Job<'_, R, P, G> {
+    /// Does what a command asks for: what is generated needs no file, nor does what the program says of itself.
+    pub fn run_command<F: Files>(
+        &self,
+        command: &Command,
+        files: &mut F,
+    ) -> Result<Output, NoMemory>
+        requires { IsWithinLimits command.now }
+        ensures said { IfOk result (λ a. IsAnswerToCommand P.gives
+            (counted (F.held files.old) (F.faults files.old) (F.faults files.new) (F.taken files.old) (F.taken files.new)) command.now a) }
+        ensures holdings_stay { F.held files.new ≡ F.held files.old }
+        ensures faults_never_fall { F.faults files.old ≤ F.faults files.new }
+        ensures taken_never_falls { F.taken files.old ≤ F.taken files.new }
+    {
+        match command {
+            Command::Instrument { file } => self.run_file(file, &Action::Instrument, files),
+            Command::Run { file, options } => self.run_file(file, &Action::Run(options), files),
+            Command::Check { file, options } => self.run_file(file, &Action::Check(options), files),
+            Command::Explain { file, options } => {
+                self.run_file(file, &Action::Explain(options), files)
+            }
+            Command::Corpus {
+                file,
+                inputs,
+                options,
+                workers,
+            } => {
+                let action = Action::Corpus {
+                    inputs,
+                    options,
+                    workers: *workers,
+                };
+                self.run_file(file, &action, files)
+            }
+            Command::Gen {
+                seed,
+                functions,
+                run,
+            } => self.generate(*seed, *functions, *run),
+            Command::Help => help(self.alloc),
+            Command::Version => version(self.alloc),
+        }
     }
-}
 
-/// The answer to a command on the module in a file: its files are read in order, the module's first.
-fn answer_to_file<R: Threads + Sync, F: Files, P: Pass, G: Gate + Sync>(
-    rt: &R,
-    alloc: Global,
-    command: &Command,
-    file: &Text,
-    files: &mut F,
-    pass: &P,
-    gate: &G,
-) -> Result<Answer, NoMemory>
-    requires limits { IsWithinLimits command.now }
-    requires named { module_file command.now ≡ Some file.now }
-    ensures said { IfOk result (λ a. IsAnswerToCommand P.gives
-        (counted (F.held files.old) (F.faults files.old) (F.faults files.new) (F.taken files.old) (F.taken files.new)) command.now a) }
-    ensures holdings_stay { F.held files.new ≡ F.held files.old }
-    ensures faults_never_fall { F.faults files.old ≤ F.faults files.new }
-    ensures taken_never_falls { F.taken files.old ≤ F.taken files.new }
-{
-    match files.read_whole(alloc, file.as_str(), module_limit(command)) {
-        Ok(text) => answer_after(rt, alloc, command, &text, files, pass, gate),
-        Err(cause) => unread(alloc, file, cause),
+    /// Does this with the module in a file: the files are read in order, the module's first.
+    fn run_file<F: Files>(
+        &self,
+        file: &Text,
+        action: &Action<'_>,
+        files: &mut F,
+    ) -> Result<Output, NoMemory>
+        requires { IsWithinLimits (command_with file.now action.now) }
+        ensures said { IfOk result (λ a. IsAnswerToCommand P.gives
+            (counted (F.held files.old) (F.faults files.old) (F.faults files.new) (F.taken files.old) (F.taken files.new)) (command_with file.now action.now) a) }
+        ensures holdings_stay { F.held files.new ≡ F.held files.old }
+        ensures faults_never_fall { F.faults files.old ≤ F.faults files.new }
+        ensures taken_never_falls { F.taken files.old ≤ F.taken files.new }
+    {
+        let command = FileCommand {
+            file,
+            action: *action,
+        };
+        match files.read_whole(self.alloc, file.as_str(), command.limit()) {
+            Ok(text) => self.run_text(&command, &text, files),
+            Err(cause) => unread(self.alloc, file, cause),
+        }
     }
-}
 
-/// The answer to a command whose module's file has this text: its inputs are read, in their order.
-fn answer_after<R: Threads + Sync, F: Files, P: Pass, G: Gate + Sync>(
-    rt: &R,
-    alloc: Global,
-    command: &Command,
-    text: &[u8],
-    files: &mut F,
-    pass: &P,
-    gate: &G,
-) -> Result<Answer, NoMemory>
-    requires limits { IsWithinLimits command.now }
-    requires fits { length text.now ≤ module_limit command.now }
-    ensures said { IfOk result (λ a. IsAnswerAfter P.gives
-        (counted (F.held files.old) (F.faults files.old) (F.faults files.new) (F.taken files.old) (F.taken files.new)) command.now text.now a) }
-    ensures holdings_stay { F.held files.new ≡ F.held files.old }
-    ensures faults_never_fall { F.faults files.old ≤ F.faults files.new }
-    ensures taken_never_falls { F.taken files.old ≤ F.taken files.new }
-{
-    let names = inputs_of(command);
-    match read_inputs(alloc, names, files) {
-        Ok(inputs) => answer_to_text(rt, alloc, command, text, inputs.as_slice(), pass, gate),
-        Err(at) => unread(alloc, &names[at.index], at.cause),
+    /// What a command has to say of the module whose file has this text: the inputs are read, in their order.
+    fn run_text<F: Files>(
+        &self,
+        command: &FileCommand<'_>,
+        text: &[u8],
+        files: &mut F,
+    ) -> Result<Output, NoMemory>
+        requires limits { IsWithinLimits (command_of command.now) }
+        requires fits { length text.now ≤ module_limit (command_of command.now) }
+        ensures said { IfOk result (λ a. IsAnswerAfter P.gives
+            (counted (F.held files.old) (F.faults files.old) (F.faults files.new) (F.taken files.old) (F.taken files.new)) (command_of command.now) text.now a) }
+        ensures holdings_stay { F.held files.new ≡ F.held files.old }
+        ensures faults_never_fall { F.faults files.old ≤ F.faults files.new }
+        ensures taken_never_falls { F.taken files.old ≤ F.taken files.new }
+    {
+        let names = command.inputs();
+        match read_inputs(self.alloc, names, files) {
+            Ok(inputs) => self.read_module(command, text, inputs.as_slice()),
+            Err(at) => unread(self.alloc, &names[at.index], at.cause),
+        }
     }
 }
 
@@ -172,8 +180,8 @@ fn read_inputs<F: Files>(
     Ok(List::from_vec(inputs))
 }
 
-/// The answer for a file that isn't read whole. Where the cause is that memory ran out, so is the error.
-fn unread(alloc: Global, file: &Text, cause: FileError) -> Result<Answer, NoMemory>
+/// What is said of a file that isn't read whole. Where the cause is that memory ran out, so is the error.
+fn unread(alloc: Global, file: &Text, cause: FileError) -> Result<Output, NoMemory>
     ensures { IfOk result (λ a. IsAnswerToFault cause file.now a) }
 {
     match cause {
@@ -189,13 +197,13 @@ fn unread(alloc: Global, file: &Text, cause: FileError) -> Result<Answer, NoMemo
     }
 }
 
-/// The answer that names a file.
-fn about_file(alloc: Global, status: u8, name: &[u8], file: &Text) -> Result<Answer, NoMemory>
+/// A line that names a file.
+fn about_file(alloc: Global, status: u8, name: &[u8], file: &Text) -> Result<Output, NoMemory>
     ensures { IfOk result (λ a. a ≡ says status (line name.now file.now)) }
 {
     let mut text = Vec::new(alloc);
     push_line(&mut text, name, file.as_str().as_bytes())?;
-    Ok(Answer::on_err(alloc, status, text))
+    Ok(Output::on_err(alloc, status, text))
 }
 
 /// Adds the line `name: value`.

@@ -8,10 +8,13 @@ ghost use Rattle.ms_gen.specs.Generator.{generated};
 ghost use Rattle.ms_top.specs.{Command.{setup_of}, Said.{answer_of, status_of as status_of_run, IsAnswerOfGen}};
 ghost use Rattle.ms_top.specs.Statuses as statuses;
 
-use crate::answers::{Answer, run_given, status_of};
+use crate::jobs::Job;
+use crate::modules::status_of;
+use crate::output::Output;
 use crate::passes::Pass;
 use ms_bits::{Boxed, Bytes, NoMemory};
 use ms_check::CheckedModule;
+use ms_fork::Gate;
 use ms_gen::generate;
 use ms_ir::Module;
 use ms_report::summary_text;
@@ -20,49 +23,50 @@ use ms_write::write;
 use std::alloc::Global;
 use std::thread::Threads;
 
-/// The answer of `gen`: its module is made and written, or checked with no option given.
-pub fn answer_of_gen<R: Threads + Sync, P: Pass>(
-    rt: &R,
-    alloc: Global,
-    seed: u64,
-    functions: u32,
-    run: bool,
-    pass: &P,
-) -> Result<Answer, NoMemory>
-    requires { MadeWithinLimits seed functions }
-    ensures { IfOk result (λ a. IsAnswerOfGen P.gives run (generated seed functions) a) }
-{
-    let module = generate(alloc, seed, functions)?;
-    if run {
-        summary_of_module(rt, alloc, module, pass)
-    } else {
-        written(alloc, &module)
+impl<R: Threads + Sync, P: Pass, G: Gate + Sync> Job<'_, R, P, G> {
+    /// `gen`: its module is made and written, or checked with no option given.
+    pub fn generate(&self, seed: u64, functions: u32, run: bool) -> Result<Output, NoMemory>
+        requires { MadeWithinLimits seed functions }
+        ensures { IfOk result (λ a. IsAnswerOfGen P.gives run (generated seed functions) a) }
+    {
+        let module = generate(self.alloc, seed, functions)?;
+        if run {
+            self.summarise(module)
+        } else {
+            written(self.alloc, &module)
+        }
+    }
+
+    /// The summary of the run of a module that is known to be valid.
+    fn summarise(&self, m: Module) -> Result<Output, NoMemory>
+        requires formed { Formed m }
+        requires valid { Valid m }
+        requires plain { CanInstrument m }
+        ensures { IfOk result (λ a. IsAnswerOfGen P.gives true m a) }
+    {
+        let checked = with_code(self.alloc, m)?;
+        self.summarise_checked(checked.get())
+    }
+
+    /// The same for a module with its code: it is checked with no option given.
+    fn summarise_checked(&self, m: &CheckedModule) -> Result<Output, NoMemory>
+        requires { CanInstrument m.now }
+        ensures { IfOk result (λ a. IsAnswerOfGen P.gives true m.now a) }
+    {
+        m.law_valid();
+        let setup = default_setup(self.alloc)?;
+        let result = self.run(m, &setup, default_schedule())?;
+        output_of_summary(self.alloc, m.module(), &result)
     }
 }
 
-/// The answer with a module's text.
-pub fn written(alloc: Global, m: &Module) -> Result<Answer, NoMemory>
+/// A module's text.
+pub fn written(alloc: Global, m: &Module) -> Result<Output, NoMemory>
     requires { Formed m.now }
     ensures { IfOk result (λ a. a ≡ answer_of statuses.done (text_of m.now) []) }
 {
     let text = write(alloc, m)?;
-    Ok(Answer::on_out(alloc, text))
-}
-
-/// The summary of the run of a module that is known to be valid.
-fn summary_of_module<R: Threads + Sync, P: Pass>(
-    rt: &R,
-    alloc: Global,
-    m: Module,
-    pass: &P,
-) -> Result<Answer, NoMemory>
-    requires formed { Formed m }
-    requires valid { Valid m }
-    requires plain { CanInstrument m }
-    ensures { IfOk result (λ a. IsAnswerOfGen P.gives true m a) }
-{
-    let checked = with_code(alloc, m)?;
-    summarised(rt, alloc, checked.get(), pass)
+    Ok(Output::on_out(alloc, text))
 }
 
 /// A module that is known to be valid, with its code, on the heap.
@@ -73,22 +77,6 @@ fn with_code(alloc: Global, m: Module) -> Result<Boxed<CheckedModule>, NoMemory>
 {
     let checked = CheckedModule::of_valid(alloc, m)?;
     Boxed::new(alloc, checked)
-}
-
-/// The summary of a module's run: the module is checked with no option given.
-pub fn summarised<R: Threads + Sync, P: Pass>(
-    rt: &R,
-    alloc: Global,
-    m: &CheckedModule,
-    pass: &P,
-) -> Result<Answer, NoMemory>
-    requires { CanInstrument m.now }
-    ensures { IfOk result (λ a. IsAnswerOfGen P.gives true m.now a) }
-{
-    m.law_valid();
-    let setup = default_setup(alloc)?;
-    let result = run_given(rt, alloc, m, &setup, default_schedule(), pass)?;
-    summary_answer(alloc, m.module(), &result)
 }
 
 /// The schedule of a run where no option is.
@@ -111,13 +99,13 @@ fn default_setup(alloc: Global) -> Result<Setup, NoMemory>
     })
 }
 
-/// The answer with the summary of a run.
-fn summary_answer(alloc: Global, m: &Module, r: &RunResult) -> Result<Answer, NoMemory>
+/// The summary of a run, with the status that it decides.
+fn output_of_summary(alloc: Global, m: &Module, r: &RunResult) -> Result<Output, NoMemory>
     requires { Formed m.now }
     ensures { IfOk result (λ a. a ≡ answer_of (status_of_run r.now) (summary_of m.now r.now) []) }
 {
     let out = summary_text(alloc, m, r)?;
-    Ok(Answer {
+    Ok(Output {
         status: status_of(r),
         out: Bytes::from_vec(out),
         err: Bytes::from_vec(Vec::new(alloc)),

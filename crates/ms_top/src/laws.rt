@@ -10,7 +10,7 @@ ghost use Rattle.ms_check_valid.specs.{Formed.{Formed}, Refusals.{Fault}, Valid.
 ghost use Rattle.ms_text_grammar.specs.LayoutModules.{written};
 ghost use Rattle.ms_text_laws.specs.Fits.{FitsText};
 ghost use Rattle.ms_pass_form_laws.specs.Elided.{IsElided};
-ghost use Rattle.ms_top.specs.{declared.answers.Answer.{Answer}, Answered.{AreHeld, IsTaken, IsDoneStatus, Begins}};
+ghost use Rattle.ms_top.specs.{declared.output.Output.{Output}, Answered.{AreHeld, IsTaken, IsDoneStatus, Begins}};
 ghost use Rattle.ms_top.specs.Added.{with_locations, without_lines, without_any_lines, CorpusAdds};
 ghost use Rattle.ms_top.specs.{Command.{files_of, form_of, input_limit, only_input, setup_of}, Explained.{no_report}};
 ghost use Rattle.ms_top.specs.Files.{Counted, CanRead, Whole};
@@ -38,20 +38,20 @@ use crate::passes::Pass;
 /// What is to be said is one answer, but where memory runs out, and for the path that shows that a use of a value isn't
 /// defined: of a module's text, and of commands and of words where the files are told and no fault of theirs was counted.
 pub fn law_one_answer()
-    ensures text { (command : Command) (inputs : List (List ℕ)) (text : List ℕ) (a b : Answer)
+    ensures text { (command : Command) (inputs : List (List ℕ)) (text : List ℕ) (a b : Output)
         → IsAnswerToText IsInstrumented command inputs text a → IsAnswerToText IsInstrumented command inputs text b → (a ≡ b) ⊎ DifferInPath a b }
-    ensures commands { (c : Counted) (files : Holdings) (command : Command) (a b : Answer) → c.told ≡ Some files → (Rose c.faults c.faults_after → ⊥)
+    ensures commands { (c : Counted) (files : Holdings) (command : Command) (a b : Output) → c.told ≡ Some files → (Rose c.faults c.faults_after → ⊥)
         → IsAnswerToCommand IsInstrumented c command a → IsAnswerToCommand IsInstrumented c command b → (a ≡ b) ⊎ DifferInPath a b }
-    ensures words { (c : Counted) (files : Holdings) (words : List (List ℕ)) (a b : Answer) → c.told ≡ Some files → (Rose c.faults c.faults_after → ⊥)
+    ensures words { (c : Counted) (files : Holdings) (words : List (List ℕ)) (a b : Output) → c.told ≡ Some files → (Rose c.faults c.faults_after → ⊥)
         → IsAnswer IsInstrumented c words a → IsAnswer IsInstrumented c words b → (a ≡ b) ⊎ DifferInPath a b }
 {}
 
 /// What is said of a question about the program itself is the usage, or the line with the version, and of a first word that
 /// is neither a question nor a command the line `words: UnknownCommand at 0`, whatever words follow.
 pub fn law_questions_are_answered()
-    ensures help { (c : Counted) (words : List (List ℕ)) (a : Answer) → command_of words ≡ Ok Help → IsAnswer IsInstrumented c words a → a ≡ answer_of statuses.done usage [] }
-    ensures version { (c : Counted) (words : List (List ℕ)) (a : Answer) → command_of words ≡ Ok Version → IsAnswer IsInstrumented c words a → a ≡ answer_of statuses.done version_line [] }
-    ensures unknown { (c : Counted) (word : List ℕ) (rest : List (List ℕ)) (a : Answer) → find (asks word) topics ≡ None → find (λ n. same word (command_word n)) commands ≡ None
+    ensures help { (c : Counted) (words : List (List ℕ)) (a : Output) → command_of words ≡ Ok Help → IsAnswer IsInstrumented c words a → a ≡ answer_of statuses.done usage [] }
+    ensures version { (c : Counted) (words : List (List ℕ)) (a : Output) → command_of words ≡ Ok Version → IsAnswer IsInstrumented c words a → a ≡ answer_of statuses.done version_line [] }
+    ensures unknown { (c : Counted) (word : List ℕ) (rest : List (List ℕ)) (a : Output) → find (asks word) topics ≡ None → find (λ n. same word (command_word n)) commands ≡ None
         → IsAnswer IsInstrumented c (word ∷ rest) a → a ≡ says statuses.bad_words (words_text (codes "UnknownCommand") 0) }
 {}
 
@@ -61,17 +61,17 @@ pub fn law_questions_are_answered()
 /// fair: no input, the fill a5, ten million steps, one report, the schedule 00. A clean verdict, and a first report where no blind use was counted, hold under
 /// every fill, with threads under the same schedule; of two schedules nothing is said.
 pub fn law_checks_show_the_shadow_run()
-    ensures shadow { (under : Lines) (file : List ℕ) (inputs : List (List ℕ)) (o : Options) (m : Module) (a : Answer) → let s = setup_of o (only_input inputs) in Fair s → IsSchedule o.schedule
+    ensures shadow { (under : Lines) (file : List ℕ) (inputs : List (List ℕ)) (o : Options) (m : Module) (a : Output) → let s = setup_of o (only_input inputs) in Fair s → IsSchedule o.schedule
         → IsAnswerToValid IsInstrumented under (Check file o) inputs m a → a ≡ answer_of_result under true m (shadow_under (is_threaded m) m s o.schedule) }
-    ensures under_fills { (under : Lines) (file : List ℕ) (inputs : List (List ℕ)) (o : Options) (m : Module) (a : Answer) → let s = setup_of o (only_input inputs) in Fair s → IsSchedule o.schedule
+    ensures under_fills { (under : Lines) (file : List ℕ) (inputs : List (List ℕ)) (o : Options) (m : Module) (a : Output) → let s = setup_of o (only_input inputs) in Fair s → IsSchedule o.schedule
         → IsAnswerToValid IsInstrumented under (Check file o) inputs m a → HoldsUnder (is_threaded m) m s o.schedule (shadow_under (is_threaded m) m s o.schedule) }
-    ensures sections { (under : Lines) (file : List ℕ) (names inputs : List (List ℕ)) (o : Options) (workers : ℕ) (m : Module) (a : Answer) → is_threaded m ≡ false → All (λ input. Fair (setup_of o input)) inputs
+    ensures sections { (under : Lines) (file : List ℕ) (names inputs : List (List ℕ)) (o : Options) (workers : ℕ) (m : Module) (a : Output) → is_threaded m ≡ false → All (λ input. Fair (setup_of o input)) inputs
         → IsAnswerToValid IsInstrumented under (Corpus file names o workers) inputs m a → a ≡ answer_of_results under m names (map (λ input. shadow m (setup_of o input)) inputs) }
-    ensures sections_under_fills { (under : Lines) (file : List ℕ) (names inputs : List (List ℕ)) (o : Options) (workers : ℕ) (m : Module) (a : Answer) → is_threaded m ≡ false
+    ensures sections_under_fills { (under : Lines) (file : List ℕ) (names inputs : List (List ℕ)) (o : Options) (workers : ℕ) (m : Module) (a : Output) → is_threaded m ≡ false
         → IsAnswerToValid IsInstrumented under (Corpus file names o workers) inputs m a → (input : List ℕ) → Fair (setup_of o input) → HoldsUnderFills m (setup_of o input) (shadow m (setup_of o input)) }
-    ensures summary { (m : Module) (a : Answer) → IsAnswerOfGen IsInstrumented true m a
+    ensures summary { (m : Module) (a : Output) → IsAnswerOfGen IsInstrumented true m a
         → let r = shadow_under (is_threaded m) m (setup_of defaults []) defaults.schedule in a ≡ answer_of (status_of r) (summary_of m r) [] }
-    ensures generated { (seed functions : ℕ) (a : Answer) → IsAnswerOfGen IsInstrumented true (generated seed functions) a
+    ensures generated { (seed functions : ℕ) (a : Output) → IsAnswerOfGen IsInstrumented true (generated seed functions) a
         → let r = shadow (generated seed functions) (setup_of defaults []) in a ≡ answer_of (status_of r) (summary_of (generated seed functions) r) [] }
     ensures fair { (o : Options) (input : List ℕ) → RunsWithinLimits o → length input ≤ input_limit → All (λ b. b < 2 ^ 8) input → Fair (setup_of o input) }
     ensures defaults { Fair (setup_of defaults []) }
@@ -83,19 +83,19 @@ pub fn law_checks_show_the_shadow_run()
 /// that the run had reached, each place on it is what the next move reads, and the last is what the report's use reads. A module with
 /// threads is refused.
 pub fn law_explanations_show_the_way()
-    ensures shadow { (under : Lines) (file : List ℕ) (inputs : List (List ℕ)) (o : Options) (m : Module) (a : Answer) → is_threaded m ≡ false → let s = setup_of o (only_input inputs) in Fair s
+    ensures shadow { (under : Lines) (file : List ℕ) (inputs : List (List ℕ)) (o : Options) (m : Module) (a : Output) → is_threaded m ≡ false → let s = setup_of o (only_input inputs) in Fair s
         → IsAnswerToValid IsInstrumented under (Explain file o) inputs m a → a ≡ answer_of_explained under m s (shadow m s) }
-    ensures way { (under : Lines) (file : List ℕ) (inputs : List (List ℕ)) (o : Options) (m : Module) (a : Answer) → is_threaded m ≡ false → let s = setup_of o (only_input inputs) in Fair s
+    ensures way { (under : Lines) (file : List ℕ) (inputs : List (List ℕ)) (o : Options) (m : Module) (a : Output) → is_threaded m ≡ false → let s = setup_of o (only_input inputs) in Fair s
         → IsAnswerToValid IsInstrumented under (Explain file o) inputs m a → (shadow m s).reports ≢ [] → ShowsWay under m s a.out }
-    ensures none { (under : Lines) (file : List ℕ) (inputs : List (List ℕ)) (o : Options) (m : Module) (a : Answer) → is_threaded m ≡ false → let s = setup_of o (only_input inputs) in Fair s
+    ensures none { (under : Lines) (file : List ℕ) (inputs : List (List ℕ)) (o : Options) (m : Module) (a : Output) → is_threaded m ≡ false → let s = setup_of o (only_input inputs) in Fair s
         → IsAnswerToValid IsInstrumented under (Explain file o) inputs m a → (shadow m s).reports ≡ [] → a.out ≡ no_report }
-    ensures threads { (under : Lines) (file : List ℕ) (o : Options) (inputs : List (List ℕ)) (m : Module) (a : Answer) → is_threaded m ≡ true
+    ensures threads { (under : Lines) (file : List ℕ) (o : Options) (inputs : List (List ℕ)) (m : Module) (a : Output) → is_threaded m ≡ true
         → IsAnswerToValid IsInstrumented under (Explain file o) inputs m a → a ≡ says statuses.refused threads_text }
 {}
 
 /// What `explain` says holds of every pass whose modules are faithful.
 pub fn law_faithful_passes_explain<P: Pass>()
-    ensures { (under : Lines) (file : List ℕ) (inputs : List (List ℕ)) (o : Options) (m : Module) (a : Answer) → ((j : Module) → P.gives m j → Faithful m j)
+    ensures { (under : Lines) (file : List ℕ) (inputs : List (List ℕ)) (o : Options) (m : Module) (a : Output) → ((j : Module) → P.gives m j → Faithful m j)
         → is_threaded m ≡ false → let s = setup_of o (only_input inputs) in Fair s → IsAnswerToValid P.gives under (Explain file o) inputs m a → a ≡ answer_of_explained under m s (shadow m s) }
 {}
 
@@ -104,12 +104,12 @@ pub fn law_faithful_passes_explain<P: Pass>()
 /// for numbering. It doesn't refuse one that is within the limits of its form. Where lines under each site are asked for, `run` shows
 /// where the sites stand in the text that was written.
 pub fn law_written_modules_run_alike()
-    ensures named { (under : Lines) (file : List ℕ) (inputs : List (List ℕ)) (m j : Module) (a : Answer) → IsAnswerToValid IsInstrumented under (Instrument file) inputs m a
+    ensures named { (under : Lines) (file : List ℕ) (inputs : List (List ℕ)) (m j : Module) (a : Output) → IsAnswerToValid IsInstrumented under (Instrument file) inputs m a
         → Formed j → a.out ≡ written j → IsInstrumented m j }
-    ensures alike { (under : Lines) (file name : List ℕ) (inputs : List (List ℕ)) (o : Options) (m : Module) (a b c : Answer) → IsAnswerToValid IsInstrumented under (Instrument file) [] m a
+    ensures alike { (under : Lines) (file name : List ℕ) (inputs : List (List ℕ)) (o : Options) (m : Module) (a b c : Output) → IsAnswerToValid IsInstrumented under (Instrument file) [] m a
         → IsAnswerToText IsInstrumented (Run name o) inputs a.out b → IsAnswerToValid IsInstrumented under (Check name o) inputs m c
         → IsLimitRefusal b ⊎ RunsAlike m name o a.out under b c }
-    ensures fitting { (under : Lines) (file name : List ℕ) (inputs : List (List ℕ)) (o : Options) (m i : Module) (a b c : Answer) → IsAnswerToValid IsInstrumented under (Instrument file) [] m a
+    ensures fitting { (under : Lines) (file name : List ℕ) (inputs : List (List ℕ)) (o : Options) (m i : Module) (a b c : Output) → IsAnswerToValid IsInstrumented under (Instrument file) [] m a
         → IsElided m i → FitsText i → IsAnswerToText IsInstrumented (Run name o) inputs a.out b → IsAnswerToValid IsInstrumented under (Check name o) inputs m c
         → RunsAlike m name o a.out under b c }
 {}
@@ -118,13 +118,13 @@ pub fn law_written_modules_run_alike()
 /// what `run`, `check` and `explain` say with the option is what they say without it. So is each text of which the sections of `corpus` are
 /// made beside the output, which may have such lines of its own. Without the option each text is as it always was.
 pub fn law_lines_are_added()
-    ensures run { (file : List ℕ) (inputs : List (List ℕ)) (o : Options) (text : List ℕ) (a : Answer) → IsAnswerToText IsInstrumented (Run file (with_locations true o)) inputs text a
+    ensures run { (file : List ℕ) (inputs : List (List ℕ)) (o : Options) (text : List ℕ) (a : Output) → IsAnswerToText IsInstrumented (Run file (with_locations true o)) inputs text a
         → IsAnswerToText IsInstrumented (Run file (with_locations false o)) inputs text (without_lines a) }
-    ensures check { (file : List ℕ) (inputs : List (List ℕ)) (o : Options) (text : List ℕ) (a : Answer) → IsAnswerToText IsInstrumented (Check file (with_locations true o)) inputs text a
+    ensures check { (file : List ℕ) (inputs : List (List ℕ)) (o : Options) (text : List ℕ) (a : Output) → IsAnswerToText IsInstrumented (Check file (with_locations true o)) inputs text a
         → IsAnswerToText IsInstrumented (Check file (with_locations false o)) inputs text (without_lines a) }
-    ensures explain { (file : List ℕ) (inputs : List (List ℕ)) (o : Options) (text : List ℕ) (a : Answer) → IsAnswerToText IsInstrumented (Explain file (with_locations true o)) inputs text a
+    ensures explain { (file : List ℕ) (inputs : List (List ℕ)) (o : Options) (text : List ℕ) (a : Output) → IsAnswerToText IsInstrumented (Explain file (with_locations true o)) inputs text a
         → IsAnswerToText IsInstrumented (Explain file (with_locations false o)) inputs text (without_any_lines a) }
-    ensures corpus { (file : List ℕ) (names inputs : List (List ℕ)) (o : Options) (workers : ℕ) (text : List ℕ) (a : Answer)
+    ensures corpus { (file : List ℕ) (names inputs : List (List ℕ)) (o : Options) (workers : ℕ) (text : List ℕ) (a : Output)
         → IsAnswerToText IsInstrumented (Corpus file names (with_locations true o) workers) inputs text a → CorpusAdds IsInstrumented file names o workers inputs text a }
     ensures runs { (command : Command) (text : List ℕ) (m : Module) (under : Lines) (verdict : Bool) (r : RunResult) → AreLines command text m under
         → unindented (run_text under verdict m r) ≡ report_text_of m r ++ closing_of m r verdict }
@@ -138,17 +138,17 @@ pub fn law_lines_are_added()
 /// theirs was counted. The status of such an answer is one of four; only `msan` itself may say instead that memory ran out. What is
 /// generated has no file. Only commands that take no schedule, `corpus` and `explain`, refuse a module with threads.
 pub fn law_valid_modules_are_answered()
-    ensures text { (command : Command) (inputs : List (List ℕ)) (text : List ℕ) (m : Module) (a : Answer) → Reads (form_of command) text m → Valid m
+    ensures text { (command : Command) (inputs : List (List ℕ)) (text : List ℕ) (m : Module) (a : Output) → Reads (form_of command) text m → Valid m
         → IsAnswerToText IsInstrumented command inputs text a
         → (under : Lines) × AreLines command text m under × IsAnswerToValid IsInstrumented under command inputs m a }
-    ensures words { (c : Counted) (files : Holdings) (words : List (List ℕ)) (command : Command) (text : List ℕ) (inputs : List (List ℕ)) (m : Module) (a : Answer)
+    ensures words { (c : Counted) (files : Holdings) (words : List (List ℕ)) (command : Command) (text : List ℕ) (inputs : List (List ℕ)) (m : Module) (a : Output)
         → c.told ≡ Some files → (Rose c.faults c.faults_after → ⊥) → command_of words ≡ Ok command → AreHeld files (files_of command) (text ∷ inputs)
         → Reads (form_of command) text m → Valid m → IsAnswer IsInstrumented c words a
         → (under : Lines) × AreLines command text m under × IsAnswerToValid IsInstrumented under command inputs m a }
-    ensures generated { (c : Counted) (words : List (List ℕ)) (seed functions : ℕ) (run : Bool) (a : Answer) → command_of words ≡ Ok (Gen seed functions run)
+    ensures generated { (c : Counted) (words : List (List ℕ)) (seed functions : ℕ) (run : Bool) (a : Output) → command_of words ≡ Ok (Gen seed functions run)
         → IsAnswer IsInstrumented c words a → IsAnswerOfGen IsInstrumented run (generated seed functions) a }
-    ensures status { (under : Lines) (command : Command) (inputs : List (List ℕ)) (m : Module) (a : Answer) → IsTaken command m → IsAnswerToValid IsInstrumented under command inputs m a → IsDoneStatus a.status }
-    ensures threads { (under : Lines) (file : List ℕ) (names : List (List ℕ)) (o : Options) (workers : ℕ) (inputs : List (List ℕ)) (m : Module) (a : Answer) → is_threaded m ≡ true
+    ensures status { (under : Lines) (command : Command) (inputs : List (List ℕ)) (m : Module) (a : Output) → IsTaken command m → IsAnswerToValid IsInstrumented under command inputs m a → IsDoneStatus a.status }
+    ensures threads { (under : Lines) (file : List ℕ) (names : List (List ℕ)) (o : Options) (workers : ℕ) (inputs : List (List ℕ)) (m : Module) (a : Output) → is_threaded m ≡ true
         → IsAnswerToValid IsInstrumented under (Corpus file names o workers) inputs m a → a ≡ says statuses.refused threads_text }
 {}
 
@@ -156,9 +156,9 @@ pub fn law_valid_modules_are_answered()
 /// is fair; unless the checked run ends as reported, both print the same and end in the same way. With threads both have one schedule.
 /// The same holds of one text that both read.
 pub fn law_checks_begin_runs()
-    ensures valid { (under below : Lines) (file name : List ℕ) (inputs : List (List ℕ)) (o : Options) (m : Module) (a b : Answer) → Fair (setup_of o (only_input inputs)) → IsSchedule o.schedule
+    ensures valid { (under below : Lines) (file name : List ℕ) (inputs : List (List ℕ)) (o : Options) (m : Module) (a b : Output) → Fair (setup_of o (only_input inputs)) → IsSchedule o.schedule
         → IsAnswerToValid IsInstrumented under (Check file o) inputs m a → IsAnswerToValid IsInstrumented below (Run name o) inputs m b → Begins m a b }
-    ensures text { (file name : List ℕ) (inputs : List (List ℕ)) (o : Options) (text : List ℕ) (m : Module) (a b : Answer) → Fair (setup_of o (only_input inputs)) → IsSchedule o.schedule
+    ensures text { (file name : List ℕ) (inputs : List (List ℕ)) (o : Options) (text : List ℕ) (m : Module) (a b : Output) → Fair (setup_of o (only_input inputs)) → IsSchedule o.schedule
         → Reads Plain text m → Valid m → IsAnswerToText IsInstrumented (Check file o) inputs text a → IsAnswerToText IsInstrumented (Run name o) inputs text b → Begins m a b }
 {}
 
@@ -168,9 +168,9 @@ pub fn law_checks_begin_runs()
 /// module, and the answer is its shadow run with a fair setup. Then a clean verdict and a first report hold under every fill, with
 /// threads under the same schedule, and without threads a clean verdict also where each step has a fill of its own.
 pub fn law_checks_hold()
-    ensures words { (c : Counted) (words : List (List ℕ)) (file : List ℕ) (o : Options) (a : Answer) → command_of words ≡ Ok (Check file o)
+    ensures words { (c : Counted) (words : List (List ℕ)) (file : List ℕ) (o : Options) (a : Output) → command_of words ≡ Ok (Check file o)
         → IsAnswer IsInstrumented c words a → NothingRan c (files_of (Check file o)) a ⊎ ShadowShown c file o a }
-    ensures commands { (c : Counted) (file : List ℕ) (o : Options) (a : Answer) → RunsWithinLimits o
+    ensures commands { (c : Counted) (file : List ℕ) (o : Options) (a : Output) → RunsWithinLimits o
         → IsAnswerToCommand IsInstrumented c (Check file o) a → NothingRan c (files_of (Check file o)) a ⊎ ShadowShown c file o a }
     ensures fair { (c : Counted) (file : List ℕ) (o : Options) (text : List ℕ) (inputs : List (List ℕ)) → RunsWithinLimits o
         → CanRead c (files_of (Check file o)) (Whole (text ∷ inputs)) → Fair (setup_of o (only_input inputs)) }
@@ -182,8 +182,8 @@ pub fn law_checks_hold()
 /// since a valid module with threads was read; or it explains what `check` says of the same files with the same options, and shows
 /// the way of the bits of a report.
 pub fn law_explanations_hold()
-    ensures words { (c : Counted) (words : List (List ℕ)) (file : List ℕ) (o : Options) (a : Answer) → command_of words ≡ Ok (Explain file o)
+    ensures words { (c : Counted) (words : List (List ℕ)) (file : List ℕ) (o : Options) (a : Output) → command_of words ≡ Ok (Explain file o)
         → IsAnswer IsInstrumented c words a → NothingRan c (files_of (Explain file o)) a ⊎ (ThreadsRefused c file o a ⊎ WayShown c file o a) }
-    ensures commands { (c : Counted) (file : List ℕ) (o : Options) (a : Answer) → RunsWithinLimits o
+    ensures commands { (c : Counted) (file : List ℕ) (o : Options) (a : Output) → RunsWithinLimits o
         → IsAnswerToCommand IsInstrumented c (Explain file o) a → NothingRan c (files_of (Explain file o)) a ⊎ (ThreadsRefused c file o a ⊎ WayShown c file o a) }
 {}

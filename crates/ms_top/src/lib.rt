@@ -1,7 +1,6 @@
 //! The top call: words, files and sinks in, a status and two texts out.
 #![tactic(auto)]
 
-pub mod answers;
 mod commands;
 mod corpus;
 mod exit_codes;
@@ -9,9 +8,12 @@ mod explained;
 mod files;
 mod generated;
 mod help;
+mod jobs;
 pub mod laws;
-mod output;
+mod modules;
+pub mod output;
 pub mod passes;
+mod refused;
 mod site_lines;
 mod top;
 

@@ -1,11 +1,45 @@
-//! Puts texts to sinks, in pieces.
-ghost use Rattle.std.specs.Prelude.{◌≡◌, ◌≢◌, ◌≤◌, ◌⊎◌, OnOk, OnErr};
+//! What a call has to say, and how it is put to sinks, in pieces.
+ghost use Rattle.std.specs.Prelude.{◌≡◌, ◌≢◌, ◌≤◌, ◌⊎◌, [], OnOk, OnErr};
 ghost use Rattle.ms_io.specs.{Counts.{Rose}, Writing.{with_appended, AppendsPrefix}};
-ghost use Rattle.ms_top.specs.Said.{answer_of, between, WritesWhole, WritesPart};
+ghost use Rattle.ms_top.specs.Said.{answer_of, between, says, WritesWhole, WritesPart};
 ghost use Rattle.ms_top.specs.Statuses as statuses;
 
 use crate::exit_codes::Status;
+use ms_bits::Bytes;
 use ms_io::{Sink, SinkFailed};
+use std::alloc::Global;
+
+/// A status, and the texts for the standard output and the standard error.
+#[derive(Debug, Drop)]
+pub struct Output {
+    pub status: u8,
+    pub out: Bytes,
+    pub err: Bytes,
+}
+
+impl Output {
+    /// That a command is done, with this text on the standard output alone.
+    pub fn on_out(alloc: Global, out: Vec<u8>) -> Output
+        ensures { result ≡ answer_of statuses.done out.items [] }
+    {
+        Output {
+            status: Status::Done as u8,
+            out: Bytes::from_vec(out),
+            err: Bytes::from_vec(Vec::new(alloc)),
+        }
+    }
+
+    /// A status with this text on the standard error alone.
+    pub fn on_err(alloc: Global, status: u8, err: Vec<u8>) -> Output
+        ensures { result ≡ says status err.items }
+    {
+        Output {
+            status,
+            out: Bytes::from_vec(Vec::new(alloc)),
+            err: Bytes::from_vec(err),
+        }
+    }
+}
 
 /// The most bytes that one put has.
 const PIECE: usize = 65536;
@@ -31,8 +65,8 @@ fn put_text<S: Sink>(sink: &mut S, text: &[u8]) -> Result<(), SinkFailed>
     Ok(())
 }
 
-/// Writes the texts of an answer, the standard output's first. Returns its status, or 7 where a put failed.
-pub fn write_output<O: Sink, E: Sink>(
+/// Writes two texts, the standard output's first. Returns its status, or 7 where a put failed.
+pub(crate) fn write_output<O: Sink, E: Sink>(
     out: &mut O,
     err: &mut E,
     status: u8,

@@ -1,5 +1,5 @@
 //! The pass as a parameter of the top call.
-ghost use Rattle.std.specs.{Prelude.{◌≡◌, true, false, IfOk}, Thread.{IsSync}};
+ghost use Rattle.std.specs.{Prelude.{◌≡◌, IfOk}, Thread.{IsSync}};
 ghost use Rattle.ms_ir.specs.{declared.syntax.Module.{Module as ModuleOf}, Instructions.{strip}};
 ghost use Rattle.ms_ir.specs.ThreadCalls.{is_threaded};
 ghost use Rattle.ms_check_valid.specs.{Formed.{Formed}, Uninstrumented.{CanInstrument}};
@@ -9,8 +9,8 @@ use ms_bits::{Boxed, Duplicate, NoMemory};
 use ms_check::CheckedModule;
 use ms_fork::OpenGate;
 use ms_ir::Module;
-use ms_pass::{instrument, instrumented};
-use ms_threads::{instrument_threads, instrumented_threads, threaded};
+use ms_pass::instrumented;
+use ms_threads::{instrument_threads, threaded};
 use std::alloc::Global;
 use std::thread::Threads;
 
@@ -73,7 +73,7 @@ pub(crate) fn instrumented_by<R: Threads + Sync, P: Pass>(
     Boxed::new(alloc, instrumented)
 }
 
-/// The pass itself, each of whose pieces enters a gate.
+/// The pass itself, each of whose pieces enters a gate. One call makes the module, with threads or without.
 #[derive(Drop)]
 pub struct RealPass<G> {
     gate: G,
@@ -86,72 +86,6 @@ impl<G> RealPass<G> {
     }
 }
 
-/// The module that the pass makes of one without threads.
-fn made_alone<R: Threads + Sync>(
-    rt: &R,
-    alloc: Global,
-    m: &CheckedModule,
-    gate: &OpenGate,
-) -> Result<CheckedModule, NoMemory>
-    requires plain { CanInstrument m.now }
-    requires alone { is_threaded m.now ≡ false }
-    ensures gives { IfOk result (λ j. IsInstrumented m.now j) }
-    ensures stripped { IfOk result (λ j. strip j ≡ m.now) }
-{
-    let module = instrument(rt, alloc, m, gate)?;
-    module.law_valid();
-    Ok(module)
-}
-
-/// The module that the pass makes of one with threads.
-fn made_with_threads<R: Threads + Sync>(
-    rt: &R,
-    alloc: Global,
-    m: &CheckedModule,
-    gate: &OpenGate,
-) -> Result<CheckedModule, NoMemory>
-    requires plain { CanInstrument m.now }
-    requires threads { is_threaded m.now ≡ true }
-    ensures gives { IfOk result (λ j. IsInstrumented m.now j) }
-    ensures stripped { IfOk result (λ j. strip j ≡ m.now) }
-{
-    let module = instrument_threads(rt, alloc, m, gate)?;
-    module.law_valid();
-    Ok(module)
-}
-
-/// The module that the pass makes of one without threads, for being written.
-fn written_alone<R: Threads + Sync>(
-    rt: &R,
-    alloc: Global,
-    m: &CheckedModule,
-    gate: &OpenGate,
-) -> Result<Module, NoMemory>
-    requires plain { CanInstrument m.now }
-    requires alone { is_threaded m.now ≡ false }
-    ensures gives { IfOk result (λ j. IsInstrumented m.now j) }
-    ensures formed { IfOk result (λ j. Formed j) }
-{
-    let module = instrumented(rt, alloc, m, gate)?;
-    Ok(module)
-}
-
-/// The module that the pass makes of one with threads, for being written.
-fn written_with_threads<R: Threads + Sync>(
-    rt: &R,
-    alloc: Global,
-    m: &CheckedModule,
-    gate: &OpenGate,
-) -> Result<Module, NoMemory>
-    requires plain { CanInstrument m.now }
-    requires threads { is_threaded m.now ≡ true }
-    ensures gives { IfOk result (λ j. IsInstrumented m.now j) }
-    ensures formed { IfOk result (λ j. Formed j) }
-{
-    let module = instrumented_threads(rt, alloc, m, gate)?;
-    Ok(module)
-}
-
 impl Pass for RealPass<OpenGate> {
     ghost gives = { IsInstrumented };
 
@@ -161,11 +95,10 @@ impl Pass for RealPass<OpenGate> {
         alloc: Global,
         m: &CheckedModule,
     ) -> Result<CheckedModule, NoMemory> {
-        if has_threads(m) {
-            made_with_threads(rt, alloc, m, &self.gate)
-        } else {
-            made_alone(rt, alloc, m, &self.gate)
-        }
+        m.law_valid();
+        let module = instrument_threads(rt, alloc, m, &self.gate)?;
+        module.law_valid();
+        Ok(module)
     }
 
     fn instrumented<R: Threads + Sync>(
@@ -174,11 +107,9 @@ impl Pass for RealPass<OpenGate> {
         alloc: Global,
         m: &CheckedModule,
     ) -> Result<Module, NoMemory> {
-        if has_threads(m) {
-            written_with_threads(rt, alloc, m, &self.gate)
-        } else {
-            written_alone(rt, alloc, m, &self.gate)
-        }
+        m.law_valid();
+        let module = instrumented(rt, alloc, m, &self.gate)?;
+        Ok(module)
     }
 }
 

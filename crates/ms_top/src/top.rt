@@ -7,11 +7,11 @@ ghost use Rattle.ms_top.specs.{Files.{counted}, Instrumented.{IsInstrumented}};
 ghost use Rattle.ms_top.specs.Said.{IsSaid, IsPartlySaid, IsDone, IsPartlyDone, IsTold, IsPartlyTold, between};
 ghost use Rattle.ms_top.specs.Statuses as statuses;
 
-use crate::answers::Answer;
 use crate::commands::read_command;
 use crate::exit_codes::Status;
-use crate::files::{answer_to_command, no_command};
-use crate::output::write_output;
+use crate::files::no_command;
+use crate::jobs::Job;
+use crate::output::{Output, write_output};
 use crate::passes::{Pass, RealPass};
 use ms_bits::{NoMemory, Text};
 use ms_fork::{Gate, OpenGate};
@@ -61,7 +61,7 @@ pub fn msan<R: Threads + Sync, F: Files, O: Sink, E: Sink>(
             let pass = RealPass::new(OpenGate);
             job(rt, alloc, command.get(), files, out, err, &pass, &OpenGate)
         }
-        Err(fault) => put_answer(no_command(alloc, fault), out, err),
+        Err(fault) => put_output(no_command(alloc, fault), out, err),
     }
 }
 
@@ -92,29 +92,31 @@ pub fn job<R: Threads + Sync, F: Files, O: Sink, E: Sink, P: Pass, G: Gate + Syn
     ensures out_faults_never_fall { O.faults out.old ≤ O.faults out.new }
     ensures err_faults_never_fall { E.faults err.old ≤ E.faults err.new }
 {
-    put_answer(
-        answer_to_command(rt, alloc, command, files, pass, gate),
-        out,
-        err,
-    )
+    let job = Job {
+        rt,
+        alloc,
+        pass,
+        gate,
+    };
+    put_output(job.run_command(command, files), out, err)
 }
 
-/// Writes an answer, or that memory ran out, and returns its status.
-fn put_answer<O: Sink, E: Sink>(answer: Result<Answer, NoMemory>, out: &mut O, err: &mut E) -> u8
-    requires { IfOk answer (λ a. a.status ≢ statuses.failed_put) }
-    ensures told { result ≢ statuses.failed_put → IsTold answer (between (O.written out.old) (E.written err.old) (O.written out.new) (E.written err.new)) result }
-    ensures partly_told { result ≡ statuses.failed_put → IsPartlyTold answer (between (O.written out.old) (E.written err.old) (O.written out.new) (E.written err.new)) }
+/// Writes what there is to say, or that memory ran out, and returns its status.
+fn put_output<O: Sink, E: Sink>(output: Result<Output, NoMemory>, out: &mut O, err: &mut E) -> u8
+    requires { IfOk output (λ a. a.status ≢ statuses.failed_put) }
+    ensures told { result ≢ statuses.failed_put → IsTold output (between (O.written out.old) (E.written err.old) (O.written out.new) (E.written err.new)) result }
+    ensures partly_told { result ≡ statuses.failed_put → IsPartlyTold output (between (O.written out.old) (E.written err.old) (O.written out.new) (E.written err.new)) }
     ensures failed { result ≡ statuses.failed_put → Rose (O.faults out.old) (O.faults out.new) ⊎ Rose (E.faults err.old) (E.faults err.new) }
     ensures out_faults_never_fall { O.faults out.old ≤ O.faults out.new }
     ensures err_faults_never_fall { E.faults err.old ≤ E.faults err.new }
 {
-    match answer {
-        Ok(answer) => write_output(
+    match output {
+        Ok(said) => write_output(
             out,
             err,
-            answer.status,
-            answer.out.as_slice(),
-            answer.err.as_slice(),
+            said.status,
+            said.out.as_slice(),
+            said.err.as_slice(),
         ),
         Err(_) => write_output(out, err, Status::NoMemory as u8, b"", b"out of memory\n"),
     }

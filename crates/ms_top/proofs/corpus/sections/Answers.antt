@@ -5,7 +5,7 @@ use Rattle.ms_top.proofs.corpus.sections.Goals as goal
 
 pub returns : goal.returns
 returns g c =
-    let under = g.L.SiteLines.lines c.args.under.now in
+    let under = g.L.SiteLines.lines c.args.lines.now in
     let names = c.args.names.now in
     let results = c.args.results.now in
     let past : min (length names) (length results) ≤ c.loop-index.index = omega (arith, c.min-index-end.ensures, c.loop-index-test.false) in

@@ -8,5 +8,5 @@ lines_of_trace-requires-clause-leads g c = can_lead c.args.m.now c.requires.alon
 pub returns : goal.returns
 returns g c =
     if_ok c.lines_of_trace.result
-    (λ text is. run_lines (g.L.SiteLines.lines c.args.under.now) c.args.m.now c.module.result.now c.args.setup.now c.in_ok-found.found text.items c.module.ensures c.in_ok-found.ensures is)
+    (λ text is. run_lines (g.L.SiteLines.lines c.args.lines.now) c.args.m.now c.module.result.now c.args.setup.now c.in_ok-found.found text.items c.module.ensures c.in_ok-found.ensures is)
     c.lines_of_trace.ensures

@@ -1,6 +1,0 @@
-use Rattle.ms_top.proofs.Answering.{summary_answer}
-use Rattle.ms_top.proofs.generated.summarised.Goals as goal
-use Rattle.ms_runtime.proofs.Fitting.{if_ok}
-
-pub returns : goal.returns
-returns g c = if_ok c.summary_answer.result (λ a is. summary_answer g.P.Pass.gives c.args.m.now c.module.result.now c.in_ok-setup.setup c.default_schedule.result.now c.in_ok-result.result a c.module.ensures c.in_ok-setup.ensures c.default_schedule.ensures c.in_ok-result.ensures is) c.summary_answer.ensures

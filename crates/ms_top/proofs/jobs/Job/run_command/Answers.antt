@@ -1,0 +1,27 @@
+use Rattle.ms_top.proofs.Reading.{same_command, generated_answer, help_answer, version_answer}
+use Rattle.ms_top.proofs.jobs.Job.run_command.Goals as goal
+use Rattle.ms_runtime.proofs.Fitting.{if_ok}
+
+pub returns-in-Gen-clause-said : goal.returns-in-Gen-clause-said
+returns-in-Gen-clause-said g c = if_ok c.generate.result (λ a is. generated_answer g.P.Pass.gives _ c.args.command.now _ _ _ a c.in-Gen.is is) c.generate.ensures
+
+pub returns-in-Help-clause-said : goal.returns-in-Help-clause-said
+returns-in-Help-clause-said g c = if_ok c.help.result (λ a is. help_answer g.P.Pass.gives _ c.args.command.now a c.in-Help.is is) c.help.ensures
+
+pub returns-in-Version-clause-said : goal.returns-in-Version-clause-said
+returns-in-Version-clause-said g c = if_ok c.version.result (λ a is. version_answer g.P.Pass.gives _ c.args.command.now a c.in-Version.is is) c.version.ensures
+
+pub returns-in-Instrument-clause-said : goal.returns-in-Instrument-clause-said
+returns-in-Instrument-clause-said g c = if_ok c.run_file.result (λ a is. same_command g.P.Pass.gives _ c.args.command.now _ a c.in-Instrument.is is) c.run_file.ensures.said
+
+pub returns-in-Run-clause-said : goal.returns-in-Run-clause-said
+returns-in-Run-clause-said g c = if_ok c.run_file-in-Run.result (λ a is. same_command g.P.Pass.gives _ c.args.command.now _ a c.in-Run.is is) c.run_file-in-Run.ensures.said
+
+pub returns-in-Check-clause-said : goal.returns-in-Check-clause-said
+returns-in-Check-clause-said g c = if_ok c.run_file-in-Check.result (λ a is. same_command g.P.Pass.gives _ c.args.command.now _ a c.in-Check.is is) c.run_file-in-Check.ensures.said
+
+pub returns-in-Explain-clause-said : goal.returns-in-Explain-clause-said
+returns-in-Explain-clause-said g c = if_ok c.run_file-in-Explain.result (λ a is. same_command g.P.Pass.gives _ c.args.command.now _ a c.in-Explain.is is) c.run_file-in-Explain.ensures.said
+
+pub returns-in-Corpus-clause-said : goal.returns-in-Corpus-clause-said
+returns-in-Corpus-clause-said g c = if_ok c.run_file-in-Corpus.result (λ a is. same_command g.P.Pass.gives _ c.args.command.now _ a c.in-Corpus.is is) c.run_file-in-Corpus.ensures.said

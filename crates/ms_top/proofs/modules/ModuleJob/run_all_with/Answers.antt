@@ -1,0 +1,14 @@
+use Rattle.std.proofs.Common.{List, subst}
+use Rattle.std.specs.Prelude.{IfOk}
+use Rattle.ms_runs.specs.declared.runs.RunResult.{RunResult}
+use Rattle.ms_runs.specs.declared.runs.Setup.{Setup}
+use Rattle.ms_top.specs.Parts.{AreRunsOfGiven}
+use Rattle.ms_top.proofs.Answering.{all_within}
+use Rattle.ms_top.proofs.modules.ModuleJob.run_all_with.Goals as goal
+
+pub run_inputs-requires-clause-limits : goal.run_inputs-requires-clause-limits
+run_inputs-requires-clause-limits g c κs within = all_within c.args.options.now c.in_ok-setup.setup c.args.self.now.inputs.now c.requires.limits c.requires.inputs c.in_ok-setup.ensures
+
+pub returns : goal.returns
+returns g c =
+    subst (λ (s : Setup). IfOk c.run_inputs.result (λ (rs : List RunResult). AreRunsOfGiven g.P.Pass.gives c.args.self.now.m.now s c.args.self.now.inputs.now rs)) c.in_ok-setup.ensures c.run_inputs.ensures
