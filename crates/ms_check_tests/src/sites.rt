@@ -90,8 +90,8 @@ declare void @__msan_fill(ptr, i64, i64, i32, i32)
 declare void @__msan_store_origin(ptr, i64, i32, i32)
 declare i32 @__msan_load_origin(ptr, i64)
 declare i64 @__msan_size(ptr)
-declare void @__msan_check_format(ptr, i32, ptr, i32)
 declare void @__msan_thread_result(ptr, i64, i32, i32)
+declare void @__msan_check_format(ptr, i32, ptr, i32)
 define i32 @main() {
   %__msan.2 = or i32 0, 0, !nosanitize !0
   %__msan.1 = or i64 0, 0, !nosanitize !0

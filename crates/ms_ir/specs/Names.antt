@@ -130,15 +130,15 @@ runtime_name Fill = Text (codes "__msan_fill")
 runtime_name StoreOrigin = Text (codes "__msan_store_origin")
 runtime_name LoadOrigin = Text (codes "__msan_load_origin")
 runtime_name Size = Text (codes "__msan_size")
-runtime_name CheckFormat = Text (codes "__msan_check_format")
 runtime_name ThreadResult = Text (codes "__msan_thread_result")
+runtime_name CheckFormat = Text (codes "__msan_check_format")
 runtime_name (Move k) = external_name (move_external k)
 
 -- the runtime functions that marked calls alone reach, by name
 abbrev pub msan_functions : List (Name × RuntimeFn)
 msan_functions =
     map (λ f. (runtime_name f, f))
-    (Check ∷ CheckMemory ∷ CheckString ∷ Blind ∷ Poison ∷ Unpoison ∷ Copy ∷ Fill ∷ StoreOrigin ∷ LoadOrigin ∷ Size ∷ CheckFormat ∷ ThreadResult ∷ [])
+    (Check ∷ CheckMemory ∷ CheckString ∷ Blind ∷ Poison ∷ Unpoison ∷ Copy ∷ Fill ∷ StoreOrigin ∷ LoadOrigin ∷ Size ∷ ThreadResult ∷ CheckFormat ∷ [])
 
 -- the functions that move bits by name
 unfoldable pub bit_moves : List (Name × RuntimeFn)

@@ -90,10 +90,10 @@ pub enum RuntimeFn {
     LoadOrigin,
     /// `__msan_size`: the size of a live heap block.
     Size,
-    /// `__msan_check_format`: checks the string at an argument of `printf`, where its format asks for one.
-    CheckFormat,
     /// `__msan_thread_result`: shadow and origin of the word that a fiber answered, where a join stored it.
     ThreadResult,
+    /// `__msan_check_format`: checks the string at an argument of `printf`, where its format asks for one.
+    CheckFormat,
     /// `llvm.NAME.iN`, which gives the mask of what it gives ("Bit Manipulation Intrinsics").
     Move(BitMove),
 }

@@ -110,17 +110,6 @@ static RUNTIME_FUNCTIONS: [SignatureRow<RuntimeFn>; 13] = [
         params: &[ParamType::Ptr],
     },
     SignatureRow {
-        name: b"__msan_check_format",
-        is: RuntimeFn::CheckFormat,
-        ret: None,
-        params: &[
-            ParamType::Ptr,
-            ParamType::Int(32),
-            ParamType::Ptr,
-            ParamType::Int(32),
-        ],
-    },
-    SignatureRow {
         name: b"__msan_thread_result",
         is: RuntimeFn::ThreadResult,
         ret: None,
@@ -128,6 +117,17 @@ static RUNTIME_FUNCTIONS: [SignatureRow<RuntimeFn>; 13] = [
             ParamType::Ptr,
             ParamType::Int(64),
             ParamType::Int(32),
+            ParamType::Int(32),
+        ],
+    },
+    SignatureRow {
+        name: b"__msan_check_format",
+        is: RuntimeFn::CheckFormat,
+        ret: None,
+        params: &[
+            ParamType::Ptr,
+            ParamType::Int(32),
+            ParamType::Ptr,
             ParamType::Int(32),
         ],
     },
@@ -260,8 +260,8 @@ fn row_of(function: RuntimeFn) -> &'static SignatureRow<RuntimeFn>
         RuntimeFn::StoreOrigin => &RUNTIME_FUNCTIONS[8],
         RuntimeFn::LoadOrigin => &RUNTIME_FUNCTIONS[9],
         RuntimeFn::Size => &RUNTIME_FUNCTIONS[10],
-        RuntimeFn::CheckFormat => &RUNTIME_FUNCTIONS[11],
-        RuntimeFn::ThreadResult => &RUNTIME_FUNCTIONS[12],
+        RuntimeFn::ThreadResult => &RUNTIME_FUNCTIONS[11],
+        RuntimeFn::CheckFormat => &RUNTIME_FUNCTIONS[12],
         RuntimeFn::Move(kind) => move_row(kind),
     }
 }

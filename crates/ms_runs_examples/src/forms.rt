@@ -102,7 +102,7 @@ pub fn declarations_fit()
     ensures ones_of_a_word { lookup externals (name (codes "llvm.ctpop.i32")) ≡ Some (external.Word word.Ctpop width.I32) }
     ensures zeros_of_a_word { external_signature (external.Word word.Ctlz width.I64) ≡ record { ret = Some i64; params = i64 ∷ i1 ∷ [] } }
     ensures bytes_of_one_byte { lookup externals (name (codes "llvm.bswap.i8")) ≡ None }
-    ensures runtime_functions { runtime_declarations ≡ calls.msan_check ∷ calls.msan_check_memory ∷ calls.msan_check_string ∷ calls.msan_blind ∷ calls.msan_poison ∷ calls.msan_unpoison ∷ calls.msan_copy ∷ calls.msan_fill ∷ calls.msan_store_origin ∷ calls.msan_load_origin ∷ calls.msan_size ∷ calls.msan_check_format ∷ calls.msan_thread_result ∷ [] }
+    ensures runtime_functions { runtime_declarations ≡ calls.msan_check ∷ calls.msan_check_memory ∷ calls.msan_check_string ∷ calls.msan_blind ∷ calls.msan_poison ∷ calls.msan_unpoison ∷ calls.msan_copy ∷ calls.msan_fill ∷ calls.msan_store_origin ∷ calls.msan_load_origin ∷ calls.msan_size ∷ calls.msan_thread_result ∷ calls.msan_check_format ∷ [] }
     ensures slots { slot_globals ≡ marks.slot_globals }
     ensures names_of_slots { map (λ g. g.name) slot_globals ≡ map (λ s. s.0) slots }
     ensures sizes_of_slots { map (λ g. size_of [] g.ty) slot_globals ≡ map (λ s. Some s.1.1) slots }

@@ -30,8 +30,8 @@ declare void @__msan_fill(ptr, i64, i64, i32, i32)
 declare void @__msan_store_origin(ptr, i64, i32, i32)
 declare i32 @__msan_load_origin(ptr, i64)
 declare i64 @__msan_size(ptr)
-declare void @__msan_check_format(ptr, i32, ptr, i32)
 declare void @__msan_thread_result(ptr, i64, i32, i32)
+declare void @__msan_check_format(ptr, i32, ptr, i32)
 "#;
 
 /// Modules are written with inserted code.
