@@ -1,4 +1,4 @@
-mod Exact
+pub mod Exact
 mod ByteRuns
 pub mod ResultMoves
 pub mod MemoryMoves

@@ -8,7 +8,7 @@ use Rattle.ms_trail_moves.specs.declared.moves.Hop.{Hop}
 use Rattle.ms_trail_moves.specs.Scanned.{trail_of}
 use Rattle.ms_trail_moves.specs.Traces.{trace, Found}
 use Rattle.ms_runs_examples.specs.Traces.{neighbour_read, neighbour_moves, value, hop}
-use Rattle.ms_runs_examples.proofs.ExactMoves.{computed}
+use Rattle.ms_trail_laws.proofs.Exact.{computed}
 use Rattle.ms_trail_laws.proofs.Whole.{ordered}
 use Rattle.ms_trail_moves.proofs.Scans.{trail_leads, leads_trail}
 use Rattle.ms_runs_examples.proofs.moves.neighbour.Goals as goal

@@ -3,7 +3,7 @@ use Rattle.ms_bits.specs.Words.{words}
 use Rattle.ms_runs_examples.specs.Traces.{passed_through}
 use Rattle.ms_runs_examples.specs.Setups.{defaults}
 use Rattle.ms_runs_laws.specs.Formulas.{formulas}
-use Rattle.ms_runs_examples.proofs.ExactMoves.{computed}
+use Rattle.ms_trail_laws.proofs.Exact.{computed}
 use Rattle.ms_runs_examples.proofs.moves.passed.Goals as goal
 
 pub returns : goal.returns

@@ -6,7 +6,7 @@ use Rattle.ms_runs_laws.specs.Formulas.{formulas}
 use Rattle.ms_trail_moves.specs.Scanned.{trail_of}
 use Rattle.ms_trail_moves.specs.Traces.{trace, Found}
 use Rattle.ms_runs_examples.specs.Traces.{unset_moves, value, hop}
-use Rattle.ms_runs_examples.proofs.ExactMoves.{computed}
+use Rattle.ms_trail_laws.proofs.Exact.{computed}
 use Rattle.ms_trail_laws.proofs.Whole.{ordered}
 use Rattle.ms_trail_moves.proofs.Scans.{trail_leads}
 use Rattle.ms_runs_examples.proofs.moves.unset_word.Goals as goal
