@@ -7,7 +7,7 @@ ghost use Rattle.ms_top.specs.Instrumented.{IsInstrumented};
 
 use ms_bits::{Boxed, Duplicate, NoMemory};
 use ms_check::CheckedModule;
-use ms_fork::Gate;
+use ms_fork::OpenGate;
 use ms_ir::Module;
 use ms_pass::instrumented;
 use ms_threads::{instrument_threads, threaded};
@@ -77,17 +77,16 @@ pub(crate) fn instrumented_by<R: Threads + Sync, P: Pass>(
 #[derive(Drop)]
 pub struct RealPass<G> {
     gate: G,
-    ghost shared: { IsSync G.row },
 }
 
-impl<G: Gate + Sync> RealPass<G> {
+impl<G> RealPass<G> {
     /// The pass whose pieces enter this gate.
     pub fn new(gate: G) -> RealPass<G> {
         RealPass { gate }
     }
 }
 
-impl<G: Gate + Sync> Pass for RealPass<G> {
+impl Pass for RealPass<OpenGate> {
     ghost gives = { IsInstrumented };
 
     fn instrument<R: Threads + Sync>(

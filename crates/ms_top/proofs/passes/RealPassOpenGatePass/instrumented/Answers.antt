@@ -1,5 +1,5 @@
 use Rattle.ms_top.proofs.Making.{IsMade, instrumented}
-use Rattle.ms_top.proofs.passes.RealPassPass.instrumented.Goals as goal
+use Rattle.ms_top.proofs.passes.RealPassOpenGatePass.instrumented.Goals as goal
 
 pub returns-clause-gives : goal.returns-clause-gives
 returns-clause-gives g c =
