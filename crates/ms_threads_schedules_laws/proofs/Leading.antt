@@ -5,7 +5,7 @@ use Rattle.std.proofs.Math.Nat.{mod-eq_of_lt}
 use Rattle.ms_threads_schedules_laws.specs.Picks.{Pick, number_at, Chooses}
 use Rattle.ms_threads_schedules_laws.specs.Trees.{OneTree, Chosen, Begins, Somewhere, Everywhere, branches, others}
 use Rattle.ms_threads_schedules_laws.specs.Explored.{IsTree, EachOnce, Reads, Leads, Exploring}
-use Rattle.ms_threads_schedules_laws.proofs.Lists.{every, joined, every_mapped, every_so, of_right, without, the_one}
+use Rattle.ms_threads_schedules_laws.proofs.Lists.{joined, every_mapped, every_so, without, the_one}
 use Rattle.ms_threads_schedules_laws.proofs.Branching.{three, one_more}
 use Rattle.ms_threads_schedules_laws.proofs.Printed.{all_chosen}
 use Rattle.ms_threads_schedules_laws.proofs.Once.{each_other, once_first, once_more}
@@ -57,12 +57,15 @@ longer_list : (xs ys : List ℕ) → length xs ≤ length (xs ++ ys)
 longer_list [] ys = omega arith
 longer_list (x ∷ xs) ys = let le = longer_list xs ys in omega (arith, le)
 
-pub reads_so : (schedule : List ℕ) (k : ℕ) (told : List ℕ) → ((j : ℕ) → j < length told → number_at schedule (k + j) ≡ get_or told j 0) → Reads schedule k told
+reads_so : (schedule : List ℕ) (k : ℕ) (told : List ℕ) → ((j : ℕ) → j < length told → number_at schedule (k + j) ≡ get_or told j 0) → Reads schedule k told
 reads_so schedule k [] h = tt
 reads_so schedule k (n ∷ ns) h = (
   ap (number_at schedule) (let e : k ≡ k + 0 = omega arith in e) ∙ h 0 (omega arith),
   reads_so schedule (k + 1) ns (λ j lt. ap (number_at schedule) (let e : (k + 1) + j ≡ k + suc j = omega arith in e) ∙ h (suc j) (omega (arith, lt))),
 )
+
+pub reads_first : (schedule told : List ℕ) → ((j : ℕ) → j < length told → number_at schedule j ≡ get_or told j 0) → Reads schedule 0 told
+reads_first schedule told h = reads_so schedule 0 told (λ j lt. ap (number_at schedule) (let e : 0 + j ≡ j = omega arith in e) ∙ h j lt)
 
 pub padded : (told rest : List ℕ) → Reads (told ++ rest) 0 told
 padded told rest =

@@ -51,14 +51,6 @@ module _ {X : Type 0} (P : X → Type 0) where
   joined [] ys h k = k
   joined (x ∷ xs) ys h k = (h.0, joined xs ys h.1 k)
 
-  pub of_left : (xs ys : List X) → Everywhere P (xs ++ ys) → Everywhere P xs
-  of_left [] ys h = tt
-  of_left (x ∷ xs) ys h = (h.0, of_left xs ys h.1)
-
-  pub of_right : (xs ys : List X) → Everywhere P (xs ++ ys) → Everywhere P ys
-  of_right [] ys h = h
-  of_right (x ∷ xs) ys h = of_right xs ys h.1
-
 pub every_mapped : {X Y : Type 0} (P : X → Type 0) (Q : Y → Type 0) (f : X → Y) → ((x : X) → P x → Q (f x)) → (xs : List X) → Everywhere P xs → Everywhere Q (map f xs)
 every_mapped P Q f step [] h = tt
 every_mapped P Q f step (x ∷ xs) h = (step x h.0, every_mapped P Q f step xs h.1)
