@@ -3,5 +3,6 @@ pub mod Chains
 pub mod Scans
 mod Backwards
 pub mod Checking
+mod Searching
 mod Operands
 pub mod EdgeWalks
