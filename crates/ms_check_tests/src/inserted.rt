@@ -134,7 +134,11 @@ fn write_op(writer: &mut Writer, op: &Op) -> Result<(), NoMemory> {
             writer.typed(&Ty::Ptr, addr)
         }
         Op::Cast {
-            op, from, a, to, ..
+            op,
+            from,
+            a,
+            to,
+            ..
         } => {
             writer.token(cast_word(*op))?;
             writer.typed(from, a)?;
