@@ -3,6 +3,5 @@ pub mod Chains
 pub mod Scans
 mod Backwards
 pub mod Checking
-mod Searching
 mod Operands
 pub mod EdgeWalks

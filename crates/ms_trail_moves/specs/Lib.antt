@@ -8,4 +8,3 @@ pub mod Moving
 pub mod Scanned
 pub mod Readings
 pub mod Checked
-pub mod Searched

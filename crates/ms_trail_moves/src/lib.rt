@@ -6,6 +6,5 @@ pub mod back;
 pub mod checks;
 pub mod edges;
 pub mod moves;
-pub mod searching;
 pub mod sources;
 pub mod ways;
