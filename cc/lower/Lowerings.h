@@ -71,6 +71,7 @@ void lowerParts(Program &P, llvm::Function &F);
 
 // Remaining.cpp
 void complainOfRemaining(Program &P);
+void complainOfMissingValue(Program &P, const llvm::Function &F);
 
 // Shorten.cpp
 void dropUnread(Program &P);

@@ -1,6 +1,6 @@
 // `__builtin_add_overflow` and its like: the sum, difference or product, and
 // whether it is another number than the exact one.
-#include "WideIntegers.h"
+#include "Words.h"
 
 using namespace llvm;
 
@@ -24,17 +24,6 @@ static Value *sumOverflows(Builder &B, WithOverflowInst &I, Value *Sum) {
   if (I.isSigned())
     return signsOverflow(B, IsAdd, X, Y, Sum);
   return IsAdd ? B.CreateICmpULT(Sum, X) : B.CreateICmpULT(X, Y);
-}
-
-/// The upper word of the product of two words, by halves.
-Value *upperWord(Builder &B, Value *X, Value *Y) {
-  auto Low = [&](Value *V) { return B.CreateAnd(V, B.getInt64(0xffffffff)); };
-  auto High = [&](Value *V) { return B.CreateLShr(V, 32); };
-  Value *Middle = B.CreateAdd(B.CreateMul(High(X), Low(Y)),
-                              High(B.CreateMul(Low(X), Low(Y))));
-  Value *Other = B.CreateAdd(B.CreateMul(Low(X), High(Y)), Low(Middle));
-  return B.CreateAdd(B.CreateAdd(B.CreateMul(High(X), High(Y)), High(Middle)),
-                     High(Other));
 }
 
 // No branch, no division and no shift by other than a constant, so that

@@ -22,7 +22,7 @@
 //   Labels, Constants, Intrinsics   goto *p; expressions; LLVM's functions
 //   ZeroCounts          __builtin_ffs
 //   Floats              double and float as words
-//   Parts, Aggregates, Overflow, WideIntegers   values of more than one word
+//   Parts, Aggregates, Overflow, WideIntegers, Words   values of several words
 //   WideMemory          variables that have such integers
 //   Remaining, Complaints   what can't be lowered, and how that is said
 //   Shorten, Program    the text that is written; what all of them need
