@@ -32,6 +32,18 @@ files = {
     'words.c': '#include <stdio.h>\nint main(int argc, char **argv) { for (int k = 1; k < argc; k++) printf("[%s]", argv[k]); putchar(10); return 0; }\n',
     'two.c': 'int add(int a, int b) { return a; }\nint sub(int a, int b) { return b; }\n',
     'many.c': 'int puts(const char *);\nint main(void) { int a, b; if (a) puts("a"); if (b) puts("b"); return 0; }\n',
+    'c23.c': '''#include <stdio.h>
+long read_number(const char *, char **, int) __asm__("__isoc23_strtol"); /* what C23's strtol is called in headers of glibc 2.38 */
+int main(void) {
+  const char *texts[] = {"0b101", " -0B11z", "0b", "0b2", "0x1f", "017"};
+  for (int k = 0; k < 6; k++) {
+    char *end;
+    long number = read_number(texts[k], &end, 0);
+    printf("%ld \\"%s\\"\\n", number, end);
+  }
+  return 0;
+}
+''',
     'mutex.c': threads + '''static pthread_mutex_t lock = PTHREAD_MUTEX_INITIALIZER;
 static int begun, sum;
 static void *add(void *given) {
@@ -173,6 +185,8 @@ class Checks:
         self.is_so('a function of the program wins over the library\'s', ended.out == b'own\na\n', ended.out, ended.said)
         ended = self.cc('main.c', 'add.c', 'two.c', '-Iinclude', '-DOFFSET=1', '-o', 'twice.ll')
         self.is_so('two functions of one name: refused by the linker, nothing written', ended.status not in (0, None) and not os.path.exists(f'{self.folder}/twice.ll'), ended.status, ended.said)
+        ended = self.cc('--check', 'c23.c')
+        self.is_so('strtol of C23 reads 0b', (ended.out, ended.status) == (b'5 ""\n-3 "z"\n0 "b"\n0 "b2"\n31 ""\n15 ""\n', 0), ended.out, ended.said)
         ended = self.cc('--check', 'missing.c')
         self.is_so('a function that is missing: an error', ended.status == 1 and 'missing.c:3:' in ended.said and "'lost'" in ended.said, ended.status, ended.said)
         ended = self.cc('--check', '--missing-trap', 'missing.c')

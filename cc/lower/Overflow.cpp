@@ -52,6 +52,43 @@ static Value *productOverflows(Builder &B, WithOverflowInst &I,
   return B.CreateOr(IsWider, B.CreateICmpNE(B.CreateMul(X, Y), Wide(Product)));
 }
 
+// The product in twice as many words, which hold the exact one; and whether the
+// half of them is another number.
+bool PartsLowering::wideProduct(WithOverflowInst &I) {
+  Builder B(&I);
+  bool IsSigned = I.isSigned();
+  Type *T = I.getLHS()->getType();
+  Values X = words(B, parts(I.getLHS()), IsSigned);
+  Values Y = words(B, parts(I.getRHS()), IsSigned);
+  size_t Count = 2 * X.size();
+  Values Exact = multiply(B, extended(B, X, Count, IsSigned),
+                          extended(B, Y, Count, IsSigned));
+  Values Made = fromWords(B, Exact, T);
+  Values Again = extended(B, words(B, Made, IsSigned), Count, IsSigned);
+  Made.push_back(isEqual(B, ICmpInst::ICMP_NE, Exact, Again));
+  return made(I, Made);
+}
+
+// The sum or difference in words, and whether it is another number than the
+// exact one: by the signs, or by a comparison, as of one word.
+bool PartsLowering::wideOverflow(WithOverflowInst &I) {
+  if (I.getBinaryOp() == Instruction::Mul)
+    return wideProduct(I);
+  Builder B(&I);
+  Type *T = I.getLHS()->getType();
+  Values X = words(B, parts(I.getLHS()), false);
+  Values Y = words(B, parts(I.getRHS()), false);
+  bool IsAdd = I.getBinaryOp() == Instruction::Add;
+  Values Made = fromWords(B, IsAdd ? add(B, X, Y) : subtract(B, X, Y), T);
+  if (I.isSigned())
+    Made.push_back(signsOverflow(B, IsAdd, parts(I.getLHS()).back(),
+                                 parts(I.getRHS()).back(), Made.back()));
+  else
+    Made.push_back(isLess(B, ICmpInst::ICMP_ULT,
+                          IsAdd ? words(B, Made, false) : X, IsAdd ? X : Y));
+  return made(I, Made);
+}
+
 bool PartsLowering::visitIntrinsicInst(IntrinsicInst &I) {
   auto *Call = dyn_cast<WithOverflowInst>(&I);
   if (!Call)
