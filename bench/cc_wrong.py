@@ -64,7 +64,8 @@ def built(wrong, work):
     ended = cc_run.run(['g++'] + flags + ['-c', path, '-o', f'{copy}/work/{wrong.file[:-4]}.o'], seconds=900)
     if ended.status:
         return None, 'not compiled: ' + ended.said[:500]
-    ended = cc_run.run(['g++'] + sorted(glob.glob(f'{copy}/work/*.o')) + ['-o', f'{copy}/msan-lower', '-L' + say('--libdir'), '-lLLVM-19'], seconds=300)
+    objects = [f'{copy}/work/{os.path.basename(source)[:-4]}.o' for source in sorted(glob.glob(f'{copy}/lower/*.cpp'))]
+    ended = cc_run.run(['g++'] + objects + ['-o', f'{copy}/msan-lower', '-L' + say('--libdir'), '-lLLVM-19'], seconds=300)
     return (copy, '') if ended.status == 0 else (None, 'not linked: ' + ended.said[:300])
 
 
