@@ -1,0 +1,4 @@
+pub mod Halves
+pub mod ThreadStates
+pub mod ThreadWalks
+pub mod CertainThreads
