@@ -241,9 +241,9 @@ module _ (site root told : ℕ → Type 0) (s : Setting) where
         by_test : (t : Bool) → (eqb v 0 && not (eqb a 0) && is_good w a 8 && has_ended (thread_at id w.threads)) ≡ t
             → Grown w (if t then store_origin s a (w.answer_masks id) (w.answer_origins id) at (set_shadow a 8 (byte_of (w.answer_masks id)) w) else w)
         by_test true e =
-            let good = and_parts (is_good w a 8) (has_ended (thread_at id w.threads)) (and_parts (not (eqb a 0)) (is_good w a 8 && has_ended (thread_at id w.threads)) (and_parts (eqb v 0) (not (eqb a 0) && is_good w a 8 && has_ended (thread_at id w.threads)) e).1).1 in (
+            let good = and_parts (eqb v 0 && not (eqb a 0)) (is_good w a 8) (and_parts (eqb v 0 && not (eqb a 0) && is_good w a 8) (has_ended (thread_at id w.threads)) e).0 in (
               store_grows site root told s a (w.answer_masks id) (w.answer_origins id) at (set_shadow a 8 (byte_of (w.answer_masks id)) w),
-              λ b. stored site root told s a 8 (w.answer_masks id) (w.answer_origins id) at w good.0 (omega arith) here (back id) b,
+              λ b. stored site root told s a 8 (w.answer_masks id) (w.answer_origins id) at w good.1 (omega arith) here (back id) b,
             )
         by_test false e = grown_itself w
 

@@ -43,12 +43,6 @@ use Rattle.ms_threads_laws.proofs.ToldFibers.{ends_told}
 use Rattle.ms_threads_runs_laws.specs.CertainThreads.{CertainBeside, CertainStands, CertainOthers, CertainFibers, CertainFiberSteps, UntoldFibers, chosen_fibers_step}
 use Rattle.ms_threads_runs_laws.proofs.Grown.{shared_world, before_step, before_steps}
 
-abbrev State : Type 0
-State = Fibers (List (Frame Poisoned)) World
-
-abbrev Program : Type 0
-Program = Fibers (List (Frame ℕ)) Shared
-
 none_counted : {A : Type 0} (world : A → World) (x : Stepped A) → count_of (λ w. 0) world x ≡ 0
 none_counted world (More a) = refl
 none_counted world (Stop e w) = refl
@@ -145,12 +139,17 @@ module _ (s : Setting) (m : Module) where
 
 -- ---- the walk
 
-module _ (m : Module) (formed : Formed m) (valid : Valid m) (can : CanInstrument m) (setup : Setup) (bytes : GivesBytes setup) (schedule : List ℕ) (fills : ℕ → List ℕ) (are : (k : ℕ) → IsFill (fills k)) where
+-- the fill of a step
+pub record Filling : Type 0 where
+  pub fill : List ℕ
+  pub is : IsFill fill
+
+module _ (m : Module) (formed : Formed m) (valid : Valid m) (can : CanInstrument m) (setup : Setup) (bytes : GivesBytes setup) (schedule : List ℕ) where
   bytes_one : GivesBytes (to_first_report setup)
   bytes_one = record { input = bytes.input; fill = bytes.fill }
 
-  bytes_too : (k : ℕ) → GivesBytes (refilled (to_first_report setup) (fills k))
-  bytes_too k = record { input = bytes.input; fill = (are k).bytes }
+  bytes_too : (k : Filling) → GivesBytes (refilled (to_first_report setup) k.fill)
+  bytes_too k = record { input = bytes.input; fill = k.is.bytes }
 
   -- the shadow run, the one up to its first report, the same under the fill of a step, that without the limit, and the program
   abbrev whole : Meaning (List (Frame Poisoned)) World
@@ -159,62 +158,62 @@ module _ (m : Module) (formed : Formed m) (valid : Valid m) (can : CanInstrument
   abbrev one : Meaning (List (Frame Poisoned)) World
   one = shadow_fiber by_formulas (setting_of m (to_first_report setup)) m
 
-  abbrev given : ℕ → Setting
-  given k = setting_of m (refilled setup (fills k))
+  abbrev given : Filling → Setting
+  given k = setting_of m (refilled setup k.fill)
 
-  abbrev one_filled : ℕ → Meaning (List (Frame Poisoned)) World
-  one_filled k = shadow_fiber by_formulas (setting_of m (refilled (to_first_report setup) (fills k))) m
+  abbrev one_filled : Filling → Meaning (List (Frame Poisoned)) World
+  one_filled k = shadow_fiber by_formulas (setting_of m (refilled (to_first_report setup) k.fill)) m
 
-  abbrev filled : ℕ → Meaning (List (Frame Poisoned)) World
+  abbrev filled : Filling → Meaning (List (Frame Poisoned)) World
   filled k = shadow_fiber by_formulas (given k) m
 
-  abbrev program : ℕ → Meaning (List (Frame ℕ)) Shared
+  abbrev program : Filling → Meaning (List (Frame ℕ)) Shared
   program k = plain_fiber (given k) m
 
-  abbrev Lows : (k : ℕ) → Relation (shadow_fiber by_formulas (setting_of m (to_first_report setup)) m) (shadow_fiber by_formulas (setting_of m (refilled (to_first_report setup) (fills k))) m)
-  Lows k = low.relation m formed valid can (to_first_report setup) refl bytes_one (fills k) (bytes_too k)
+  abbrev Lows : (k : Filling) → Relation (shadow_fiber by_formulas (setting_of m (to_first_report setup)) m) (shadow_fiber by_formulas (setting_of m (refilled (to_first_report setup) k.fill)) m)
+  Lows k = low.relation m formed valid can (to_first_report setup) refl bytes_one k.fill (bytes_too k)
 
-  abbrev Shows : (k : ℕ) → Relation (shadow_fiber by_formulas (setting_of m (refilled setup (fills k))) m) (plain_fiber (setting_of m (refilled setup (fills k))) m)
+  abbrev Shows : (k : Filling) → Relation (shadow_fiber by_formulas (setting_of m (refilled setup k.fill)) m) (plain_fiber (setting_of m (refilled setup k.fill)) m)
   Shows k = shown.relation by_formulas (given k) m can.plain.unmarked
 
-  abbrev LowAlike : ℕ → Fibers (List (Frame Poisoned)) World → Fibers (List (Frame Poisoned)) World → Type 0
+  abbrev pub LowAlike : Filling → Fibers (List (Frame Poisoned)) World → Fibers (List (Frame Poisoned)) World → Type 0
   LowAlike k c d = FibersAlike one (one_filled k) (Lows k) c d
 
-  abbrev ShownAlike : ℕ → Fibers (List (Frame Poisoned)) World → Fibers (List (Frame ℕ)) Shared → Type 0
+  abbrev pub ShownAlike : Filling → Fibers (List (Frame Poisoned)) World → Fibers (List (Frame ℕ)) Shared → Type 0
   ShownAlike k d p = FibersAlike (filled k) (program k) (Shows k) d p
 
   -- ---- the same under another fill
 
-  stands_again : (k j : ℕ) (f : List (Frame Poisoned)) → low.AllStand m formed valid can (to_first_report setup) refl bytes_one (fills k) (bytes_too k) f
-      → low.AllStand m formed valid can (to_first_report setup) refl bytes_one (fills j) (bytes_too j) f
+  stands_again : (k j : Filling) (f : List (Frame Poisoned)) → low.AllStand m formed valid can (to_first_report setup) refl bytes_one k.fill (bytes_too k) f
+      → low.AllStand m formed valid can (to_first_report setup) refl bytes_one j.fill (bytes_too j) f
   stands_again k j [] h = h
   stands_again k j (f ∷ fs) h = record { inst = h.inst; after = h.after; rest = h.rest; call = h.call; words = h.words }
 
-  both_low : (k j : ℕ) (o p : Option (List (Frame Poisoned))) → BothStand one (one_filled k) (Lows k) o p → BothStand one (one_filled j) (Lows j) o p
+  both_low : (k j : Filling) (o p : Option (List (Frame Poisoned))) → BothStand one (one_filled k) (Lows k) o p → BothStand one (one_filled j) (Lows j) o p
   both_low k j None None h = tt
   both_low k j (Some f) (Some g) h = (h.0, stands_again k j f h.1, h.2, h.3)
   both_low k j None (Some g) h = absurd h
   both_low k j (Some f) None h = absurd h
 
-  others_low : (k j : ℕ) (a b : Others (List (Frame Poisoned))) → OthersAlike one (one_filled k) (Lows k) a b → OthersAlike one (one_filled j) (Lows j) a b
+  others_low : (k j : Filling) (a b : Others (List (Frame Poisoned))) → OthersAlike one (one_filled k) (Lows k) a b → OthersAlike one (one_filled j) (Lows j) a b
   others_low k j a b h = record { stands = λ n. both_low k j (a.stands n) (b.stands n) (h.stands n); picks = h.picks }
 
-  low_again : (k j : ℕ) (c d : Fibers (List (Frame Poisoned)) World) → LowAlike k c d → LowAlike j c d
+  low_again : (k j : Filling) (c d : Fibers (List (Frame Poisoned)) World) → LowAlike k c d → LowAlike j c d
   low_again k j (Goes f w a) (Goes g v b) h = (h.0, others_low k j a b h.1)
   low_again k j (Waits w a) (Waits v b) h = (h.0, others_low k j a b h.1)
   low_again k j (Goes f w a) (Waits v b) h = absurd h
   low_again k j (Waits w a) (Goes g v b) h = absurd h
 
-  both_shown : (k j : ℕ) (o : Option (List (Frame Poisoned))) (p : Option (List (Frame ℕ))) → BothStand (filled k) (program k) (Shows k) o p → BothStand (filled j) (program j) (Shows j) o p
+  both_shown : (k j : Filling) (o : Option (List (Frame Poisoned))) (p : Option (List (Frame ℕ))) → BothStand (filled k) (program k) (Shows k) o p → BothStand (filled j) (program j) (Shows j) o p
   both_shown k j None None h = tt
   both_shown k j (Some f) (Some g) h = h
   both_shown k j None (Some g) h = absurd h
   both_shown k j (Some f) None h = absurd h
 
-  others_shown : (k j : ℕ) (a : Others (List (Frame Poisoned))) (b : Others (List (Frame ℕ))) → OthersAlike (filled k) (program k) (Shows k) a b → OthersAlike (filled j) (program j) (Shows j) a b
+  others_shown : (k j : Filling) (a : Others (List (Frame Poisoned))) (b : Others (List (Frame ℕ))) → OthersAlike (filled k) (program k) (Shows k) a b → OthersAlike (filled j) (program j) (Shows j) a b
   others_shown k j a b h = record { stands = λ n. both_shown k j (a.stands n) (b.stands n) (h.stands n); picks = h.picks }
 
-  shown_again : (k j : ℕ) (d : Fibers (List (Frame Poisoned)) World) (p : Fibers (List (Frame ℕ)) Shared) → ShownAlike k d p → ShownAlike j d p
+  shown_again : (k j : Filling) (d : Fibers (List (Frame Poisoned)) World) (p : Fibers (List (Frame ℕ)) Shared) → ShownAlike k d p → ShownAlike j d p
   shown_again k j (Goes f w a) (Goes g t b) h = (h.0, others_shown k j a b h.1)
   shown_again k j (Waits w a) (Waits t b) h = (h.0, others_shown k j a b h.1)
   shown_again k j (Goes f w a) (Waits t b) h = absurd h
@@ -223,7 +222,7 @@ module _ (m : Module) (formed : Formed m) (valid : Valid m) (can : CanInstrument
   -- ---- three states
 
   -- a shadow state, one under other fills, and the program's state under these
-  pub record Aligned (k : ℕ) (c : Fibers (List (Frame Poisoned)) World) (p : Fibers (List (Frame ℕ)) Shared) : Type 0 where
+  pub record Aligned (k : Filling) (c : Fibers (List (Frame Poisoned)) World) (p : Fibers (List (Frame ℕ)) Shared) : Type 0 where
     pub between : Fibers (List (Frame Poisoned)) World
     pub lows : LowAlike k c between
     pub shows : ShownAlike k between p
@@ -233,13 +232,13 @@ module _ (m : Module) (formed : Formed m) (valid : Valid m) (can : CanInstrument
     pub lows : LowWorld w between
     pub shows : bare v ≡ bare between
 
-  abbrev pub AlignedSteps : ℕ → Stepped (Fibers (List (Frame Poisoned)) World) → Stepped (Fibers (List (Frame ℕ)) Shared) → Type 0
+  abbrev pub AlignedSteps : Filling → Stepped (Fibers (List (Frame Poisoned)) World) → Stepped (Fibers (List (Frame ℕ)) Shared) → Type 0
   AlignedSteps k (More c) (More p) = Aligned k c p
   AlignedSteps k (Stop e w) (Stop x v) = (e ≡ x) × AlignedEnds w v
   AlignedSteps k (More c) (Stop x v) = ⊥
   AlignedSteps k (Stop e w) (More p) = ⊥
 
-  low_worlds : (k : ℕ) (c d : Fibers (List (Frame Poisoned)) World) → LowAlike k c d → LowWorld (shared_world c) (shared_world d)
+  low_worlds : (k : Filling) (c d : Fibers (List (Frame Poisoned)) World) → LowAlike k c d → LowWorld (shared_world c) (shared_world d)
   low_worlds k (Goes f w a) (Goes g v b) h = h.0.1
   low_worlds k (Waits w a) (Waits v b) h = h.0.0
   low_worlds k (Goes f w a) (Waits v b) h = absurd h
@@ -253,13 +252,13 @@ module _ (m : Module) (formed : Formed m) (valid : Valid m) (can : CanInstrument
   state_untold (Goes f w rest) h = h
   state_untold (Waits w rest) h = h
 
-  abbrev LowSteps : ℕ → Stepped (Fibers (List (Frame Poisoned)) World) → Stepped (Fibers (List (Frame Poisoned)) World) → Type 0
+  abbrev LowSteps : Filling → Stepped (Fibers (List (Frame Poisoned)) World) → Stepped (Fibers (List (Frame Poisoned)) World) → Type 0
   LowSteps k x y = SteppedAlike (FibersAlike one (one_filled k) (Lows k)) (Lows k).Ends (EarlyFibers one (one_filled k) (Lows k)) x y
 
-  abbrev ShownSteps : ℕ → Stepped (Fibers (List (Frame Poisoned)) World) → Stepped (Fibers (List (Frame ℕ)) Shared) → Type 0
+  abbrev ShownSteps : Filling → Stepped (Fibers (List (Frame Poisoned)) World) → Stepped (Fibers (List (Frame ℕ)) Shared) → Type 0
   ShownSteps k y z = SteppedAlike (FibersAlike (filled k) (program k) (Shows k)) (Shows k).Ends (EarlyFibers (filled k) (program k) (Shows k)) y z
 
-  steps_untold : (k : ℕ) (x y : Stepped (Fibers (List (Frame Poisoned)) World)) → LowSteps k x y → UntoldFibers x → UntoldFibers y
+  steps_untold : (k : Filling) (x y : Stepped (Fibers (List (Frame Poisoned)) World)) → LowSteps k x y → UntoldFibers x → UntoldFibers y
   steps_untold k (More c) (More d) h told = state_untold d (low_untold (shared_world c) (shared_world d) (low_worlds k c d h) (told_world c told))
   steps_untold k (Stop e w) (Stop x v) h told = low_untold w v h.1 told
   steps_untold k (More c) (Stop x v) h told = absurd h
@@ -278,7 +277,7 @@ module _ (m : Module) (formed : Formed m) (valid : Valid m) (can : CanInstrument
       by_step (More d) told = ap (λ (w : World). w.blind) (world_same d) ∙ (told_world d told).blind
       by_step (Stop e w) told = told.blind
 
-  combine : (k : ℕ) (x y : Stepped (Fibers (List (Frame Poisoned)) World)) (z : Stepped (Fibers (List (Frame ℕ)) Shared)) → LowSteps k x y → ShownSteps k y z
+  combine : (k : Filling) (x y : Stepped (Fibers (List (Frame Poisoned)) World)) (z : Stepped (Fibers (List (Frame ℕ)) Shared)) → LowSteps k x y → ShownSteps k y z
       → ((e : End) (w : World) → y ≡ Stop e w → e ≡ «end».Reported → ⊥) → AlignedSteps k x z
   combine k (More c) (More d) (More p) a b never = record { between = d; lows = a; shows = b }
   combine k (Stop e w) (Stop x v) (Stop z u) a (inr b) never = (a.0 ∙ sym b.0, record { between = v; lows = a.1; shows = b.1 })
@@ -288,7 +287,7 @@ module _ (m : Module) (formed : Formed m) (valid : Valid m) (can : CanInstrument
   combine k (More c) (Stop x v) z a b never = absurd a
   combine k (Stop e w) (More d) z a b never = absurd a
 
-  one_step : (k : ℕ) (c : Fibers (List (Frame Poisoned)) World) (p : Fibers (List (Frame ℕ)) Shared) → Aligned k c p → UntoldFibers (fibers_step whole schedule c)
+  pub one_step : (k : Filling) (c : Fibers (List (Frame Poisoned)) World) (p : Fibers (List (Frame ℕ)) Shared) → Aligned k c p → UntoldFibers (fibers_step whole schedule c)
       → AlignedSteps k (fibers_step whole schedule c) (fibers_step (program k) schedule p)
   one_step k c p a told =
       let d = a.between in
@@ -297,8 +296,8 @@ module _ (m : Module) (formed : Formed m) (valid : Valid m) (can : CanInstrument
       let same : fibers_step one schedule c ≡ fibers_step whole schedule c = whole_first (setting_of m setup) m schedule c before.reports told in
       let told_one : UntoldFibers (fibers_step one schedule c) = subst UntoldFibers (sym same) told in
       let lows : LowSteps k (fibers_step one schedule c) (fibers_step (one_filled k) schedule d) =
-      fibers_alike one (one_filled k) (Lows k) (low.laws m formed valid can (to_first_report setup) refl bytes_one (fills k) (bytes_too k)) (low.counts m formed valid can (to_first_report setup) refl bytes_one (fills k) (bytes_too k))
-      (low.late m formed valid can (to_first_report setup) refl bytes_one (fills k) (bytes_too k)) schedule c d a.lows (quiet_step c before.blind (fibers_step one schedule c) told_one) in
+      fibers_alike one (one_filled k) (Lows k) (low.laws m formed valid can (to_first_report setup) refl bytes_one k.fill (bytes_too k)) (low.counts m formed valid can (to_first_report setup) refl bytes_one k.fill (bytes_too k))
+      (low.late m formed valid can (to_first_report setup) refl bytes_one k.fill (bytes_too k)) schedule c d a.lows (quiet_step c before.blind (fibers_step one schedule c) told_one) in
       let told_too : UntoldFibers (fibers_step (one_filled k) schedule d) = steps_untold k (fibers_step one schedule c) (fibers_step (one_filled k) schedule d) lows told_one in
       let same_too : fibers_step (one_filled k) schedule d ≡ fibers_step (filled k) schedule d = first_whole (given k) m schedule d before_too.reports told_too in
       let shows : ShownSteps k (fibers_step (filled k) schedule d) (fibers_step (program k) schedule p) =
@@ -311,29 +310,16 @@ module _ (m : Module) (formed : Formed m) (valid : Valid m) (can : CanInstrument
       told_stop : (e : End) (w : World) → UntoldFibers (Stop e w) → w.reports ≡ []
       told_stop e w h = h.reports
 
-  walk : (n k : ℕ) (c : Fibers (List (Frame Poisoned)) World) (p : Fibers (List (Frame ℕ)) Shared) → Aligned k c p → UntoldFibers (steps (fibers_step whole schedule) n c)
-      → (j : ℕ) × AlignedSteps j (steps (fibers_step whole schedule) n c) (steps_by (chosen_fibers_step m setup fills schedule) n k p)
-  walk zero k c p a told = (k, a)
-  walk (suc n) k c p a told =
-      after (fibers_step whole schedule c) (fibers_step (program k) schedule p) (λ t. one_step k c p a t) told
-    where
-      again : (c' : Fibers (List (Frame Poisoned)) World) (p' : Fibers (List (Frame ℕ)) Shared) → Aligned k c' p' → Aligned (suc k) c' p'
-      again c' p' b = record { between = b.between; lows = low_again k (suc k) c' b.between b.lows; shows = shown_again k (suc k) b.between p' b.shows }
+  -- the three go on under another fill
+  pub again : (k j : Filling) (c : Fibers (List (Frame Poisoned)) World) (p : Fibers (List (Frame ℕ)) Shared) → Aligned k c p → Aligned j c p
+  again k j c p b = record { between = b.between; lows = low_again k j c b.between b.lows; shows = shown_again k j b.between p b.shows }
 
-      after : (x : Stepped (Fibers (List (Frame Poisoned)) World)) (z : Stepped (Fibers (List (Frame ℕ)) Shared)) → (UntoldFibers x → AlignedSteps k x z)
-          → UntoldFibers (and_then x (steps (fibers_step whole schedule) n))
-          → (j : ℕ) × AlignedSteps j (and_then x (steps (fibers_step whole schedule) n)) (and_then z (steps_by (chosen_fibers_step m setup fills schedule) n (suc k)))
-      after (More c') (More p') now t = walk n (suc k) c' p' (again c' p' (now (before_steps (setting_of m setup) m schedule n c' t))) t
-      after (Stop e w) (Stop x v) now t = (k, now t)
-      after (More c') (Stop x v) now t = absurd (now (before_steps (setting_of m setup) m schedule n c' t))
-      after (Stop e w) (More p') now t = absurd (now t)
-
-  start_aligned : Aligned 0 (shadow_threads_start m setup) (plain_threads_start m setup)
-  start_aligned =
-      let alike = start_alike m (to_first_report setup) (fills 0) in
+  pub start_aligned : (k : Filling) → Aligned k (shadow_threads_start m setup) (plain_threads_start m setup)
+  start_aligned k =
+      let alike = start_alike m (to_first_report setup) k.fill in
       let sound = shadow_sound m formed valid (to_first_report setup) bytes_one in
       let good = (sound.frames, start_clean m (to_first_report setup)) in
-      let shared = low.start_shared m formed valid can (to_first_report setup) refl bytes_one (fills 0) (bytes_too 0) in record {
+      let shared = low.start_shared m formed valid can (to_first_report setup) refl bytes_one k.fill (bytes_too k) in record {
         between = shadow_threads_start m setup;
         lows = ((alike.frames, alike.world, good, good, shared, shared), record { stands = λ n. tt; picks = refl });
         shows = ((refl, refl), record { stands = λ n. tt; picks = refl });
@@ -362,7 +348,7 @@ module _ (m : Module) (formed : Formed m) (valid : Valid m) (can : CanInstrument
     answers = λ n. subst (λ (b : ℕ → ℕ). SameBits (w.answer_masks n) (w.answers n) (b n)) (sym (ap (λ (k : World). k.answers) e)) (h.answers n);
   }
 
-  certain_stands : (k : ℕ) (o q : Option (List (Frame Poisoned))) (p : Option (List (Frame ℕ))) → BothStand one (one_filled k) (Lows k) o q → BothStand (filled k) (program k) (Shows k) q p → CertainStands o p
+  certain_stands : (k : Filling) (o q : Option (List (Frame Poisoned))) (p : Option (List (Frame ℕ))) → BothStand one (one_filled k) (Lows k) o q → BothStand (filled k) (program k) (Shows k) q p → CertainStands o p
   certain_stands k None None None a b = tt
   certain_stands k (Some f) (Some g) (Some r) a b = subst (CertainFrames f) (sym b) (certain_frames f g a.0)
   certain_stands k None (Some g) p a b = absurd a
@@ -370,10 +356,10 @@ module _ (m : Module) (formed : Formed m) (valid : Valid m) (can : CanInstrument
   certain_stands k None None (Some r) a b = absurd b
   certain_stands k (Some f) (Some g) None a b = absurd b
 
-  certain_others : (k : ℕ) (a b : Others (List (Frame Poisoned))) (c : Others (List (Frame ℕ))) → OthersAlike one (one_filled k) (Lows k) a b → OthersAlike (filled k) (program k) (Shows k) b c → CertainOthers a c
+  certain_others : (k : Filling) (a b : Others (List (Frame Poisoned))) (c : Others (List (Frame ℕ))) → OthersAlike one (one_filled k) (Lows k) a b → OthersAlike (filled k) (program k) (Shows k) b c → CertainOthers a c
   certain_others k a b c h g = record { stands = λ n. certain_stands k (a.stands n) (b.stands n) (c.stands n) (h.stands n) (g.stands n); picks = h.picks ∙ g.picks }
 
-  certain_state : (k : ℕ) (c d : Fibers (List (Frame Poisoned)) World) (p : Fibers (List (Frame ℕ)) Shared) → LowAlike k c d → ShownAlike k d p → CertainFibers c p
+  certain_state : (k : Filling) (c d : Fibers (List (Frame Poisoned)) World) (p : Fibers (List (Frame ℕ)) Shared) → LowAlike k c d → ShownAlike k d p → CertainFibers c p
   certain_state k (Goes f w a) (Goes g v b) (Goes r t o) h s =
       (subst (CertainFrames f) (sym s.0.0) (certain_frames f g h.0.0), certain_beside w v t.world h.0.1 s.0.1, certain_others k a b o h.1 s.1)
   certain_state k (Waits w a) (Waits v b) (Waits t o) h s = (certain_beside w v t.world h.0.0 s.0, certain_others k a b o h.1 s.1)
@@ -382,18 +368,39 @@ module _ (m : Module) (formed : Formed m) (valid : Valid m) (can : CanInstrument
   certain_state k (Goes f w a) (Goes g v b) (Waits t o) h s = absurd s
   certain_state k (Waits w a) (Waits v b) (Goes r t o) h s = absurd s
 
-  certain_steps : (k : ℕ) (x : Stepped (Fibers (List (Frame Poisoned)) World)) (z : Stepped (Fibers (List (Frame ℕ)) Shared)) → AlignedSteps k x z → CertainFiberSteps x z
+  pub certain_steps : (k : Filling) (x : Stepped (Fibers (List (Frame Poisoned)) World)) (z : Stepped (Fibers (List (Frame ℕ)) Shared)) → AlignedSteps k x z → CertainFiberSteps x z
   certain_steps k (More c) (More p) h = certain_state k c h.between p h.lows h.shows
   certain_steps k (Stop e w) (Stop x v) h = (h.0, certain_beside w h.1.between v h.1.lows h.1.shows)
   certain_steps k (More c) (Stop x v) h = absurd h
   certain_steps k (Stop e w) (More p) h = absurd h
 
-  pub certain_threads : (n : ℕ) → UntoldFibers (steps (fibers_step (shadow_fiber by_completions (setting_of m setup) m) schedule) n (shadow_threads_start m setup))
-      → CertainFiberSteps (steps (fibers_step (shadow_fiber by_completions (setting_of m setup) m) schedule) n (shadow_threads_start m setup))
-      (steps_by (chosen_fibers_step m setup fills schedule) n 0 (plain_threads_start m setup))
-  certain_threads n told =
-      let a = walk n 0 (shadow_threads_start m setup) (plain_threads_start m setup) start_aligned (subst UntoldFibers computed told) in
-      subst (λ x. CertainFiberSteps x (steps_by (chosen_fibers_step m setup fills schedule) n 0 (plain_threads_start m setup))) (sym computed) (certain_steps a.0 _ _ a.1)
-    where
-      computed : steps (fibers_step (shadow_fiber by_completions (setting_of m setup) m) schedule) n (shadow_threads_start m setup) ≡ steps (fibers_step (shadow_fiber by_formulas (setting_of m setup) m) schedule) n (shadow_threads_start m setup)
-      computed = ap (λ (means : Meaning (List (Frame Poisoned)) World). steps (fibers_step means schedule) n (shadow_threads_start m setup)) (same_fiber formulas_exact (setting_of m setup) m)
+  pub computed : (n : ℕ) → steps (fibers_step (shadow_fiber by_completions (setting_of m setup) m) schedule) n (shadow_threads_start m setup) ≡ steps (fibers_step (shadow_fiber by_formulas (setting_of m setup) m) schedule) n (shadow_threads_start m setup)
+  computed n = ap (λ (means : Meaning (List (Frame Poisoned)) World). steps (fibers_step means schedule) n (shadow_threads_start m setup)) (same_fiber formulas_exact (setting_of m setup) m)
+
+  -- ---- a fill for each step
+
+  module _ (fills : ℕ → List ℕ) (are : (k : ℕ) → IsFill (fills k)) where
+    abbrev at : ℕ → Filling
+    at k = record { fill = fills k; is = are k }
+
+    walk : (n k : ℕ) (c : Fibers (List (Frame Poisoned)) World) (p : Fibers (List (Frame ℕ)) Shared) → Aligned (at k) c p → UntoldFibers (steps (fibers_step whole schedule) n c)
+        → (j : Filling) × AlignedSteps j (steps (fibers_step whole schedule) n c) (steps_by (chosen_fibers_step m setup fills schedule) n k p)
+    walk zero k c p a told = (at k, a)
+    walk (suc n) k c p a told =
+        after (λ c' p' b t. walk n (suc k) c' p' (again (at k) (at (suc k)) c' p' b) t) (fibers_step whole schedule c) (fibers_step (program (at k)) schedule p) (λ t. one_step (at k) c p a t) told
+      where
+        after : ((c' : Fibers (List (Frame Poisoned)) World) (p' : Fibers (List (Frame ℕ)) Shared) → Aligned (at k) c' p' → UntoldFibers (steps (fibers_step whole schedule) n c')
+            → (j : Filling) × AlignedSteps j (steps (fibers_step whole schedule) n c') (steps_by (chosen_fibers_step m setup fills schedule) n (suc k) p')) → (x : Stepped (Fibers (List (Frame Poisoned)) World)) (z : Stepped (Fibers (List (Frame ℕ)) Shared)) → (UntoldFibers x → AlignedSteps (at k) x z)
+            → UntoldFibers (and_then x (steps (fibers_step whole schedule) n))
+            → (j : Filling) × AlignedSteps j (and_then x (steps (fibers_step whole schedule) n)) (and_then z (steps_by (chosen_fibers_step m setup fills schedule) n (suc k)))
+        after later (More c') (More p') now t = later c' p' (now (before_steps (setting_of m setup) m schedule n c' t)) t
+        after later (Stop e w) (Stop x v) now t = (at k, now t)
+        after later (More c') (Stop x v) now t = absurd (now (before_steps (setting_of m setup) m schedule n c' t))
+        after later (Stop e w) (More p') now t = absurd (now t)
+
+    pub certain_threads : (n : ℕ) → UntoldFibers (steps (fibers_step (shadow_fiber by_completions (setting_of m setup) m) schedule) n (shadow_threads_start m setup))
+        → CertainFiberSteps (steps (fibers_step (shadow_fiber by_completions (setting_of m setup) m) schedule) n (shadow_threads_start m setup))
+        (steps_by (chosen_fibers_step m setup fills schedule) n 0 (plain_threads_start m setup))
+    certain_threads n told =
+        let a = walk n 0 (shadow_threads_start m setup) (plain_threads_start m setup) (start_aligned (at 0)) (subst UntoldFibers (computed n) told) in
+        subst (λ x. CertainFiberSteps x (steps_by (chosen_fibers_step m setup fills schedule) n 0 (plain_threads_start m setup))) (sym (computed n)) (certain_steps a.0 _ _ a.1)

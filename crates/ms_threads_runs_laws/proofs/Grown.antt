@@ -165,8 +165,8 @@ module _ (s : Setting) (m : Module) where
 
   pub before_steps : (schedule : List ℕ) (n : ℕ) (c : Fibers (List (Frame Poisoned)) World) → UntoldFibers (steps (fibers_step means schedule) n c) → UntoldFibers (More c)
   before_steps schedule zero c h = h
-  before_steps schedule (suc n) c h = state_untold c (before_step schedule c (by_step (fibers_step means schedule c) h))
+  before_steps schedule (suc n) c h = state_untold c (before_step schedule c (by_step (λ d k. before_steps schedule n d k) (fibers_step means schedule c) h))
     where
-      by_step : (x : Stepped (Fibers (List (Frame Poisoned)) World)) → UntoldFibers (and_then x (steps (fibers_step means schedule) n)) → UntoldFibers x
-      by_step (More d) k = before_steps schedule n d k
-      by_step (Stop e u) k = k
+      by_step : ((d : Fibers (List (Frame Poisoned)) World) → UntoldFibers (steps (fibers_step means schedule) n d) → UntoldFibers (More d)) → (x : Stepped (Fibers (List (Frame Poisoned)) World)) → UntoldFibers (and_then x (steps (fibers_step means schedule) n)) → UntoldFibers x
+      by_step later (More d) k = later d k
+      by_step later (Stop e u) k = k

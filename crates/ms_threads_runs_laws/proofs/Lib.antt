@@ -9,3 +9,4 @@ pub mod ThreadOrigins
 pub mod ThreadTrails
 pub mod Grown
 pub mod CertainRuns
+pub mod ChangingRuns

@@ -166,7 +166,7 @@ module _ (m : Module) (formed : Formed m) (valid : Valid m) (setup : Setup) (byt
 
   inst_stays : (inst : Inst) (insts : List Inst) (state : PlainState) (f : Frame ℕ) (below : List (Frame ℕ)) → SoundPlain m state → GoodFrames IsBelow m (f ∷ below) → rest_of m f ≡ inst ∷ insts → Beside m n state.world
       → Bottom so (f ∷ below) → (inst.marked ≡ false → DueIn (f ∷ below) (inst ∷ insts) ≡ Returns → ⊥) → Stays (plain_inst (setting_of m setup) m inst state (f ∷ below))
-  inst_stays inst insts state f below sound frames rest beside last no =
+  inst_stays inst insts state f below sound frames rest beside last never =
       by_mark inst.marked refl
     where
       good : GoodFrame IsBelow m f
@@ -216,7 +216,7 @@ module _ (m : Module) (formed : Formed m) (valid : Valid m) (setup : Setup) (byt
           (act_beside m n (setting_of m setup) refl at_inst inst.op words state.world
           (plain_creates m formed valid setup f.func f.block f.place good.func inst good.stands due f.values at_inst.root) beside)
           (act_sited m (setting_of m setup) at_inst site state.world inst.op words not_phi known)
-          (λ l alone. has_caller inst insts f below unmarked (no unmarked) inst.op refl (acts_return m (setting_of m setup) at_inst site state.world inst.op words not_phi known l) alone)
+          (λ l alone. has_caller inst insts f below unmarked (never unmarked) inst.op refl (acts_return m (setting_of m setup) at_inst site state.world inst.op words not_phi known l) alone)
 
   both_well : (next : PlainState → Type 0) (x : Stepped PlainState) → LeadsTo (λ s. SoundPlain m s × next s) (GoodWorld FitsCell) x → Stays x → Well next x
   both_well next (More t) h k = (h.0, k.0, k.1, h.1)
@@ -231,10 +231,10 @@ module _ (m : Module) (formed : Formed m) (valid : Valid m) (setup : Setup) (byt
 
   pub inst_well : (inst : Inst) (insts : List Inst) (state : PlainState) → Before state (inst ∷ insts) → (inst.marked ≡ false → DueIn state.frames (inst ∷ insts) ≡ Returns → ⊥)
       → Well (λ t. inst.marked ≡ true → RestsOn m insts state.frames t.frames) (plain_inst (setting_of m setup) m inst state state.frames)
-  inst_well inst insts state h no =
+  inst_well inst insts state h never =
       both_well (λ t. inst.marked ≡ true → RestsOn m insts state.frames t.frames) (plain_inst (setting_of m setup) m inst state state.frames)
       (plain_inst_keeps m formed valid setup bytes inst insts state h.sound h.rest)
-      (by_frames state.frames refl h.rest h.last no)
+      (by_frames state.frames refl h.rest h.last never)
     where
       by_frames : (fs : List (Frame ℕ)) → state.frames ≡ fs → AtRest m fs (inst ∷ insts) → Bottom so fs → (inst.marked ≡ false → DueIn fs (inst ∷ insts) ≡ Returns → ⊥) → Stays (plain_inst (setting_of m setup) m inst state fs)
       by_frames [] e rest last due = absurd rest
@@ -247,22 +247,22 @@ module _ (m : Module) (formed : Formed m) (valid : Valid m) (setup : Setup) (byt
   -- ---- the marked instructions, and one unmarked one
 
   pub through_well : (insts : List Inst) (state : PlainState) → Before state insts → (DueIn state.frames insts ≡ Returns → ⊥) → Well (λ t. Unit {0}) (through (setting_of m setup) m insts state)
-  through_well [] state h no = absurd (none_left state.frames h.sound.frames h.rest)
-  through_well (inst ∷ insts) state h no = by_mark inst.marked refl (plain_inst (setting_of m setup) m inst state state.frames) (inst_well inst insts state h (λ u. no))
+  through_well [] state h never = absurd (none_left state.frames h.sound.frames h.rest)
+  through_well (inst ∷ insts) state h never = by_mark (λ q k e. through_well insts q k e) inst.marked refl (plain_inst (setting_of m setup) m inst state state.frames) (inst_well inst insts state h (λ u. never))
     where
-      by_mark : (t : Bool) → inst.marked ≡ t → (x : Stepped PlainState) → Well (λ t. inst.marked ≡ true → RestsOn m insts state.frames t.frames) x
+      by_mark : ((q : PlainState) → Before q insts → (DueIn q.frames insts ≡ Returns → ⊥) → Well (λ t. Unit {0}) (through (setting_of m setup) m insts q)) → (t : Bool) → inst.marked ≡ t → (x : Stepped PlainState) → Well (λ t. inst.marked ≡ true → RestsOn m insts state.frames t.frames) x
           → Well (λ t. Unit {0}) (and_then x (if t then through (setting_of m setup) m insts else More))
-      by_mark t marked (Stop e w) k = k
-      by_mark false marked (More q) k = (k.0, k.1, k.2, tt)
-      by_mark true marked (More q) k =
+      by_mark onward t marked (Stop e w) k = k
+      by_mark onward false marked (More q) k = (k.0, k.1, k.2, tt)
+      by_mark onward true marked (More q) k =
           let rests = k.3 marked in
-          through_well insts q (record { sound = k.0; rest = rests.0; beside = k.1; last = k.2 })
-          (λ e. no (due_marked inst insts state.frames marked ∙ sym (due_rests insts state.frames q.frames rests) ∙ e))
+          onward q (record { sound = k.0; rest = rests.0; beside = k.1; last = k.2 })
+          (λ e. never (due_marked inst insts state.frames marked ∙ sym (due_rests insts state.frames q.frames rests) ∙ e))
 
   -- the marked instructions alone: what is due is due still
   pub reach_well : (insts : List Inst) (state : PlainState) → Before state insts → Well (λ t. frames_due (setting_of m setup) m t.frames ≡ DueIn state.frames insts) (through_marked (setting_of m setup) m insts state)
   reach_well [] state h = absurd (none_left state.frames h.sound.frames h.rest)
-  reach_well (inst ∷ insts) state h = by_mark inst.marked refl
+  reach_well (inst ∷ insts) state h = by_mark (λ q k. reach_well insts q k) inst.marked refl
     where
       as_rests : (fs : List (Frame ℕ)) → AtRest m fs (inst ∷ insts) → frames_due (setting_of m setup) m fs ≡ DueIn fs (inst ∷ insts)
       as_rests [] rest = absurd rest
@@ -273,17 +273,17 @@ module _ (m : Module) (formed : Formed m) (valid : Valid m) (setup : Setup) (byt
       further (More t) d e k = (k.0, k.1, k.2, k.3 ∙ e)
       further (Stop x w) d e k = k
 
-      then_well : inst.marked ≡ true → (x : Stepped PlainState) → Well (λ t. inst.marked ≡ true → RestsOn m insts state.frames t.frames) x
+      then_well : ((q : PlainState) → Before q insts → Well (λ t. frames_due (setting_of m setup) m t.frames ≡ DueIn q.frames insts) (through_marked (setting_of m setup) m insts q)) → inst.marked ≡ true → (x : Stepped PlainState) → Well (λ t. inst.marked ≡ true → RestsOn m insts state.frames t.frames) x
           → Well (λ t. frames_due (setting_of m setup) m t.frames ≡ DueIn state.frames (inst ∷ insts)) (and_then x (through_marked (setting_of m setup) m insts))
-      then_well marked (Stop e w) k = k
-      then_well marked (More q) k =
+      then_well onward marked (Stop e w) k = k
+      then_well onward marked (More q) k =
           let rests = k.3 marked in
           further (through_marked (setting_of m setup) m insts q) (DueIn q.frames insts) (due_rests insts state.frames q.frames rests ∙ sym (due_marked inst insts state.frames marked))
-          (reach_well insts q (record { sound = k.0; rest = rests.0; beside = k.1; last = k.2 }))
+          (onward q (record { sound = k.0; rest = rests.0; beside = k.1; last = k.2 }))
 
-      by_mark : (t : Bool) → inst.marked ≡ t
+      by_mark : ((q : PlainState) → Before q insts → Well (λ t. frames_due (setting_of m setup) m t.frames ≡ DueIn q.frames insts) (through_marked (setting_of m setup) m insts q)) → (t : Bool) → inst.marked ≡ t
           → Well (λ t. frames_due (setting_of m setup) m t.frames ≡ DueIn state.frames (inst ∷ insts))
           (if t then and_then (plain_inst (setting_of m setup) m inst state state.frames) (through_marked (setting_of m setup) m insts) else More state)
-      by_mark false marked = (h.sound, h.beside, h.last, as_rests state.frames h.rest)
-      by_mark true marked =
-          then_well marked (plain_inst (setting_of m setup) m inst state state.frames) (inst_well inst insts state h (λ u. absurd (true≢false (sym marked ∙ u))))
+      by_mark onward false marked = (h.sound, h.beside, h.last, as_rests state.frames h.rest)
+      by_mark onward true marked =
+          then_well onward marked (plain_inst (setting_of m setup) m inst state state.frames) (inst_well inst insts state h (λ u. absurd (true≢false (sym marked ∙ u))))

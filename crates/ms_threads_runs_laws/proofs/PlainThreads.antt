@@ -71,12 +71,12 @@ returns_outside {V} s m same n (f ∷ below) last due zeroth =
 pub ends_told : {F S : Type 0} (means : Meaning F S) (schedule : List ℕ) (n : ℕ) (c : Fibers F S)
     → (let at = ends_in means schedule n c in result at.0 at.1) ≡ go_on (λ c. result «end».Spent (world_of means c)) (steps (fibers_step means schedule) n c)
 ends_told means schedule zero c = refl
-ends_told {F} {S} means schedule (suc n) c = by_step (fibers_step means schedule c)
+ends_told {F} {S} means schedule (suc n) c = by_step (λ d. ends_told means schedule n d) (fibers_step means schedule c)
   where
-    by_step : (x : Stepped (Fibers F S)) → (let at = finish means (ends_in means schedule n) x in result at.0 at.1)
+    by_step : ((d : Fibers F S) → (let at = ends_in means schedule n d in result at.0 at.1) ≡ go_on (λ c. result «end».Spent (world_of means c)) (steps (fibers_step means schedule) n d)) → (x : Stepped (Fibers F S)) → (let at = finish means (ends_in means schedule n) x in result at.0 at.1)
         ≡ go_on (λ c. result «end».Spent (world_of means c)) (elim x as (λ z. Stepped (Fibers F S)) [ More d ↦ steps (fibers_step means schedule) n d | Stop e w ↦ Stop e w ])
-    by_step (More d) = ends_told means schedule n d
-    by_step (Stop e w) = refl
+    by_step later (More d) = later d
+    by_step later (Stop e w) = refl
 
 -- at the start it is the turn of `main`, and no other fiber was made
 pub start_beside : (m : Module) (setup : Setup) → Beside m 0 (start_world m setup)
@@ -136,10 +136,10 @@ module _ (m : Module) (formed : Formed m) (valid : Valid m) (setup : Setup) (byt
 
   step_kept : (fs : List (Frame ℕ)) (s : Shared) → SoundFiber IsBelow m s.world.turn fs → SoundShared m s → (frames_due (setting_of m setup) m fs ≡ Returns → ⊥)
       → Leading means kept (GoesOn means kept s) (plain_going (plain_step (setting_of m setup) m (state_of fs s)))
-  step_kept [] s fiber shared no = absurd fiber.frames
-  step_kept (f ∷ below) s fiber shared no =
+  step_kept [] s fiber shared never = absurd fiber.frames
+  step_kept (f ∷ below) s fiber shared never =
       stepped s (through (setting_of m setup) m (rest_of m f) (state_of (f ∷ below) s))
-      (through_well m formed valid setup bytes s.world.turn (begins m (not (eqb s.world.turn 0))) (rest_of m f) (state_of (f ∷ below) s) (before s.world.turn f below s fiber shared refl) no)
+      (through_well m formed valid setup bytes s.world.turn (begins m (not (eqb s.world.turn 0))) (rest_of m f) (state_of (f ∷ below) s) (before s.world.turn f below s fiber shared refl) never)
 
   own_no : (d : Due) → d ≡ Own → d ≡ Returns → ⊥
   own_no Own e q = grind arith

@@ -424,7 +424,7 @@ module _ (d : Rules) (keep : KeepClean d) (widths : KeepWidths d) (m : Module) (
         by_frames [] e = nothing_due
         by_frames (fr ∷ below) e = by_list fr below e (rest_of m fr) refl
 
-    goes_half : (u : Duty) → frames_due (setting_of m setup) m f ≡ u → HalfLeads ran (Some f) (Goes f w rest) (moved means f w rest u)
+    pub goes_half : (u : Duty) → frames_due (setting_of m setup) m f ≡ u → HalfLeads ran (Some f) (Goes f w rest) (moved means f w rest u)
     goes_half Own e = own_half e
     goes_half Asks e = asks_half
     goes_half Returns e = returns_half
@@ -491,7 +491,7 @@ module _ (d : Rules) (keep : KeepClean d) (widths : KeepWidths d) (m : Module) (
       counts i = count_blind (union (map (λ p. p.mask) (blinded (func_index m.funcs) i.op (read_all (read_poisoned (setting_of m setup) f.values) (operands i.op) (here (setting_of m setup) m f).root)))) (turned k w)
 
       module _ (i : Inst) (is : List Inst) (next_is : rest_of m f ≡ i ∷ is) (call : ThreadCall (func_index m.funcs) i.op) where
-        mask : ℕ
+        abbrev mask : ℕ
         mask = union (map (λ p. p.mask) (blinded (func_index m.funcs) i.op (read_all (read_poisoned (setting_of m setup) f.values) (operands i.op) (here (setting_of m setup) m f).root)))
 
         counted_same : Same (Runs ran) (Reached ran) (ToldNow m (shadow_state (f ∷ below) w) (Reached ran)) (setting_of m setup) (λ j e. inl e) w (counts i)

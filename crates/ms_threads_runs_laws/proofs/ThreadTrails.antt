@@ -38,7 +38,7 @@ use Rattle.ms_threads_laws.proofs.KeptRuns.{globals_fibers}
 use Rattle.ms_runs_threads.specs.Calls.{acting, acting_of}
 use Rattle.ms_runs_threads.specs.Fibers.{Meaning, Others, Fibers, Goes, Waits, goes_on, runnable, fibers_step, world_of}
 use Rattle.ms_runs_threads.specs.ShadowFibers.{shadow_state, shadow_fiber, shadow_threads_by, shadow_threads_start}
-use Rattle.ms_threads_runs_laws.specs.Halves.{half_step, whole_step}
+use Rattle.ms_threads_runs_laws.specs.Halves.{pick_of, half_step, whole_step}
 use Rattle.ms_threads_runs_laws.specs.ThreadStates.{HasFiber}
 use Rattle.ms_threads_runs_laws.specs.ThreadWalks.{Ran, ThreadWalk, frames_acting, world_in, ran_by, thread_walk_start, thread_walk_next, thread_walked_on, threads_walked, RanThere, ReachedThere, ToldThere, HasThreadOrigins, ShowsThreadTrails, FromThreads, ComesFromThreads, IsListed}
 use Rattle.ms_threads_runs_laws.proofs.Halves.{halves}
@@ -192,11 +192,11 @@ module _ (d : Rules) (keep : KeepClean d) (widths : KeepWidths d) (m : Module) (
 
   run_found : (n : ℕ) (c : Fibers (List (Frame Poisoned)) World) → Comes c → Found (steps (fibers_step means schedule) n c)
   run_found zero c h = h
-  run_found (suc n) c h = by_step (fibers_step means schedule c) (step_found c h)
+  run_found (suc n) c h = by_step (λ next k. run_found n next k) (fibers_step means schedule c) (step_found c h)
     where
-      by_step : (x : Stepped (Fibers (List (Frame Poisoned)) World)) → Found x → Found (and_then x (steps (fibers_step means schedule) n))
-      by_step (More next) k = run_found n next k
-      by_step (Stop e w) k = k
+      by_step : ((next : Fibers (List (Frame Poisoned)) World) → Comes next → Found (steps (fibers_step means schedule) n next)) → (x : Stepped (Fibers (List (Frame Poisoned)) World)) → Found x → Found (and_then x (steps (fibers_step means schedule) n))
+      by_step later (More next) k = later next k
+      by_step later (Stop e w) k = k
 
   -- so each report of a run comes from there
   pub reports_come : (r : Report) → Contains (shadow_threads_by d m setup schedule).reports r → ComesFromThreads d m setup schedule r

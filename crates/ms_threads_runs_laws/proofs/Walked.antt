@@ -18,21 +18,21 @@ use Rattle.ms_threads_runs_laws.proofs.Halves.{halves}
 
 first_so : (test : ℕ → Bool) (xs : List ℕ) (k : ℕ) (ks : List ℕ) → filter test xs ≡ k ∷ ks → test k ≡ true
 first_so test [] k ks e = absurd (grind arith)
-first_so test (x ∷ xs) k ks e = by_test (test x) refl e
+first_so test (x ∷ xs) k ks e = by_test (λ f. first_so test xs k ks f) (test x) refl e
   where
-    by_test : (b : Bool) → test x ≡ b → (if b then x ∷ filter test xs else filter test xs) ≡ k ∷ ks → test k ≡ true
-    by_test true so f = subst (λ n. test n ≡ true) (ap (λ l. get_or l 0 k) f) so
-    by_test false so f = first_so test xs k ks f
+    by_test : (filter test xs ≡ k ∷ ks → test k ≡ true) → (b : Bool) → test x ≡ b → (if b then x ∷ filter test xs else filter test xs) ≡ k ∷ ks → test k ≡ true
+    by_test later true so f = subst (λ n. test n ≡ true) (ap (λ l. get_or l 0 k) f) so
+    by_test later false so f = later f
 
 each_so : (test : ℕ → Bool) (xs : List ℕ) (i d : ℕ) → test d ≡ true → test (get_or (filter test xs) i d) ≡ true
 each_so test [] zero d h = h
 each_so test [] (suc i) d h = h
-each_so test (x ∷ xs) i d h = by_test (test x) refl i
+each_so test (x ∷ xs) i d h = by_test (λ j. each_so test xs j d h) (test x) refl i
   where
-    by_test : (b : Bool) → test x ≡ b → (i : ℕ) → test (get_or (if b then x ∷ filter test xs else filter test xs) i d) ≡ true
-    by_test true so zero = so
-    by_test true so (suc i) = each_so test xs i d h
-    by_test false so i = each_so test xs i d h
+    by_test : ((j : ℕ) → test (get_or (filter test xs) j d) ≡ true) → (b : Bool) → test x ≡ b → (i : ℕ) → test (get_or (if b then x ∷ filter test xs else filter test xs) i d) ≡ true
+    by_test later true so zero = so
+    by_test later true so (suc i) = later i
+    by_test later false so i = later i
 
 -- a number that is taken from a list of those of a kind is one
 pub taken_so : (test : ℕ → Bool) (xs : List ℕ) (k : ℕ) (ks : List ℕ) → filter test xs ≡ k ∷ ks → (i : ℕ) → test (get_or (k ∷ ks) i k) ≡ true
@@ -132,8 +132,8 @@ module _ {F S : Type 0} (means : Meaning F S) where
           let r = keeps.returns f s fiber shared due in by_step (means.reach f s) r.1 (by_main r.0 main)
         where
           by_main : ((means.world s).turn ≡ 0 → ⊥) → Main s rest → is_some (rest.stands 0) ≡ true
-          by_main no (inl e) = absurd (no e)
-          by_main no (inr h) = h
+          by_main never (inl e) = absurd (never e)
+          by_main never (inr h) = h
 
           by_step : (x : Stepped (Going F S)) → Leading (λ g. p.In (ended means g.fiber g.shared)) x → is_some (rest.stands 0) ≡ true
               → Stepping (goes_on x (λ g. More (Waits (ended means g.fiber g.shared) rest)))
@@ -219,8 +219,8 @@ module _ {F S : Type 0} (means : Meaning F S) where
       -- and every run
       pub run_keeps : (schedule : List ℕ) (n : ℕ) (c : Fibers F S) → Holds c → Stepping (steps (fibers_step means schedule) n c)
       run_keeps schedule zero c h = h
-      run_keeps schedule (suc n) c h = by_step (fibers_step means schedule c) (step_keeps schedule c h)
+      run_keeps schedule (suc n) c h = by_step (λ d k. run_keeps schedule n d k) (fibers_step means schedule c) (step_keeps schedule c h)
         where
-          by_step : (x : Stepped (Fibers F S)) → Stepping x → Stepping (and_then x (steps (fibers_step means schedule) n))
-          by_step (More d) k = run_keeps schedule n d k
-          by_step (Stop e w) k = k
+          by_step : ((d : Fibers F S) → Holds d → Stepping (steps (fibers_step means schedule) n d)) → (x : Stepped (Fibers F S)) → Stepping x → Stepping (and_then x (steps (fibers_step means schedule) n))
+          by_step later (More d) k = later d k
+          by_step later (Stop e w) k = k
