@@ -145,10 +145,10 @@ pub record Filling : Type 0 where
   pub is : IsFill fill
 
 module _ (m : Module) (formed : Formed m) (valid : Valid m) (can : CanInstrument m) (setup : Setup) (bytes : GivesBytes setup) (schedule : List ℕ) where
-  bytes_one : GivesBytes (to_first_report setup)
+  pub bytes_one : GivesBytes (to_first_report setup)
   bytes_one = record { input = bytes.input; fill = bytes.fill }
 
-  bytes_too : (k : Filling) → GivesBytes (refilled (to_first_report setup) k.fill)
+  pub bytes_too : (k : Filling) → GivesBytes (refilled (to_first_report setup) k.fill)
   bytes_too k = record { input = bytes.input; fill = k.is.bytes }
 
   -- the shadow run, the one up to its first report, the same under the fill of a step, that without the limit, and the program

@@ -34,10 +34,13 @@ use Rattle.ms_threads_runs_laws.proofs.Grown.{before_steps}
 use Rattle.ms_threads_runs_laws.proofs.PlainThreads.{ends_told}
 
 -- a fill
-zeros : IsFill (0 ∷ [])
+abbrev one_zero : List ℕ
+one_zero = 0 ∷ []
+
+zeros : IsFill one_zero
 zeros = record { some = omega arith; bytes = by_place }
   where
-    by_place : (k d : ℕ) → k < length (0 ∷ []) → get_or (0 ∷ []) k d < 2 ^ 8
+    by_place : (k d : ℕ) → k < length one_zero → get_or one_zero k d < 2 ^ 8
     by_place zero d l = omega arith
     by_place (suc k) d l = absurd (too_far k l)
       where
@@ -164,7 +167,7 @@ module _ (m : Module) (formed : Formed m) (valid : Valid m) (can : CanInstrument
       → FibersComeTo (fibers_step (shadow_fiber by_completions (setting_of m setup) m) schedule) m setup schedule n (shadow_threads_start m setup) (plain_threads_start m setup) z
       → CertainFiberSteps (steps (fibers_step (shadow_fiber by_completions (setting_of m setup) m) schedule) n (shadow_threads_start m setup)) z
   certain_changing n z told comes =
-      let k : Filling = record { fill = 0 ∷ []; is = zeros } in
+      let k : Filling = record { fill = one_zero; is = zeros } in
       let a = walk n k (shadow_threads_start m setup) (plain_threads_start m setup) z (start_aligned m formed valid can setup bytes schedule k)
       (subst UntoldFibers (computed m formed valid can setup bytes schedule n) told)
       (subst (λ f. FibersComeTo f m setup schedule n (shadow_threads_start m setup) (plain_threads_start m setup) z) same_step comes) in

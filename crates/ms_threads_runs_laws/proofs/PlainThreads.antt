@@ -18,7 +18,7 @@ use Rattle.ms_runs.specs.World.{World, Thread, Setting, result, first_world}
 use Rattle.ms_runs.specs.Globals.{address_of}
 use Rattle.ms_runs.specs.Control.{Frame, here, rest_of, entered}
 use Rattle.ms_runs.specs.Act.{plain_reading}
-use Rattle.ms_runs.specs.Plain.{PlainState, Stepped, More, Stop, go_on, steps, through, plain_step, setting_of, start_world, start_frame}
+use Rattle.ms_runs.specs.Plain.{PlainState, Stepped, More, Stop, and_then, go_on, steps, through, plain_step, setting_of, start_world, start_frame}
 use Rattle.ms_runs.specs.Poisoned.{Poisoned}
 use Rattle.ms_runs.specs.Threads.{Fibers as Beings, thread_at, first_clean, with_answer, result_origin}
 use Rattle.ms_check_valid.specs.Formed.{Formed}
@@ -74,7 +74,7 @@ ends_told means schedule zero c = refl
 ends_told {F} {S} means schedule (suc n) c = by_step (λ d. ends_told means schedule n d) (fibers_step means schedule c)
   where
     by_step : ((d : Fibers F S) → (let at = ends_in means schedule n d in result at.0 at.1) ≡ go_on (λ c. result «end».Spent (world_of means c)) (steps (fibers_step means schedule) n d)) → (x : Stepped (Fibers F S)) → (let at = finish means (ends_in means schedule n) x in result at.0 at.1)
-        ≡ go_on (λ c. result «end».Spent (world_of means c)) (elim x as (λ z. Stepped (Fibers F S)) [ More d ↦ steps (fibers_step means schedule) n d | Stop e w ↦ Stop e w ])
+        ≡ go_on (λ c. result «end».Spent (world_of means c)) (and_then x (steps (fibers_step means schedule) n))
     by_step later (More d) = later d
     by_step later (Stop e w) = refl
 

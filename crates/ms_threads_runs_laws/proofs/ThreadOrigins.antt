@@ -526,8 +526,8 @@ module _ (d : Rules) (keep : KeepClean d) (widths : KeepWidths d) (m : Module) (
             let ps = read_all (read_poisoned (setting_of m setup) f.values) (operands i.op) at.root in
             let root = at.root + count_undefs (operands i.op) + 1 in
             let e = act (setting_of m setup) at i.op (map (λ p. p.value) ps) (counts i) in
-            moves_to shadow_reading (setting_of m setup) m (SameAnswers w) (λ fr u q. answers_kept w u _ (back_keeps fr u) q) at.site i.result ps (poisoned_result d i.op ps) (planes (setting_of m setup) at.site root i.op ps (counts i))
-            (λ v u q. answers_kept w u _ (planes_keep (setting_of m setup) at.site root i.op ps (counts i) v u) q) (keeping i.op e f) below e
+            moves_to shadow_reading (setting_of m setup) m (SameAnswers w) (λ fr u q. answers_kept w u (given_back fr u) (back_keeps fr u) q) at.site i.result ps (poisoned_result d i.op ps) (planes (setting_of m setup) at.site root i.op ps (counts i))
+            (λ v u q. answers_kept w u (planes (setting_of m setup) at.site root i.op ps (counts i) v u) (planes_keep (setting_of m setup) at.site root i.op ps (counts i) v u) q) (keeping i.op e f) below e
             (call_answers (setting_of m setup) at i.op (map (λ p. p.value) ps) w (counts i) call counted_answers)
 
       call_half : HalfLeads ran (Some (f ∷ below)) (Waits w rest) (goes_on (shadow_going (shadow_perform d (setting_of m setup) m (f ∷ below) (turned k w))) (λ g. More (Goes g.fiber g.shared others)))
