@@ -318,10 +318,9 @@ module _ (m : Module) (formed : Formed m) (valid : Valid m) (can : CanInstrument
   start_aligned k =
       let alike = start_alike m (to_first_report setup) k.fill in
       let sound = shadow_sound m formed valid (to_first_report setup) bytes_one in
-      let good = (sound.frames, start_clean m (to_first_report setup)) in
       let shared = low.start_shared m formed valid can (to_first_report setup) refl bytes_one k.fill (bytes_too k) in record {
         between = shadow_threads_start m setup;
-        lows = ((alike.frames, alike.world, good, good, shared, shared), record { stands = λ n. tt; picks = refl });
+        lows = ((alike.frames, alike.world, (sound.frames, start_clean m (to_first_report setup)), (sound.frames, start_clean m (to_first_report setup)), shared, shared), record { stands = λ n. tt; picks = refl });
         shows = ((refl, refl), record { stands = λ n. tt; picks = refl });
       }
 
