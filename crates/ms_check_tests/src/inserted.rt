@@ -237,7 +237,7 @@ fn taken(alloc: Global, widths: &[u8], next: u32) -> Option<Inserted>
     take_parameters(alloc, types.as_slice(), next).ok()
 }
 
-fn given(alloc: Global, word: &Word, next: u32) -> Option<Inserted> {
+fn returned(alloc: Global, word: &Word, next: u32) -> Option<Inserted> {
     let mask = operand(alloc, word.1).ok()?;
     let origin = operand(alloc, word.2).ok()?;
     give_result(alloc, &Ty::Int(word.0), &mask, &origin, next).ok()
@@ -252,7 +252,7 @@ fn handed(alloc: Global, hand: &Hand, next: u32) -> Option<Inserted>
             pass_arguments(alloc, all.as_slice(), next).ok()
         }
         Hand::Parameters(widths) => taken(alloc, widths, next),
-        Hand::Result(word) => given(alloc, word, next),
+        Hand::Result(word) => returned(alloc, word, next),
         Hand::ResultOf(width) => take_result(alloc, &Ty::Int(*width), next).ok(),
     }
 }
