@@ -345,8 +345,7 @@ fn is_checked<R: Eprint>(rt: &R, alloc: Global, m: Module, row: &Round) -> bool
 }
 
 #[tactic(auto, unfolding(ms_text_grammar::specs::Texts::max_bytes))]
-fn agrees<R: Eprint>(rt: &R, alloc: Global, row: &Round) -> bool {
-    let text = row.0.as_bytes();
+fn agrees<R: Eprint>(rt: &R, alloc: Global, text: &[u8], row: &Round) -> bool {
     if text.len() > 1 << 20 {
         return false;
     }
@@ -358,7 +357,7 @@ fn agrees<R: Eprint>(rt: &R, alloc: Global, row: &Round) -> bool {
 
 fn all_agree<R: Eprint>(rt: &R, alloc: Global, rows: &[Round]) -> bool {
     for (number, row) in rows.iter().enumerate() {
-        if !agrees(rt, alloc, row) {
+        if !agrees(rt, alloc, row.0.as_bytes(), row) {
             return fails(rt, "row", number);
         }
     }
