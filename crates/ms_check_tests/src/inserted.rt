@@ -241,7 +241,7 @@ fn taken(alloc: Global, widths: &[u8], next: u32) -> Option<Inserted>
     take_parameters(alloc, types.as_slice(), next).ok()
 }
 
-fn given(alloc: Global, word: &Word, next: u32) -> Option<Inserted> {
+fn returned(alloc: Global, word: &Word, next: u32) -> Option<Inserted> {
     let mask = operand(alloc, word.1).ok()?;
     let origin = operand(alloc, word.2).ok()?;
     give_result(alloc, &Ty::Int(word.0), &mask, &origin, next).ok()
@@ -256,7 +256,7 @@ fn handed(alloc: Global, hand: &Hand, next: u32) -> Option<Inserted>
             pass_arguments(alloc, all.as_slice(), next).ok()
         }
         Hand::Parameters(widths) => taken(alloc, widths, next),
-        Hand::Result(word) => given(alloc, word, next),
+        Hand::Result(word) => returned(alloc, word, next),
         Hand::ResultOf(width) => take_result(alloc, &Ty::Int(*width), next).ok(),
     }
 }
@@ -349,8 +349,7 @@ fn is_checked<R: Eprint>(rt: &R, alloc: Global, m: Module, row: &Round) -> bool
 }
 
 #[tactic(auto, unfolding(ms_text_grammar::specs::Texts::max_bytes))]
-fn agrees<R: Eprint>(rt: &R, alloc: Global, row: &Round) -> bool {
-    let text = row.0.as_bytes();
+fn agrees<R: Eprint>(rt: &R, alloc: Global, text: &[u8], row: &Round) -> bool {
     if text.len() > 1 << 20 {
         return false;
     }
@@ -362,7 +361,7 @@ fn agrees<R: Eprint>(rt: &R, alloc: Global, row: &Round) -> bool {
 
 fn all_agree<R: Eprint>(rt: &R, alloc: Global, rows: &[Round]) -> bool {
     for (number, row) in rows.iter().enumerate() {
-        if !agrees(rt, alloc, row) {
+        if !agrees(rt, alloc, row.0.as_bytes(), row) {
             return fails(rt, "row", number);
         }
     }
