@@ -86,7 +86,7 @@ static CASES: [Case; 2] = [
     ),
 ];
 
-fn fused(form: &ShortOp) -> Option<Fused> {
+fn kind_of(form: &ShortOp) -> Option<Fused> {
     match form {
         ShortOp::Ordered { .. } => Some(Fused::Ordered),
         ShortOp::Equal { .. } => Some(Fused::Equal),
@@ -103,7 +103,7 @@ fn fused(form: &ShortOp) -> Option<Fused> {
 fn count(shorts: &[ShortInst], kind: Fused) -> usize {
     let mut found: usize = 0;
     for short in shorts {
-        if fused(&short.form) == Some(kind) {
+        if kind_of(&short.form) == Some(kind) {
             found = found.saturating_add(1);
         }
     }
