@@ -153,20 +153,24 @@ fn is_checked<R: Threads + Sync + Eprint>(
 }
 
 #[tactic(auto, unfolding(ms_text_grammar::specs::Texts::max_bytes))]
-fn agrees<R: Threads + Sync + Eprint>(rt: &R, alloc: Global, case: &Case) -> bool {
-    let text = case.0.as_bytes();
+fn agrees<R: Threads + Sync + Eprint>(
+    rt: &R,
+    alloc: Global,
+    text: &[u8],
+    wanted: &[(Fused, usize)],
+) -> bool {
     if text.len() > 1 << 20 {
         return false;
     }
     match read(alloc, text, Form::Plain) {
-        Ok(m) => is_checked(rt, alloc, m, case.1),
+        Ok(m) => is_checked(rt, alloc, m, wanted),
         Err(_) => false,
     }
 }
 
 fn all_agree<R: Threads + Sync + Eprint>(rt: &R, alloc: Global, cases: &[Case]) -> bool {
     for (number, case) in cases.iter().enumerate() {
-        if !agrees(rt, alloc, case) {
+        if !agrees(rt, alloc, case.0.as_bytes(), case.1) {
             return fails(rt, "row", number);
         }
     }
