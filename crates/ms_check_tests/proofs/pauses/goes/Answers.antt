@@ -8,4 +8,4 @@ advance-requires-clause-runs g c = (c.args.setup.now, nothing_beside, plain_star
 pub stands-requires : goal.stands-requires
 stands-requires g c =
     let asked = c.in-Ok-Asked.ensures.advanced c.args.setup.now nothing_beside (plain_start c.args.m.now c.args.setup.now) c.requires.running in
-    (c.advance.new.world, c.args.setup.now, nothing_beside, asked.within, asked.stands)
+    (c.advance.new.world, (c.args.setup.now, nothing_beside, asked.within, asked.stands))
