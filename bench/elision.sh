@@ -1,5 +1,5 @@
 #!/usr/bin/env bash
-# What `check` takes beside `run` on C programs as clang writes them at -O0: a sieve in an array, recursive calls, products of matrices, a list on
+# What `check` takes beside `run` on C programs as clang writes them at -O0: a tally in an array, recursive calls, products of matrices, a list on
 # the heap, and text that is set, copied and walked; each at two sizes, so that all but the steps falls out, in instructions by callgrind.
 # Then, where there is `lli`, the processor time of `check` on larger sizes beside its interpreter on the same module, in turn.
 # Needs clang (14 or later), valgrind, and the program as `rt run` built it (crates/msan/out/msan). Outside the gate.
@@ -11,22 +11,21 @@ program=${1:-$top/crates/msan/out/msan}
 pointers=()
 clang --version | grep -q 'version 14' && pointers=(-mllvm -opaque-pointers)
 
-cat >"$work/sieve.c" <<'END'
+cat >"$work/tally.c" <<'END'
 #include <stdlib.h>
 int main(void) {
-  int count = 0;
-  char *sieve = malloc(N + 1);
+  int most = 0;
+  char *tally = malloc(N + 1);
   for (int i = 0; i <= N; i++)
-    sieve[i] = 1;
-  for (int i = 2; i <= N; i++) {
-    if (!sieve[i])
-      continue;
-    count++;
-    for (int k = i + i; k <= N; k += i)
-      sieve[k] = 0;
+    tally[i] = 0;
+  for (int i = 1; i <= N; i++) {
+    for (int k = i; k <= N; k += i)
+      tally[k]++;
+    if (tally[i] > most)
+      most = tally[i];
   }
-  free(sieve);
-  return count;
+  free(tally);
+  return most;
 }
 END
 cat >"$work/calls.c" <<'END'
@@ -104,7 +103,7 @@ cost() { # command, program, size
     instructions "$program" "$1" --steps 1000000000 --reports 1000 "$work/$2.ll"
 }
 
-for case in sieve:2000:4000 calls:14:17 matrix:4:8 list:600:1200 text:20:40; do
+for case in tally:500:1000 calls:14:17 matrix:4:8 list:600:1200 text:20:40; do
     IFS=: read -r name small large <<<"$case"
     run=$(($(cost run "$name" "$large") - $(cost run "$name" "$small")))
     check=$(($(cost check "$name" "$large") - $(cost check "$name" "$small")))
@@ -119,7 +118,7 @@ seconds() { # command
 command -v lli >/dev/null || { echo "no lli: nothing is compared"; exit 0; }
 opaque=()
 lli --version | grep -q 'version 14' && opaque=(-opaque-pointers)
-for case in sieve:200000 calls:23 matrix:200 list:40000 text:1500; do
+for case in tally:60000 calls:23 matrix:200 list:40000 text:1500; do
     IFS=: read -r name size <<<"$case"
     module "$name" "$size"
     for turn in 1 2 3; do

@@ -86,26 +86,24 @@ static void letters(void) {
   printed += printf("\nwords above a byte: %c%c%c\n", 256 + 'a', 65536 + 'b', -256 + 'c');
 }
 
-static int primes(int most) {
-  char *sieve = malloc(most + 1);
-  int count = 0;
-  if (!sieve)
+static int tallies(int most) {
+  char *tally = malloc(most + 1);
+  int sum = 0;
+  if (!tally)
     return 0;
-  memset(sieve, 1, most + 1);
-  title("Primes");
-  for (int i = 2; i <= most; i++) {
-    if (!sieve[i])
-      continue;
-    count++;
-    number(i, 6);
-    if (count % 10 == 0)
+  memset(tally, 0, most + 1);
+  title("How many numbers divide each");
+  for (int i = 1; i <= most; i++) {
+    for (int k = i; k <= most; k += i)
+      tally[k]++;
+    sum += tally[i];
+    number(tally[i], 4);
+    if (i % 15 == 0)
       printed += printf("\n");
-    for (int k = i + i; k <= most; k += i)
-      sieve[k] = 0;
   }
-  free(sieve);
-  printed += printf("\n%d of %d, that is %d%%\n", count, most, 100 * count / most);
-  return count;
+  free(tally);
+  printed += printf("\n%d for %d, that is %d%% of each\n", sum, most, 100 * sum / most);
+  return sum;
 }
 
 static void words(void) {
@@ -197,13 +195,13 @@ int main(void) {
   powers();
   signs();
   letters();
-  int count = primes(1000);
+  int count = tallies(300);
   words();
   long sum = stock();
   triangle(12);
   bits(0x8badf00du);
   divisors(30);
   formats();
-  printed += printf("\n%d primes, %ld, %d bytes before this line\n", count, sum, printed);
+  printed += printf("\n%d tallies, %ld, %d bytes before this line\n", count, sum, printed);
   return printed % 256;
 }

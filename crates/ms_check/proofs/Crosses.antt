@@ -8,7 +8,7 @@ use Rattle.ms_bits.proofs.operations.CastOp.TheSendSync as casts
 use Rattle.ms_bits.proofs.operations.Flags.TheSendSync as flags
 use Rattle.ms_ir.proofs.calls.External.TheSendSync as externals
 use Rattle.ms_ir.proofs.calls.RuntimeFn.TheSendSync as functions
-use Rattle.ms_ir.proofs.Crosses.{List-send, List-sync, Module-send, Module-sync}
+use Rattle.ms_ir.proofs.Crosses.{List-send, List-sync, Ty-send, Ty-sync, Module-send, Module-sync}
 use Rattle.ms_machine_code.specs.contracts.short.ValueBits as part
 use Rattle.ms_machine_code.specs.contracts.short.ShortOp as form
 use Rattle.ms_machine_code.specs.contracts.short.ShortInst as short
@@ -67,7 +67,7 @@ Code-send = variants_send code.enum (
                             (
                               (search sendable, (List-send _ WordSource-send, (search (Crossing.crosses, sendable) depth 60 fits 20000, tt))),
                               (
-                                (externals.the_send, (List-send _ WordSource-send, (search (Crossing.crosses, sendable) depth 60 fits 20000, tt))),
+                                (externals.the_send, (List-send _ WordSource-send, (List-send _ Ty-send, (search (Crossing.crosses, sendable) depth 60 fits 20000, tt)))),
                                 (
                                   (functions.the_send, (List-send _ WordSource-send, (search (Crossing.crosses, sendable) depth 60 fits 20000, tt))),
                                   (
@@ -309,7 +309,7 @@ Code-sync = variants_sync code.enum (
                             (
                               (search sendable, (List-sync _ WordSource-sync, (search (Crossing.crosses, sendable) depth 60 fits 20000, tt))),
                               (
-                                (externals.the_sync, (List-sync _ WordSource-sync, (search (Crossing.crosses, sendable) depth 60 fits 20000, tt))),
+                                (externals.the_sync, (List-sync _ WordSource-sync, (List-sync _ Ty-sync, (search (Crossing.crosses, sendable) depth 60 fits 20000, tt)))),
                                 (
                                   (functions.the_sync, (List-sync _ WordSource-sync, (search (Crossing.crosses, sendable) depth 60 fits 20000, tt))),
                                   (

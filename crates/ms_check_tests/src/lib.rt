@@ -11,6 +11,8 @@ mod edges;
 #[cfg(test)]
 mod externals;
 #[cfg(test)]
+mod inserted;
+#[cfg(test)]
 mod layouts;
 #[cfg(test)]
 mod marks;
@@ -18,6 +20,10 @@ mod marks;
 mod names;
 #[cfg(test)]
 mod order;
+#[cfg(test)]
+mod pauses;
+#[cfg(test)]
+mod pieces;
 #[cfg(test)]
 mod sites;
 #[cfg(test)]

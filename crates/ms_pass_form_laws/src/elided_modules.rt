@@ -23,7 +23,7 @@ pub fn elided_faithful()
     ensures { (m : Module) (clean : ℕ → Name → Bool) → Formed m → Valid m → CanInstrument m → SaysClean m clean → Faithful m (pass (eliding clean m) m) }
 {}
 
-/// And at each report the calls stand that stand at that report of the shadow run.
+/// At each report of its plain run the calls stand that stand at that report of the shadow run.
 pub fn elided_calls()
     ensures { (m j : Module) → Formed m → Valid m → CanInstrument m → IsElided m j → SameCalls m j }
 {}

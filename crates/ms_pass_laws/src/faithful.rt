@@ -20,8 +20,9 @@ pub fn modules_are_taken()
     ensures taken { (m : Module) → Formed m → Valid m → CanInstrument m → IsTaken (numbering m) m }
 {}
 
-/// Where a state of the instrumented module follows one of the shadow run, the calls that stand have the same sites in both, so
-/// that at each report of a plain run of the instrumented module the calls stand that stand at that report of the shadow run.
+/// Where a state of the instrumented module follows one of the shadow run, the calls that stand have the same sites in
+/// both. So at each report of a plain run of the instrumented module the calls stand that stand at that report of the
+/// shadow run.
 pub fn calls_are_the_same()
     ensures sites { (s : Setting) (numbers : ℕ → Numbering) (m : Module) (c : ShadowState) (d : PlainState) → Follows s numbers m c d → call_sites m c.frames ≡ call_sites (pass numbers m) d.frames }
     ensures taken { (numbers : ℕ → Numbering) (m : Module) → IsTaken numbers m → SameCalls m (pass numbers m) }

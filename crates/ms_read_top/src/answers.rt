@@ -1,7 +1,7 @@
 //! What a reader of a whole text answers.
 
 ghost use Rattle.std.specs.Prelude.{◌≡◌, ◌≤◌, ◌<◌, ◌-◌, ◌^◌, length};
-ghost use Rattle.ms_text_grammar.specs.Texts.{HasTokens, max_bytes as most_bytes, max_tokens as most_tokens, place_in};
+ghost use Rattle.ms_text_grammar.specs.Texts.{HasTokens, max_bytes, max_tokens as most_tokens, place_in};
 ghost use Rattle.ms_lex.specs.Tokens.{InOrder};
 ghost use Rattle.ms_read_body.specs.Calls as spec;
 ghost use Rattle.ms_read_top.specs.Reading.{IsReading, of_lexer};
@@ -13,17 +13,6 @@ use ms_read_body::{ReadError, error_at, place_of};
 use ms_read_cursor::Tokens;
 use ms_text_grammar::Cause;
 use std::alloc::Global;
-
-/// How many bytes a text may have.
-#[tactic(auto, unfolding(ms_text_grammar::specs::Texts::max_bytes))]
-pub fn max_bytes(form: Form) -> u64
-    ensures { result ≡ most_bytes form }
-{
-    match form {
-        Form::Plain => 1 << 22,
-        Form::Instrumented => 1 << 27,
-    }
-}
 
 /// How many tokens a text may have.
 #[tactic(auto, unfolding(ms_text_grammar::specs::Texts::max_tokens))]
@@ -73,7 +62,7 @@ fn without_tokens(error: LexError) -> ReadError
 /// What the text reads as, or why it isn't read.
 #[tactic(auto, using(crate::proofs::Told::short_text, crate::proofs::Told::has_tokens, crate::proofs::Told::told_lexer))]
 pub fn answer_for(alloc: Global, text: &[u8], form: Form) -> Result<Module, ReadError>
-    requires { length text.now ≤ most_bytes form }
+    requires { length text.now ≤ max_bytes form }
     ensures { IsReading form text.now result }
 {
     match tokens(alloc, text, max_tokens(form)) {

@@ -14,7 +14,7 @@ mod named_types;
 mod other_entities;
 mod reading;
 
-pub use answers::{max_bytes, max_tokens};
+pub use answers::max_tokens;
 pub use entities::entity;
 pub use entity_starts::entity_begins;
 pub use modules::no_parts;

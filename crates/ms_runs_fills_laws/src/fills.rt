@@ -4,12 +4,12 @@ ghost use Rattle.ms_ir.specs.{ThreadCalls.{is_threaded}, declared.syntax.Module.
 ghost use Rattle.ms_runs.specs.{declared.runs.Setup.{Setup}, declared.runs.Report.{Report}, Plain.{setting_of, plain}};
 ghost use Rattle.ms_runs.specs.{Masks.{by_completions}, Shadow.{ShadowState, shadow_step, shadow}, LowEqual.{LowEqual}};
 ghost use Rattle.ms_runs.specs.{Faithful.{Fair, Faithful}, Shadow.{shadow_start}};
+ghost use Rattle.ms_runs.specs.Calls.{call_sites, plain_calls, shadow_calls, SameCalls};
 ghost use Rattle.ms_check_valid.specs.{Formed.{Formed}, Valid.{Valid}};
 ghost use Rattle.ms_runs_good_laws.specs.Fills.{IsFill, refilled, to_first_report, NoBlindUse, SameShown, SameUnderFills, InsertedUnderFills};
 ghost use Rattle.ms_runs_good_laws.specs.{GoodWorlds.{GivesBytes}, GoodRuns.{LeadsTo}};
 ghost use Rattle.ms_runs_fills_laws.specs.{Placed.{SoundPlaced}, First.{FirstOf}, Alike.{StepsAlike, CountsNone}};
 ghost use Rattle.ms_runs_fills_laws.specs.{Checked.{HoldsUnderFills}, CallsAlike.{CallsUnderFills}};
-ghost use Rattle.ms_runs.specs.Calls.{call_sites, plain_calls, shadow_calls, SameCalls};
 
 /// Two runs of a formed and valid module under two fills start in low equal states. From low equal states a step that
 /// counts no blind use leads to low equal states, or ends both runs alike, where one report ends a run. The states that
@@ -51,15 +51,15 @@ pub fn checked_runs()
     ensures { (m : Module) → Formed m → Valid m → is_threaded m ≡ false → NoMarks m → (j : Module) → Faithful m j → (setup : Setup) → Fair setup → HoldsUnderFills m setup (plain j setup) }
 {}
 
-/// Where a run has no blind use, the calls at its first report are those under every fill. Of low equal states the calls have the
-/// same sites.
+/// Where a run has no blind use, the calls at its first report are those under every fill. In low equal states calls with
+/// the same sites stand.
 pub fn first_calls()
     ensures sites { (m : Module) (c d : ShadowState) → LowEqual c d → call_sites m c.frames ≡ call_sites m d.frames }
     ensures holds { (m : Module) → Formed m → Valid m → is_threaded m ≡ false → NoMarks m → (setup : Setup) → GivesBytes setup → CallsUnderFills m setup (shadow m setup).blind (shadow_calls m setup) }
 {}
 
-/// Each report of a plain run has its calls, and so has each of the shadow run of a module with a faithful form whose reports have
-/// the same.
+/// Each report of a plain run has its calls, and so has each report of the shadow run of a module, where a faithful form
+/// tells the same calls.
 pub fn one_each()
     ensures plain_runs { (m : Module) (setup : Setup) → length (plain_calls m setup) ≡ length (plain m setup).reports }
     ensures shadow_runs { (m j : Module) → Faithful m j → SameCalls m j → (setup : Setup) → Fair setup → length (shadow_calls m setup) ≡ length (shadow m setup).reports }

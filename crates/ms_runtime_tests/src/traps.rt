@@ -148,7 +148,12 @@ exit 0~
 "#;
 
 /// Sums and shifts keep their flags.
-static SUMS: &[u8] = br#"define i32 @main() { %r = add nuw i8 -1, 1 ret i32 0 }~
+static SUMS: &[u8] = br#"define i32 @main() { %1 = add nsw i32 2147483647, 1 ret i32 0 }~
+~
+trap nsw at site 1 in @main~
+3
+====
+define i32 @main() { %r = add nuw i8 -1, 1 ret i32 0 }~
 ~
 trap nuw at site 1 in @main~
 3

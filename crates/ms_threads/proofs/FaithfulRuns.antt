@@ -21,10 +21,10 @@ use Rattle.ms_pass_form_laws.specs.Elided.{IsElided}
 use Rattle.ms_pass_form_laws.proofs.Elided.{known, formed_valid}
 use Rattle.ms_runs_threads.specs.PlainFibers.{plain_threads}
 use Rattle.ms_runs_threads.specs.ShadowFibers.{shadow_threads}
+use Rattle.ms_runs_threads.specs.Calls.{plain_threads_calls, shadow_threads_calls}
 use Rattle.ms_threads_laws.proofs.SameShown.{threads_undisturbed}
 use Rattle.ms_threads_laws.proofs.KeptRuns.{threads_followed, calls_followed}
-use Rattle.ms_runs_threads.specs.Calls.{plain_threads_calls, shadow_threads_calls}
-use Rattle.ms_threads_laws.proofs.UnderFills.{first_threads, alone_threads, first_same, same_threads, shown_threads}
+use Rattle.ms_threads_laws.proofs.UnderFills.{first_threads, alone_threads, first_same, same_threads, same_threads_calls, shown_threads}
 use Rattle.ms_threads.specs.Faithful.{ThreadsUnderFills, FaithfulThreads}
 use Rattle.ms_threads.specs.Fills.{ThreadsHoldUnderFills}
 use Rattle.ms_threads.proofs.Stripped as stripped
@@ -38,6 +38,7 @@ module _ (m : Module) (formed : Formed m) (valid : Valid m) (can : CanInstrument
   under_fills : ThreadsUnderFills m setup schedule
   under_fills = record {
     same = λ quiet fill is. same_threads m formed valid can setup bytes schedule quiet fill is;
+    calls = λ quiet fill is. same_threads_calls m formed valid can setup bytes schedule quiet fill is;
     shown = λ quiet none fill is.
         let r = shadow_threads m (to_first_report setup) schedule in
         let q = shadow_threads m setup schedule in
@@ -78,7 +79,7 @@ module _ (m : Module) (formed : Formed m) (valid : Valid m) (can : CanInstrument
       ap (λ (k : Module). plain_threads k setup schedule) elided.is_pass
       ∙ threads_followed m formed valid (eliding elided.clean m) elided.exact.sound setup fair (known m formed valid can elided.clean setup) schedule
 
-  pub j_calls : (setup : Setup) → Fair setup → (schedule : List ℕ) → plain_threads_calls j setup schedule ≡ shadow_threads_calls m setup schedule
+  j_calls : (setup : Setup) → Fair setup → (schedule : List ℕ) → plain_threads_calls j setup schedule ≡ shadow_threads_calls m setup schedule
   j_calls setup fair schedule =
       ap (λ (k : Module). plain_threads_calls k setup schedule) elided.is_pass
       ∙ calls_followed m formed valid (eliding elided.clean m) elided.exact.sound setup fair (known m formed valid can elided.clean setup) schedule
@@ -93,6 +94,7 @@ module _ (m : Module) (formed : Formed m) (valid : Valid m) (can : CanInstrument
   faithful_threads = record {
     same = stripped.same_threads m j j_valid j_strips;
     runs = λ setup fair schedule some. j_runs setup fair schedule;
+    calls = λ setup fair schedule some. j_calls setup fair schedule;
     undisturbed = λ setup fair schedule some.
         subst (λ (r : RunResult). Undisturbed r (plain_threads m setup schedule)) (sym (j_runs setup fair schedule)) (threads_undisturbed by_completions m can.plain.unmarked setup schedule);
     under_fills = λ setup fair schedule some. under_fills m formed valid can setup fair schedule;

@@ -7,10 +7,9 @@ ghost use Rattle.ms_runs_good_laws.specs.{Fills.{IsFill, refilled, to_first_repo
 ghost use Rattle.ms_runs_fills_laws.specs.First.{FirstOf};
 ghost use Rattle.ms_runs_threads.specs.{PlainFibers.{plain_threads}, ShadowFibers.{shadow_threads}, Calls.{shadow_threads_calls}};
 
-/// With one schedule, a shadow run that ends at its first report and has no blind use is the same under every fill, with the calls
-/// at that report; where it
-/// has no report, the program itself prints the same and ends in the same way under every fill. A run up to its first report is
-/// the beginning of the run that goes on, with every limit of reports.
+/// With one schedule, a shadow run that ends at its first report and has no blind use is the same under every fill, with the
+/// calls at that report; where it has no report, the program itself prints the same and ends in the same way under every
+/// fill. A run up to its first report is the beginning of the run that goes on, with every limit of reports.
 pub fn threads_fills()
     ensures same { (m : Module) → Formed m → Valid m → CanInstrument m → (setup : Setup) → GivesBytes setup → (schedule : List ℕ)
         → (shadow_threads m (to_first_report setup) schedule).blind ≡ 0 → (fill : List ℕ) → IsFill fill

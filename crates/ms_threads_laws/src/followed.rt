@@ -16,7 +16,8 @@ pub fn threads_followed()
         → (setup : Setup) → Fair setup → KnownModule (setting_of m setup) numbers m → (schedule : List ℕ) → plain_threads (pass numbers m) setup schedule ≡ shadow_threads m setup schedule }
 {}
 
-/// And at each report the same calls stand, down to `main`, or to the first function of a thread, which the same call made.
+/// At each report of such a run the calls stand that stand at that report of the shadow run: down to `main`, or to the first
+/// function of a thread, which the same call made in both.
 pub fn thread_calls_followed()
     ensures { (m : Module) → Formed m → Valid m → (numbers : ℕ → Numbering)
         → ((n : ℕ) (f : Func) → func_at m n ≡ Some f → (x : Name) → (numbers n).env.clean x ≡ true → IsClean m f x)

@@ -2,26 +2,12 @@
 use Rattle.std.proofs.Common.{◌≡◌, ◌<◌, ◌≤◌, ◌⊎◌, inl, inr, ℕ, zero, suc, ◌+◌, ◌-◌, List, [], ◌∷◌, refl, sym, ap, ◌∙◌, subst, arith}
 use Rattle.std.specs.Prelude.{◌++◌, map}
 use Rattle.ms_threads_schedules_laws.specs.Picks.{Pick}
-use Rattle.ms_threads_schedules_laws.specs.Trees.{OneTree, Begins, Somewhere, branches, others, below, above}
+use Rattle.ms_threads_schedules_laws.specs.Trees.{OneTree, Begins, Somewhere, Within, branches, others, below, above}
 use Rattle.ms_threads_schedules_laws.specs.Explored.{SeenOrLeft, Explored, Covers}
+use Rattle.ms_threads_schedules_laws.proofs.Lists.{left_of, right_of, in_part, within_another, mapped}
 
 pub same_cons : (p q : Pick) (ps qs : List Pick) → p.chosen ≡ q.chosen → p.among ≡ q.among → ps ≡ qs → (p ∷ ps) ≡ (q ∷ qs)
 same_cons p q ps qs e f g = λ i. record { chosen = e i; among = f i } ∷ g i
-
-module _ {X : Type 0} (P : X → Type 0) where
-  pub left_of : (xs ys : List X) → Somewhere P xs → Somewhere P (xs ++ ys)
-  left_of [] ys h = absurd h
-  left_of (x ∷ xs) ys (inl h) = inl h
-  left_of (x ∷ xs) ys (inr h) = inr (left_of xs ys h)
-
-  pub right_of : (xs ys : List X) → Somewhere P ys → Somewhere P (xs ++ ys)
-  right_of [] ys h = h
-  right_of (x ∷ xs) ys h = inr (right_of xs ys h)
-
-mapped : {X Y : Type 0} (P : X → Type 0) (Q : Y → Type 0) (f : X → Y) → ((x : X) → P x → Q (f x)) → (xs : List X) → Somewhere P xs → Somewhere Q (map f xs)
-mapped P Q f step [] h = absurd h
-mapped P Q f step (x ∷ xs) (inl h) = inl (step x h)
-mapped P Q f step (x ∷ xs) (inr h) = inr (mapped P Q f step xs h)
 
 three_up : (a b : ℕ) → (a ≡ b) ⊎ ((a < b) ⊎ (b < a)) → (suc a ≡ suc b) ⊎ ((suc a < suc b) ⊎ (suc b < suc a))
 three_up a b (inl e) = inl (ap suc e)
@@ -98,16 +84,31 @@ module _ (picks : List ℕ → List Pick) where
       at (inl h) = h
       at (inr h) = absurd h
 
-  -- a run of the first beginning that is left
-  pub one_more : ((a b : List ℕ) → OneTree (picks a) (picks b)) → (seen : List (List Pick)) (told : List ℕ) (left : List (List ℕ)) → Explored picks seen (told ∷ left)
-      → (own : List ℕ) → Begins told (picks own) → Explored picks (picks own ∷ seen) (branches told (picks own) ++ left)
-  one_more tree seen told left all own begins schedule = at (all schedule)
+  -- a run of a beginning that is left, wherever it stands
+  pub one_more : ((a b : List ℕ) → OneTree (picks a) (picks b)) → (seen : List (List Pick)) (before : List (List ℕ)) (told : List ℕ) (after : List (List ℕ)) → Explored picks seen (before ++ told ∷ after)
+      → (own : List ℕ) → Begins told (picks own) → Explored picks (picks own ∷ seen) ((before ++ after) ++ branches told (picks own))
+  one_more tree seen before told after all own begins schedule = at (all schedule)
     where
-      by_branch : (picks schedule ≡ picks own) ⊎ Somewhere (λ t. Begins t (picks schedule)) (branches told (picks own)) → SeenOrLeft (picks schedule) (picks own ∷ seen) (branches told (picks own) ++ left)
-      by_branch (inl e) = inl (inl e)
-      by_branch (inr h) = inr (left_of (λ t. Begins t (picks schedule)) (branches told (picks own)) left h)
+      rest : Somewhere (λ t. Begins t (picks schedule)) (before ++ after) → SeenOrLeft (picks schedule) (picks own ∷ seen) ((before ++ after) ++ branches told (picks own))
+      rest h = inr (left_of (λ t. Begins t (picks schedule)) (before ++ after) (branches told (picks own)) h)
 
-      at : SeenOrLeft (picks schedule) seen (told ∷ left) → SeenOrLeft (picks schedule) (picks own ∷ seen) (branches told (picks own) ++ left)
+      by_branch : (picks schedule ≡ picks own) ⊎ Somewhere (λ t. Begins t (picks schedule)) (branches told (picks own)) → SeenOrLeft (picks schedule) (picks own ∷ seen) ((before ++ after) ++ branches told (picks own))
+      by_branch (inl e) = inl (inl e)
+      by_branch (inr h) = inr (right_of (λ t. Begins t (picks schedule)) (before ++ after) (branches told (picks own)) h)
+
+      by_place : Somewhere (λ t. Begins t (picks schedule)) before ⊎ Somewhere (λ t. Begins t (picks schedule)) (told ∷ after) → SeenOrLeft (picks schedule) (picks own ∷ seen) ((before ++ after) ++ branches told (picks own))
+      by_place (inl h) = rest (left_of (λ t. Begins t (picks schedule)) before after h)
+      by_place (inr (inl h)) = by_branch (beside told (picks own) (picks schedule) begins h (tree schedule own))
+      by_place (inr (inr h)) = rest (right_of (λ t. Begins t (picks schedule)) before after h)
+
+      at : SeenOrLeft (picks schedule) seen (before ++ told ∷ after) → SeenOrLeft (picks schedule) (picks own ∷ seen) ((before ++ after) ++ branches told (picks own))
       at (inl h) = inl (inr h)
-      at (inr (inl h)) = by_branch (beside told (picks own) (picks schedule) begins h (tree schedule own))
-      at (inr (inr h)) = inr (right_of (λ t. Begins t (picks schedule)) (branches told (picks own)) left h)
+      at (inr h) = by_place (in_part (λ t. Begins t (picks schedule)) before (told ∷ after) h)
+
+  -- the same lists, or longer ones, in any order
+  pub in_order : (seen seen' : List (List Pick)) (left left' : List (List ℕ)) → Within seen seen' → Within left left' → Explored picks seen left → Explored picks seen' left'
+  in_order seen seen' left left' w v all schedule = at (all schedule)
+    where
+      at : SeenOrLeft (picks schedule) seen left → SeenOrLeft (picks schedule) seen' left'
+      at (inl h) = inl (within_another (λ qs. picks schedule ≡ qs) seen seen' w h)
+      at (inr h) = inr (within_another (λ t. Begins t (picks schedule)) left left' v h)

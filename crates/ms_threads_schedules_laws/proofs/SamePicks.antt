@@ -8,7 +8,8 @@ use Rattle.ms_runs.specs.Plain.{Stepped, More, Stop}
 use Rattle.ms_runs.specs.Threads.{thread_at}
 use Rattle.ms_runs_threads.specs.Fibers.{Due, Own, Asks, Returns, Going, Meaning, Others, Fibers, Goes, Waits, goes_on, runnable, standing, turned, with_world, ended, moved, moves, resumed, resumes, picked, fibers_step, world_of, finish, ends_in}
 use Rattle.ms_threads_schedules_laws.specs.Picks.{Pick, number_at, pick_by, picks_of, picked_now, picked_on, picks_in, schedule_of, Chooses}
-use Rattle.ms_threads_schedules_laws.specs.Trees.{OneTree, Chosen}
+use Rattle.ms_threads_schedules_laws.specs.Trees.{OneTree}
+use Rattle.ms_threads_schedules_laws.specs.Explored.{IsTree}
 
 module _ {F S : Type 0} (means : Meaning F S) where
   -- ---- one tree
@@ -82,6 +83,10 @@ module _ {F S : Type 0} (means : Meaning F S) where
   own_chooses a zero c = tt
   own_chooses a (suc n) (Goes f s rest) = own_on a n rest.picks (λ c. own_chooses a n c) (moved means f s rest (means.due f)) (moved_counts f s rest (means.due f))
   own_chooses a (suc n) (Waits s rest) = own_pick a n (λ c. own_chooses a n c) s rest (runnable means.joins (means.world s).threads rest.stands)
+
+  -- the runs that begin in a state before the first pick
+  pub fiber_tree : (n : ℕ) (c : Fibers F S) → picks_of c ≡ 0 → IsTree (λ schedule. picks_in means schedule n c)
+  fiber_tree n c e = record { one = λ a b. one_tree a b n c; chooses = λ schedule. subst (λ k. Chooses schedule k (picks_in means schedule n c)) e (own_chooses schedule n c) }
 
   -- ---- a schedule that chooses as the run of another one did
 

@@ -1,3 +1,4 @@
 pub mod Picks
 pub mod Trees
 pub mod Explored
+pub mod Promise

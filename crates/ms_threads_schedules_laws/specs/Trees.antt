@@ -1,5 +1,5 @@
 -- The tree of picks: which lists of picks can be those of two schedules, and what is left of it beside one of them (own).
-use Rattle.std.specs.Prelude.{◌≡◌, ◌<◌, ◌⊎◌, ℕ, zero, suc, ◌+◌, ◌-◌, Bool, true, false, List, [], ◌∷◌, ◌++◌, map, Option, Some, None, ltb, eqb, if◌then◌else◌}
+use Rattle.std.specs.Prelude.{◌≡◌, ◌<◌, ◌⊎◌, ℕ, zero, suc, ◌+◌, ◌-◌, List, [], ◌∷◌, ◌++◌, map}
 use Rattle.ms_threads_schedules_laws.specs.Picks.{Pick}
 
 -- each pick chose one that could go on
@@ -39,35 +39,23 @@ branches ns [] = []
 branches (n ∷ ns) (p ∷ ps) = map (λ l. n ∷ l) (branches ns ps)
 branches [] (p ∷ ps) = map (λ n. n ∷ []) (others p) ++ map (λ l. p.chosen ∷ l) (branches [] ps)
 
+-- ---- lists
+
 -- one of a list has a property
 abbrev pub Somewhere : {X : Type 0} → (X → Type 0) → List X → Type 0
 Somewhere P [] = ⊥
 Somewhere P (x ∷ xs) = P x ⊎ Somewhere P xs
 
--- ---- depth first
+-- each one has it
+abbrev pub Everywhere : {X : Type 0} → (X → Type 0) → List X → Type 0
+Everywhere P [] = Unit {0}
+Everywhere P (x ∷ xs) = P x × Everywhere P xs
 
--- from a pick on the first was chosen, each time
-abbrev pub Lowest : List Pick → Type 0
-Lowest [] = Unit {0}
-Lowest (p ∷ ps) = (p.chosen ≡ 0) × Lowest ps
+-- each one is related to each that comes later
+abbrev pub Pairwise : {X : Type 0} → (X → X → Type 0) → List X → Type 0
+Pairwise R [] = Unit {0}
+Pairwise R (x ∷ xs) = Everywhere (R x) xs × Pairwise R xs
 
--- picks are as told, and the first ones after that
-abbrev pub Follows : (told : List ℕ) → List Pick → Type 0
-Follows [] ps = Lowest ps
-Follows (n ∷ ns) [] = ⊥
-Follows (n ∷ ns) (p ∷ ps) = (p.chosen ≡ n) × Follows ns ps
-
--- the last pick that can be raised, raised; none where no pick can be
-abbrev pub raised_here : Pick → Option (List ℕ) → Option (List ℕ)
-raised_here p (Some ns) = Some (p.chosen ∷ ns)
-raised_here p None = if ltb (p.chosen + 1) p.among then Some ((p.chosen + 1) ∷ []) else None
-
-abbrev pub raised : List Pick → Option (List ℕ)
-raised [] = None
-raised (p ∷ ps) = raised_here p (raised ps)
-
--- picks stand before others in the order of the tree
-abbrev pub Before : List Pick → List Pick → Type 0
-Before [] qs = ⊥
-Before (p ∷ ps) [] = ⊥
-Before (p ∷ ps) (q ∷ qs) = (p.chosen < q.chosen) ⊎ ((p.chosen ≡ q.chosen) × Before ps qs)
+-- each one of a list is one of another
+abbrev pub Within : {X : Type 0} → List X → List X → Type 0
+Within xs ys = Everywhere (λ x. Somewhere (λ y. x ≡ y) ys) xs

@@ -7,7 +7,6 @@ ghost use Rattle.ms_top.specs.OnFile.{command_of};
 
 use ms_bits::{Boxed, List, Text};
 use ms_ir::Form;
-use ms_read_top::max_bytes;
 use ms_words::{Command, Options, WordsError, read_words};
 use std::alloc::Global;
 
@@ -77,7 +76,10 @@ impl FileCommand<'_> {
     pub fn limit(&self) -> u64
         ensures { result ≡ module_limit (command_of self.now) }
     {
-        max_bytes(self.form())
+        match self.form() {
+            Form::Plain => 1 << 22,
+            Form::Instrumented => 1 << 27,
+        }
     }
 
     /// The name of the module's file, where each line that names a site is to be followed by where it stands.

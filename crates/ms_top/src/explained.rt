@@ -1,4 +1,4 @@
-//! What `explain` says: the first report of a run, and the way on which the bits of that report came.
+//! What `explain` says: the first report of a run, and one way from a root to what its use read.
 ghost use Rattle.std.specs.Prelude.{◌≡◌, ◌≤◌, ◌<◌, ◌^◌, true, false, length, IfOk};
 ghost use Rattle.ms_ir.specs.ThreadCalls.{is_threaded};
 ghost use Rattle.ms_trail_moves.specs.Scanned.{Ascending, trail_of};
@@ -81,7 +81,7 @@ fn explanation<L: SiteLines>(
     })
 }
 
-/// The lines of the report of a run with a setup, and of the way of its bits.
+/// The lines of the report of a run with a setup, and of the way to what its use read.
 fn explained<L: SiteLines>(
     alloc: Global,
     m: &CheckedModule,

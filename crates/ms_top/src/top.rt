@@ -22,8 +22,8 @@ use std::thread::Threads;
 
 /// Does what the words after the program's name ask for. `run` runs the module in a file, and `check` runs it with the
 /// shadow of each word: the output is written to `out`; each use of uninitialised bits that was found, and how the run
-/// ended, to `err`. `explain` does what `check` does up to the first report, and writes that report to `out`, with the way on which
-/// its bits came. `corpus` does what `check` does for each of many inputs, and writes a section for each to `out`.
+/// ended, to `err`. `explain` does what `check` does up to the first report, and writes that report to `out`, with one way from a root
+/// to what its use read. `corpus` does what `check` does for each of many inputs, and writes a section for each to `out`.
 /// `instrument` writes to `out` the text of the module that `check` runs, which `run` takes. `gen` writes
 /// a generated module to `out`, or the summary of its check. `help` writes the usage to `out`, and `version` one line with
 /// the version. A module with threads is run under the schedule of the options; `corpus` and `explain`, which take none, refuse

@@ -10,6 +10,8 @@ mod faults;
 #[cfg(test)]
 mod forms;
 #[cfg(test)]
+mod fused;
+#[cfg(test)]
 mod limits;
 #[cfg(test)]
 mod listings;

@@ -19,6 +19,29 @@ const SUM: &str = r#"define i32 @main() {
 }
 "#;
 
+/// Prints `A` where the lowest bit of an undefined word is 0, and `B` where it is 1.
+const LOWEST_BIT: &str = r#"declare i32 @putchar(i32)
+define i32 @main() {
+  %1 = and i32 undef, 1
+  %2 = add i32 %1, 1
+  %3 = lshr i32 %2, 1
+  %4 = icmp eq i32 %3, 0
+  br i1 %4, label %5, label %7
+5:
+  %6 = call i32 @putchar(i32 65)
+  ret i32 0
+7:
+  %8 = call i32 @putchar(i32 66)
+  ret i32 0
+}
+"#;
+
+const DIVIDES: &str = r#"define i32 @main() {
+  %1 = udiv i32 8, undef
+  ret i32 0
+}
+"#;
+
 /// Two uses of undefined words.
 const TWO_USES: &str = r#"define i32 @main() {
   br i1 undef, label %1, label %1
@@ -436,7 +459,35 @@ words: UnknownOption at 1
 "#;
 
 /// Options are read.
-static OPTIONS: [Case; 16] = [
+static OPTIONS: [Case; 20] = [
+    Case(
+        "run --fill 00 f",
+        LOWEST_BIT,
+        "A",
+        "end: exit 0\nreports: 0\nblind: 0\n",
+        0,
+    ),
+    Case(
+        "run --fill 01 f",
+        LOWEST_BIT,
+        "B",
+        "end: exit 0\nreports: 0\nblind: 0\n",
+        0,
+    ),
+    Case(
+        "run --fill 00 f",
+        DIVIDES,
+        "",
+        "end: trap zero-divisor at site 1 in @main\nreports: 0\nblind: 0\n",
+        3,
+    ),
+    Case(
+        "run --fill 02 f",
+        DIVIDES,
+        "",
+        "end: exit 0\nreports: 0\nblind: 0\n",
+        0,
+    ),
     Case(
         "run --fill=A5 -- f",
         FROZEN,

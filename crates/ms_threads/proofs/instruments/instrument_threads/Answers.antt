@@ -2,7 +2,9 @@ use Rattle.std.proofs.Common.{ℕ, List}
 use Rattle.std.proofs.lemmas.Result.{IfOk-weaker}
 use Rattle.ms_runs.specs.declared.runs.Setup.{Setup}
 use Rattle.ms_runs.specs.Faithful.{Fair}
+use Rattle.ms_runs.specs.Calls.{SameCalls}
 use Rattle.ms_pass_form_laws.specs.Elided.{IsElided}
+use Rattle.ms_pass_form_laws.proofs.Elided.{calls_same}
 use Rattle.ms_runs_threads.specs.PlainFibers.{plain_threads}
 use Rattle.ms_threads.specs.Faithful.{FaithfulThreads, IsSchedule}
 use Rattle.ms_threads.specs.Fills.{ThreadsHoldUnderFills}
@@ -20,6 +22,7 @@ returns g c =
       pass = made.pass;
       checks = made.checks;
       faithful = made.faithful;
+      calls = IfOk-weaker c.instrument.result (λ j. IsElided m j) (λ j. SameCalls m j) (λ j elided. calls_same m formed valid c.requires j elided) made.pass;
       stripped = made.stripped;
       undisturbed = made.undisturbed;
       pieces = made.pieces;
