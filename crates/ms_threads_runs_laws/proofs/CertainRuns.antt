@@ -1,6 +1,6 @@
 -- A shadow run of fibers and the program itself with a fill for each step, as long as nothing is reported and no use is blind:
 -- a walk of both, beside shadow runs up to the first report, under the fills.
-use Rattle.std.proofs.Common.{◌≡◌, ◌⊎◌, inl, inr, ℕ, zero, suc, List, [], ◌∷◌, map, length, Option, Some, None, refl, sym, ap, ◌∙◌, subst, arith}
+use Rattle.std.proofs.Common.{◌≡◌, inl, inr, ℕ, zero, suc, List, [], ◌∷◌, map, length, Option, Some, None, refl, sym, ap, ◌∙◌, subst, arith}
 use Rattle.ms_bits.specs.Completion.{Agrees}
 use Rattle.ms_ir.specs.declared.syntax.Module.{Module}
 use Rattle.ms_runs.specs.declared.runs.End.{End}
@@ -9,10 +9,9 @@ use Rattle.ms_runs.specs.declared.runs.Setup.{Setup}
 use Rattle.ms_runs.specs.World.{World, Setting}
 use Rattle.ms_runs.specs.Control.{Frame}
 use Rattle.ms_runs.specs.LowEqual.{SameBits, LowFrames, LowWorld}
-use Rattle.ms_runs.specs.Plain.{Stepped, More, Stop, steps, and_then, setting_of, start_world, start_frame}
+use Rattle.ms_runs.specs.Plain.{Stepped, More, Stop, steps, and_then, setting_of}
 use Rattle.ms_runs.specs.Poisoned.{Poisoned}
 use Rattle.ms_runs.specs.Masks.{by_formulas, by_completions}
-use Rattle.ms_runs.specs.Shadow.{shadow_reading}
 use Rattle.ms_check_valid.specs.Formed.{Formed}
 use Rattle.ms_check_valid.specs.Uninstrumented.{CanInstrument}
 use Rattle.ms_check_valid.specs.Valid.{Valid}
@@ -23,14 +22,12 @@ use Rattle.ms_runs_clean_laws.proofs.CleanRuns.{start_clean}
 use Rattle.ms_runs_laws.proofs.ExactRules.{formulas_exact}
 use Rattle.ms_runs_laws.proofs.PlainPart.{bare}
 use Rattle.ms_runs_laws.specs.Follows.{bare_frame}
-use Rattle.ms_runs_fills_laws.specs.Certain.{CertainFrames, CertainWorld, Untold}
+use Rattle.ms_runs_fills_laws.specs.Certain.{CertainFrames, Untold}
 use Rattle.ms_runs_fills_laws.specs.Chosen.{steps_by}
 use Rattle.ms_runs_fills_laws.proofs.FirstReport.{first_only}
-use Rattle.ms_runs_fills_laws.proofs.Kept.{FirstIs, globals_kept}
 use Rattle.ms_runs_fills_laws.proofs.Reported.{Told}
 use Rattle.ms_runs_fills_laws.proofs.Whole.{start_alike}
-use Rattle.ms_runs.specs.Globals.{address_of}
-use Rattle.ms_runs_threads.specs.Alike.{SteppedAlike, count_of, Relation, BothStand, OthersAlike, FibersAlike, EarlyFibers, left_world, QuietStep}
+use Rattle.ms_runs_threads.specs.Alike.{SteppedAlike, count_of, Relation, BothStand, OthersAlike, FibersAlike, EarlyFibers, left_world}
 use Rattle.ms_runs_threads.specs.Fibers.{Meaning, Others, Fibers, Goes, Waits, fibers_step, world_of, finish, ends_in}
 use Rattle.ms_runs_threads.specs.PlainFibers.{Shared, plain_fiber, plain_threads_start}
 use Rattle.ms_runs_threads.specs.ShadowFibers.{shadow_fiber, shadow_threads_start}
@@ -41,13 +38,14 @@ use Rattle.ms_threads_laws.proofs.LowFibers as low
 use Rattle.ms_threads_laws.proofs.SameShown as shown
 use Rattle.ms_threads_laws.proofs.ToldFibers.{ends_told}
 use Rattle.ms_threads_runs_laws.specs.CertainThreads.{CertainBeside, CertainStands, CertainOthers, CertainFibers, CertainFiberSteps, UntoldFibers, chosen_fibers_step}
-use Rattle.ms_threads_runs_laws.proofs.Grown.{shared_world, before_step, before_steps}
+use Rattle.ms_threads_runs_laws.specs.ChangingThreads.{shadow_world}
+use Rattle.ms_threads_runs_laws.proofs.Grown.{before_step, before_steps}
 
 none_counted : {A : Type 0} (world : A → World) (x : Stepped A) → count_of (λ w. 0) world x ≡ 0
 none_counted world (More a) = refl
 none_counted world (Stop e w) = refl
 
-told_world : (c : Fibers (List (Frame Poisoned)) World) → UntoldFibers (More c) → Untold (shared_world c)
+told_world : (c : Fibers (List (Frame Poisoned)) World) → UntoldFibers (More c) → Untold (shadow_world c)
 told_world (Goes f w rest) h = h
 told_world (Waits w rest) h = h
 
@@ -75,7 +73,7 @@ module _ (s : Setting) (m : Module) where
   others_itself : (a : Others (List (Frame Poisoned))) → OthersAlike (shadow_fiber by_formulas (first_only s) m) (shadow_fiber by_formulas s m) (first.relation s m) a a
   others_itself a = record { stands = λ k. stands_itself (a.stands k); picks = refl }
 
-  state_itself : (c : Fibers (List (Frame Poisoned)) World) → (shared_world c).reports ≡ [] → FirstAlike c c
+  state_itself : (c : Fibers (List (Frame Poisoned)) World) → (shadow_world c).reports ≡ [] → FirstAlike c c
   state_itself (Goes f w a) none = ((refl, refl, none), others_itself a)
   state_itself (Waits w a) none = ((refl, none), others_itself a)
 
@@ -94,7 +92,7 @@ module _ (s : Setting) (m : Module) where
   state_same (Goes f w a) (Waits v b) h = absurd h
   state_same (Waits w a) (Goes g v b) h = absurd h
 
-  step_both : (schedule : List ℕ) (c : Fibers (List (Frame Poisoned)) World) → (shared_world c).reports ≡ [] → FirstSteps (fibers_step ones schedule c) (fibers_step all schedule c)
+  step_both : (schedule : List ℕ) (c : Fibers (List (Frame Poisoned)) World) → (shadow_world c).reports ≡ [] → FirstSteps (fibers_step ones schedule c) (fibers_step all schedule c)
   step_both schedule c none =
       fibers_alike (shadow_fiber by_formulas (first_only s) m) (shadow_fiber by_formulas s m) (first.relation s m) (first.laws s m) (first.counts s m) (first.late s m) schedule c c (state_itself c none)
       (none_counted (left_world (shadow_fiber by_formulas (first_only s) m) (shadow_fiber by_formulas s m) (first.relation s m)) (fibers_step ones schedule c))
@@ -106,7 +104,7 @@ module _ (s : Setting) (m : Module) where
   alone_none : (e : End) (w v : World) → first.Before e w v → w.reports ≡ [] → ⊥
   alone_none e w v h none = omega (arith, ap length (sym h.1.alone ∙ none))
 
-  world_is : (c : Fibers (List (Frame Poisoned)) World) → world_of all c ≡ shared_world c
+  world_is : (c : Fibers (List (Frame Poisoned)) World) → world_of all c ≡ shadow_world c
   world_is (Goes f w rest) = refl
   world_is (Waits w rest) = refl
 
@@ -126,10 +124,10 @@ module _ (s : Setting) (m : Module) where
   by_first (Stop e w) (More d) h told = absurd (alone_none e w (world_of all d) h told.reports)
   by_first (More c) (Stop x v) h told = absurd h
 
-  pub whole_first : (schedule : List ℕ) (c : Fibers (List (Frame Poisoned)) World) → (shared_world c).reports ≡ [] → UntoldFibers (fibers_step all schedule c) → fibers_step ones schedule c ≡ fibers_step all schedule c
+  pub whole_first : (schedule : List ℕ) (c : Fibers (List (Frame Poisoned)) World) → (shadow_world c).reports ≡ [] → UntoldFibers (fibers_step all schedule c) → fibers_step ones schedule c ≡ fibers_step all schedule c
   whole_first schedule c none told = by_whole (fibers_step ones schedule c) (fibers_step all schedule c) (step_both schedule c none) told
 
-  pub first_whole : (schedule : List ℕ) (c : Fibers (List (Frame Poisoned)) World) → (shared_world c).reports ≡ [] → UntoldFibers (fibers_step ones schedule c) → fibers_step ones schedule c ≡ fibers_step all schedule c
+  pub first_whole : (schedule : List ℕ) (c : Fibers (List (Frame Poisoned)) World) → (shadow_world c).reports ≡ [] → UntoldFibers (fibers_step ones schedule c) → fibers_step ones schedule c ≡ fibers_step all schedule c
   first_whole schedule c none told = by_first (fibers_step ones schedule c) (fibers_step all schedule c) (step_both schedule c none) told
 
   -- a step that ends the run without a report doesn't end it as reported
@@ -238,7 +236,7 @@ module _ (m : Module) (formed : Formed m) (valid : Valid m) (can : CanInstrument
   AlignedSteps k (More c) (Stop x v) = ⊥
   AlignedSteps k (Stop e w) (More p) = ⊥
 
-  low_worlds : (k : Filling) (c d : Fibers (List (Frame Poisoned)) World) → LowAlike k c d → LowWorld (shared_world c) (shared_world d)
+  low_worlds : (k : Filling) (c d : Fibers (List (Frame Poisoned)) World) → LowAlike k c d → LowWorld (shadow_world c) (shadow_world d)
   low_worlds k (Goes f w a) (Goes g v b) h = h.0.1
   low_worlds k (Waits w a) (Waits v b) h = h.0.0
   low_worlds k (Goes f w a) (Waits v b) h = absurd h
@@ -248,7 +246,7 @@ module _ (m : Module) (formed : Formed m) (valid : Valid m) (can : CanInstrument
   low_untold : (w v : World) → LowWorld w v → Untold w → Untold v
   low_untold w v h told = record { reports = sym h.reports ∙ told.reports; blind = sym h.blind ∙ told.blind }
 
-  state_untold : (c : Fibers (List (Frame Poisoned)) World) → Untold (shared_world c) → UntoldFibers (More c)
+  state_untold : (c : Fibers (List (Frame Poisoned)) World) → Untold (shadow_world c) → UntoldFibers (More c)
   state_untold (Goes f w rest) h = h
   state_untold (Waits w rest) h = h
 
@@ -259,17 +257,17 @@ module _ (m : Module) (formed : Formed m) (valid : Valid m) (can : CanInstrument
   ShownSteps k y z = SteppedAlike (FibersAlike (filled k) (program k) (Shows k)) (Shows k).Ends (EarlyFibers (filled k) (program k) (Shows k)) y z
 
   steps_untold : (k : Filling) (x y : Stepped (Fibers (List (Frame Poisoned)) World)) → LowSteps k x y → UntoldFibers x → UntoldFibers y
-  steps_untold k (More c) (More d) h told = state_untold d (low_untold (shared_world c) (shared_world d) (low_worlds k c d h) (told_world c told))
+  steps_untold k (More c) (More d) h told = state_untold d (low_untold (shadow_world c) (shadow_world d) (low_worlds k c d h) (told_world c told))
   steps_untold k (Stop e w) (Stop x v) h told = low_untold w v h.1 told
   steps_untold k (More c) (Stop x v) h told = absurd h
   steps_untold k (Stop e w) (More d) h told = absurd h
 
   -- no blind use is counted
-  quiet_step : (c : Fibers (List (Frame Poisoned)) World) → (shared_world c).blind ≡ 0 → (x : Stepped (Fibers (List (Frame Poisoned)) World)) → UntoldFibers x
+  quiet_step : (c : Fibers (List (Frame Poisoned)) World) → (shadow_world c).blind ≡ 0 → (x : Stepped (Fibers (List (Frame Poisoned)) World)) → UntoldFibers x
       → count_of (λ w. w.blind) (world_of one) x ≡ (world_of one c).blind
   quiet_step c none x told = by_step x told ∙ sym (ap (λ (w : World). w.blind) (world_same c) ∙ none)
     where
-      world_same : (c : Fibers (List (Frame Poisoned)) World) → world_of one c ≡ shared_world c
+      world_same : (c : Fibers (List (Frame Poisoned)) World) → world_of one c ≡ shadow_world c
       world_same (Goes f w rest) = refl
       world_same (Waits w rest) = refl
 
@@ -292,7 +290,7 @@ module _ (m : Module) (formed : Formed m) (valid : Valid m) (can : CanInstrument
   one_step k c p a told =
       let d = a.between in
       let before = before_step (setting_of m setup) m schedule c told in
-      let before_too = low_untold (shared_world c) (shared_world d) (low_worlds k c d a.lows) before in
+      let before_too = low_untold (shadow_world c) (shadow_world d) (low_worlds k c d a.lows) before in
       let same : fibers_step one schedule c ≡ fibers_step whole schedule c = whole_first (setting_of m setup) m schedule c before.reports told in
       let told_one : UntoldFibers (fibers_step one schedule c) = subst UntoldFibers (sym same) told in
       let lows : LowSteps k (fibers_step one schedule c) (fibers_step (one_filled k) schedule d) =

@@ -1,5 +1,5 @@
 -- What a shadow run of fibers says of the program holds too where uninitialised memory changes before each step; and clean verdicts.
-use Rattle.std.proofs.Common.{◌≡◌, ◌<◌, ◌^◌, ℕ, zero, suc, length, get_or, List, [], ◌∷◌, Option, Some, None, refl, sym, ap, ◌∙◌, subst, arith}
+use Rattle.std.proofs.Common.{◌≡◌, ◌<◌, ◌^◌, ℕ, zero, suc, length, get_or, List, [], ◌∷◌, refl, sym, ap, ◌∙◌, subst, arith}
 use Rattle.ms_ir.specs.declared.syntax.Module.{Module}
 use Rattle.ms_runs.specs.declared.runs.End.TheVariants as «end»
 use Rattle.ms_runs.specs.declared.runs.RunResult.{RunResult}
@@ -14,21 +14,18 @@ use Rattle.ms_runs.specs.Verdict.{Clean, verdict_of}
 use Rattle.ms_check_valid.specs.Formed.{Formed}
 use Rattle.ms_check_valid.specs.Uninstrumented.{CanInstrument}
 use Rattle.ms_check_valid.specs.Valid.{Valid}
-use Rattle.ms_runs_good_laws.specs.Fills.{IsFill, refilled, to_first_report, SameShown}
+use Rattle.ms_runs_good_laws.specs.Fills.{IsFill, refilled, SameShown}
 use Rattle.ms_runs_good_laws.specs.GoodWorlds.{GoodWorld, GivesBytes, AnyOrigin}
 use Rattle.ms_runs_good_laws.proofs.WorldChanges.{with_bytes}
 use Rattle.ms_runs_laws.proofs.ExactRules.{formulas_exact}
 use Rattle.ms_threads_laws.proofs.FollowedRuns.{same_fiber}
-use Rattle.ms_runs_fills_laws.specs.Certain.{Untold}
 use Rattle.ms_runs_fills_laws.specs.Changing.{MayHold}
-use Rattle.ms_runs_fills_laws.specs.Chosen.{steps_by}
 use Rattle.ms_runs_fills_laws.proofs.Whole.{nothing_told}
-use Rattle.ms_runs_threads.specs.Alike.{FibersAlike, OthersAlike, BothStand}
 use Rattle.ms_runs_threads.specs.Fibers.{Fibers, Goes, Waits, fibers_step, world_of}
 use Rattle.ms_runs_threads.specs.PlainFibers.{Shared, plain_fiber, plain_threads_start}
 use Rattle.ms_runs_threads.specs.ShadowFibers.{shadow_fiber, shadow_threads, shadow_threads_start}
-use Rattle.ms_threads_runs_laws.specs.CertainThreads.{CertainFiberSteps, CertainFibers, UntoldFibers, chosen_fibers_step}
-use Rattle.ms_threads_runs_laws.specs.ChangingThreads.{shadow_world, program_world, holding_shared, holding_fibers, after_both_fibers, FibersComeTo, fibers_shown_by, plain_threads_chosen}
+use Rattle.ms_threads_runs_laws.specs.CertainThreads.{CertainFiberSteps, UntoldFibers}
+use Rattle.ms_threads_runs_laws.specs.ChangingThreads.{shadow_world, holding_fibers, after_both_fibers, FibersComeTo, fibers_shown_by, plain_threads_chosen}
 use Rattle.ms_threads_runs_laws.proofs.CertainRuns.{Filling, Aligned, AlignedSteps, LowAlike, ShownAlike, again, one_step, start_aligned, certain_steps, certain_threads, computed}
 use Rattle.ms_threads_runs_laws.proofs.Grown.{before_steps}
 use Rattle.ms_threads_runs_laws.proofs.PlainThreads.{ends_told}

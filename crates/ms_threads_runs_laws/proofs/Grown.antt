@@ -1,5 +1,5 @@
 -- No step of a shadow run of fibers takes back a report or a blind use.
-use Rattle.std.proofs.Common.{◌≡◌, ◌≤◌, ◌+◌, ◌%◌, ℕ, zero, suc, List, [], ◌∷◌, length, get_or, Option, Some, None, refl, sym, ap, ◌∙◌, subst, arith}
+use Rattle.std.proofs.Common.{◌≡◌, ◌≤◌, ◌+◌, ◌%◌, ℕ, zero, suc, List, [], ◌∷◌, length, get_or, Option, Some, None, refl, sym, ap, ◌∙◌, arith}
 use Rattle.ms_ir.specs.declared.syntax.Inst.{Inst}
 use Rattle.ms_ir.specs.declared.syntax.Module.{Module}
 use Rattle.ms_ir.specs.Instructions.{operands}
@@ -10,15 +10,15 @@ use Rattle.ms_runs.specs.Control.{Frame, Outcome, On, Over, here, rest_of, read_
 use Rattle.ms_runs.specs.Plain.{Stepped, More, Stop, steps, and_then}
 use Rattle.ms_runs.specs.Poisoned.{Poisoned}
 use Rattle.ms_runs.specs.Masks.{by_formulas}
-use Rattle.ms_runs.specs.Uses.{uses, check_uses}
+use Rattle.ms_runs.specs.Uses.{uses}
 use Rattle.ms_runs.specs.Shadow.{read_poisoned, shadow_moved, after_checks, shadow_frames}
 use Rattle.ms_runs_fills_laws.specs.Certain.{Untold}
-use Rattle.ms_runs_fills_laws.proofs.Kept.{FirstIs, Checks, ChecksAfter, uses_kept, given_back_kept}
+use Rattle.ms_runs_fills_laws.proofs.Kept.{FirstIs, ChecksAfter, uses_kept, given_back_kept}
 use Rattle.ms_runs_fills_laws.proofs.Runs.{GrownOutcome, after_grown, frames_grown}
-use Rattle.ms_runs_threads.specs.Fibers.{Due, Own, Asks, Returns, Going, Meaning, Others, Fibers, Goes, Waits, standing, turned, goes_on, ended, moved, moves, resumed, resumes, picked, runnable, fibers_step}
-use Rattle.ms_runs_threads.specs.PlainFibers.{frames_left}
+use Rattle.ms_runs_threads.specs.Fibers.{Due, Own, Asks, Returns, Going, Meaning, Others, Fibers, Goes, Waits, standing, turned, goes_on, ended, moved, moves, resumed, picked, runnable, fibers_step}
 use Rattle.ms_runs_threads.specs.ShadowFibers.{shadow_going, checked, reach_first, shadow_reach, perform_first, shadow_perform, shadow_fiber}
 use Rattle.ms_threads_runs_laws.specs.CertainThreads.{UntoldFibers}
+use Rattle.ms_threads_runs_laws.specs.ChangingThreads.{shadow_world}
 
 -- no blind use is taken back, and the first report stays the first
 pub record Further (w u : World) : Type 0 where
@@ -39,10 +39,6 @@ untold_before w u g h = record { reports = by_reports w.reports refl; blind = om
     by_reports [] e = e
     by_reports (r ∷ rest) e = let f = g.leads r (rest, e) in absurd (omega (arith, ap length (sym f.1 ∙ h.reports)))
 
-abbrev pub shared_world : Fibers (List (Frame Poisoned)) World → World
-shared_world (Goes f w rest) = w
-shared_world (Waits w rest) = w
-
 module _ (s : Setting) (m : Module) where
   abbrev means : Meaning (List (Frame Poisoned)) World
   means = shadow_fiber by_formulas s m
@@ -52,7 +48,7 @@ module _ (s : Setting) (m : Module) where
   GoingFurther w (Stop e u) = Further w u
 
   abbrev RunFurther : World → Stepped (Fibers (List (Frame Poisoned)) World) → Type 0
-  RunFurther w (More c) = Further w (shared_world c)
+  RunFurther w (More c) = Further w (shadow_world c)
   RunFurther w (Stop e u) = Further w u
 
   -- ---- one fiber
@@ -143,25 +139,25 @@ module _ (s : Setting) (m : Module) where
       let n = get_or (k ∷ ks) (get_or schedule (rest.picks % length schedule) 0 % length (k ∷ ks)) k in
       resumed_further w (turned n w) (record { stands = standing n None rest.stands; picks = rest.picks + 1 }) n (rest.stands n) (thread_at n w.threads) (turned_further n w)
 
-  step_further : (schedule : List ℕ) (c : Fibers (List (Frame Poisoned)) World) → RunFurther (shared_world c) (fibers_step means schedule c)
+  step_further : (schedule : List ℕ) (c : Fibers (List (Frame Poisoned)) World) → RunFurther (shadow_world c) (fibers_step means schedule c)
   step_further schedule (Goes f w rest) = moved_further w f w rest (means.due f) (itself w)
   step_further schedule (Waits w rest) = picked_further schedule w rest (runnable means.joins w.threads rest.stands)
 
-  untold_state : (c : Fibers (List (Frame Poisoned)) World) → UntoldFibers (More c) → Untold (shared_world c)
+  untold_state : (c : Fibers (List (Frame Poisoned)) World) → UntoldFibers (More c) → Untold (shadow_world c)
   untold_state (Goes f w rest) h = h
   untold_state (Waits w rest) h = h
 
-  state_untold : (c : Fibers (List (Frame Poisoned)) World) → Untold (shared_world c) → UntoldFibers (More c)
+  state_untold : (c : Fibers (List (Frame Poisoned)) World) → Untold (shadow_world c) → UntoldFibers (More c)
   state_untold (Goes f w rest) h = h
   state_untold (Waits w rest) h = h
 
   -- what led to a step where nothing is told
-  pub before_step : (schedule : List ℕ) (c : Fibers (List (Frame Poisoned)) World) → UntoldFibers (fibers_step means schedule c) → Untold (shared_world c)
+  pub before_step : (schedule : List ℕ) (c : Fibers (List (Frame Poisoned)) World) → UntoldFibers (fibers_step means schedule c) → Untold (shadow_world c)
   before_step schedule c h = by_step (fibers_step means schedule c) (step_further schedule c) h
     where
-      by_step : (x : Stepped (Fibers (List (Frame Poisoned)) World)) → RunFurther (shared_world c) x → UntoldFibers x → Untold (shared_world c)
-      by_step (More d) g k = untold_before (shared_world c) (shared_world d) g (untold_state d k)
-      by_step (Stop e u) g k = untold_before (shared_world c) u g k
+      by_step : (x : Stepped (Fibers (List (Frame Poisoned)) World)) → RunFurther (shadow_world c) x → UntoldFibers x → Untold (shadow_world c)
+      by_step (More d) g k = untold_before (shadow_world c) (shadow_world d) g (untold_state d k)
+      by_step (Stop e u) g k = untold_before (shadow_world c) u g k
 
   pub before_steps : (schedule : List ℕ) (n : ℕ) (c : Fibers (List (Frame Poisoned)) World) → UntoldFibers (steps (fibers_step means schedule) n c) → UntoldFibers (More c)
   before_steps schedule zero c h = h

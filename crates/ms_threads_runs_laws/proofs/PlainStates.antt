@@ -1,6 +1,6 @@
 -- Steps of one fiber of a plain run: its state stays good, it is still its turn, its last frame stays of one function, and where
 -- a step that is no return of its first function ends the run, it has a site.
-use Rattle.std.proofs.Common.{◌≡◌, ◌+◌, ℕ, zero, suc, Bool, true, false, List, [], ◌∷◌, length, map, get_or, leb, eqb, slice_get, Option, Some, None, if◌then◌else◌, refl, sym, ap, ◌∙◌, subst, arith, true≢false}
+use Rattle.std.proofs.Common.{◌≡◌, ◌+◌, ℕ, Bool, true, false, List, [], ◌∷◌, length, map, leb, eqb, slice_get, Option, Some, None, if◌then◌else◌, refl, sym, ap, ◌∙◌, subst, arith, true≢false}
 use Rattle.std.specs.Prelude.{◌&&◌, not}
 use Rattle.ms_bits.specs.declared.traps.Trap.TheVariants as trap
 use Rattle.ms_ir.specs.declared.syntax.Name.{Name}
@@ -16,7 +16,7 @@ use Rattle.ms_runs.specs.declared.runs.End.TheVariants as «end»
 use Rattle.ms_runs.specs.World.{World, Setting, Here, Effect, Gives, Does, Goes, Enters, Leaves, Ends}
 use Rattle.ms_runs.specs.Control.{Frame, Reading, Outcome, On, Over, here, rest_of, read_all, entered, keeping, after_effect}
 use Rattle.ms_runs.specs.Act.{plain_reading, act}
-use Rattle.ms_runs.specs.Plain.{PlainState, Stepped, More, Stop, and_then, act_marked, slots_after, plain_state, plain_inst, through, plain_first, plain_step, setting_of}
+use Rattle.ms_runs.specs.Plain.{PlainState, Stepped, More, Stop, and_then, act_marked, slots_after, plain_state, plain_inst, through, setting_of}
 use Rattle.ms_check_valid.specs.Paths.{insts_of}
 use Rattle.ms_check_valid.specs.Formed.{Formed}
 use Rattle.ms_check_valid.specs.Valid.{Valid}
@@ -39,7 +39,7 @@ use Rattle.ms_runs_good_laws.proofs.WorldChanges.{either}
 use Rattle.ms_threads_laws.proofs.OwnSteps.{back_keeps}
 use Rattle.ms_threads_laws.proofs.DueSame.{due_head}
 use Rattle.ms_runs_threads.specs.Fibers.{Due, Own, Asks, Returns}
-use Rattle.ms_runs_threads.specs.PlainFibers.{due_inst, due_of, due_at, frames_due, through_marked, plain_reach}
+use Rattle.ms_runs_threads.specs.PlainFibers.{due_inst, due_of, due_at, frames_due, through_marked}
 use Rattle.ms_threads_runs_laws.proofs.ThreadActs.{Beside, beside_kept, act_beside, marked_beside, plain_creates}
 
 -- ---- which effects return

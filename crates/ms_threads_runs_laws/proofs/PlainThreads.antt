@@ -1,29 +1,27 @@
 -- Plain runs of fibers stay good, and their traps have sites.
-use Rattle.std.proofs.Common.{◌≡◌, ◌<◌, ◌%◌, ◌^◌, inl, inr, ℕ, zero, suc, Bool, true, false, List, [], ◌∷◌, All, length, eqb, Option, Some, None, if◌then◌else◌, refl, sym, ap, ◌∙◌, subst, arith, true≢false}
+use Rattle.std.proofs.Common.{◌≡◌, ◌<◌, ◌^◌, inl, inr, ℕ, zero, suc, Bool, true, false, List, [], ◌∷◌, All, length, eqb, Some, if◌then◌else◌, refl, sym, ap, ◌∙◌, subst, arith, true≢false}
 use Rattle.std.specs.Prelude.{not}
 use Rattle.std.proofs.lemmas.Bool.{eqb-true, ne_eqb}
 use Rattle.std.proofs.lemmas.Nat.{mod_below}
-use Rattle.ms_bits.specs.declared.traps.Trap.TheVariants as trap
 use Rattle.ms_ir.specs.declared.calls.Slot.TheVariants as slot
 use Rattle.ms_ir.specs.Names.{slot_room}
 use Rattle.ms_ir.specs.declared.syntax.Inst.{Inst}
 use Rattle.ms_ir.specs.declared.syntax.Module.{Module}
 use Rattle.ms_ir.specs.Instructions.{func_index}
-use Rattle.ms_runs.specs.declared.runs.End.{End}
 use Rattle.ms_runs.specs.declared.runs.End.TheVariants as «end»
 use Rattle.ms_runs.specs.declared.runs.RunResult.{RunResult}
 use Rattle.ms_runs.specs.declared.runs.Setup.{Setup}
 use Rattle.ms_bits.specs.Maps.{with_range}
 use Rattle.ms_runs.specs.World.{World, Thread, Setting, result, first_world}
 use Rattle.ms_runs.specs.Globals.{address_of}
-use Rattle.ms_runs.specs.Control.{Frame, here, rest_of, entered}
+use Rattle.ms_runs.specs.Control.{Frame, here, rest_of}
 use Rattle.ms_runs.specs.Act.{plain_reading}
 use Rattle.ms_runs.specs.Plain.{PlainState, Stepped, More, Stop, and_then, go_on, steps, through, plain_step, setting_of, start_world, start_frame}
 use Rattle.ms_runs.specs.Poisoned.{Poisoned}
-use Rattle.ms_runs.specs.Threads.{Fibers as Beings, thread_at, first_clean, with_answer, result_origin}
+use Rattle.ms_runs.specs.Threads.{Fibers as Beings, thread_at, first_clean, with_answer}
 use Rattle.ms_check_valid.specs.Formed.{Formed}
 use Rattle.ms_check_valid.specs.Valid.{Valid}
-use Rattle.ms_runs_good_laws.specs.GoodStates.{IsBelow, GoodFrames, IsMain, IsStart, Bottom, begins}
+use Rattle.ms_runs_good_laws.specs.GoodStates.{IsBelow, GoodFrames, IsMain, Bottom, begins}
 use Rattle.ms_runs_good_laws.specs.GoodWorlds.{GoodWorld, GivesBytes, FitsCell}
 use Rattle.ms_runs_good_laws.specs.GoodRuns.{SoundPlain, LeadsTo}
 use Rattle.ms_runs_good_laws.specs.Sited.{IsSite, HasSite}
@@ -34,11 +32,11 @@ use Rattle.ms_runs_good_laws.proofs.Sites.{site_here}
 use Rattle.ms_runs_good_laws.proofs.Sound.{plain_sound}
 use Rattle.ms_runs_good_laws.proofs.Starts.{start_is_main}
 use Rattle.ms_runs_good_laws.proofs.WorldChanges.{range_keeps, given_back_good}
-use Rattle.ms_threads_laws.proofs.StartedFibers.{StartsWell, AllStart, answered_start, start_types, unary_good}
+use Rattle.ms_threads_laws.proofs.StartedFibers.{AllStart, answered_start, start_types, unary_good}
 use Rattle.ms_threads_laws.proofs.OwnSteps.{back_keeps}
 use Rattle.ms_threads_laws.proofs.KeptRuns.{globals_fibers}
-use Rattle.ms_runs_threads.specs.Fibers.{Due, Own, Asks, Returns, Going, Meaning, Fibers, Goes, Waits, turned, goes_on, ended, fibers_step, world_of, ends_in, finish}
-use Rattle.ms_runs_threads.specs.PlainFibers.{Shared, due_inst, due_at, frames_due, frames_site, frames_left, state_of, going_of, plain_going, through_marked, plain_reach, plain_answer, plain_fiber, plain_threads, plain_threads_start}
+use Rattle.ms_runs_threads.specs.Fibers.{Due, Own, Asks, Returns, Going, Meaning, Fibers, Goes, Waits, turned, ended, fibers_step, world_of, ends_in, finish}
+use Rattle.ms_runs_threads.specs.PlainFibers.{Shared, due_inst, frames_due, frames_site, frames_left, state_of, going_of, plain_going, through_marked, plain_reach, plain_answer, plain_fiber, plain_threads, plain_threads_start}
 use Rattle.ms_threads_runs_laws.specs.ThreadStates.{SoundFiber, StandsSound, SoundShared, SoundPlainFibers}
 use Rattle.ms_threads_runs_laws.proofs.ThreadActs.{Beside, start_all, each_starts}
 use Rattle.ms_threads_runs_laws.proofs.PlainStates.{DueIn, Well, Before, returns_alone_at, through_well, reach_well}

@@ -1,6 +1,6 @@
 -- A thread call that a fiber of a shadow run does: its frames and the world stay good, its answer is clean, it is still its
 -- turn, and a fiber that it makes begins well.
-use Rattle.std.proofs.Common.{◌≡◌, ◌+◌, ℕ, Bool, true, false, List, [], ◌∷◌, map, length, eqb, slice_get, Contains, Option, Some, None, if◌then◌else◌, refl, sym, ap, ◌∙◌, subst}
+use Rattle.std.proofs.Common.{◌≡◌, ◌+◌, ℕ, Bool, true, false, List, [], ◌∷◌, map, eqb, slice_get, Contains, Option, Some, None, if◌then◌else◌, refl}
 use Rattle.std.proofs.lemmas.Bool.{false≢true}
 use Rattle.ms_ir.specs.declared.syntax.Name.{Name}
 use Rattle.ms_ir.specs.declared.syntax.Op.{Op}
@@ -20,13 +20,13 @@ use Rattle.ms_runs.specs.Control.{Frame, Outcome, On, Over, here, rest_of, read_
 use Rattle.ms_runs.specs.Act.{act}
 use Rattle.ms_runs.specs.Plain.{setting_of}
 use Rattle.ms_runs.specs.Poisoned.{Poisoned, clean}
-use Rattle.ms_runs.specs.Masks.{Rules, by_formulas, union, word_at}
+use Rattle.ms_runs.specs.Masks.{Rules, union, word_at}
 use Rattle.ms_runs.specs.Uses.{blinded}
 use Rattle.ms_runs.specs.Shadow.{read_poisoned, shadow_reading, callee_planes, planes, poisoned_result, shadow_act, after_checks}
 use Rattle.ms_check_valid.specs.Paths.{insts_of}
 use Rattle.ms_check_valid.specs.Formed.{Formed}
 use Rattle.ms_check_valid.specs.Valid.{Valid}
-use Rattle.ms_runs_good_laws.specs.GoodStates.{PoisonedBelow, GoodFrame, GoodFrames, Bottom}
+use Rattle.ms_runs_good_laws.specs.GoodStates.{PoisonedBelow, GoodFrames, Bottom}
 use Rattle.ms_runs_good_laws.specs.GoodEffects.{GoodMoved}
 use Rattle.ms_runs_good_laws.specs.GoodRules.{KeepWidths}
 use Rattle.ms_runs_good_laws.specs.GoodWorlds.{GoodWorld, GivesBytes, AnyOrigin}
@@ -68,9 +68,6 @@ module _ (d : Rules) (keep : KeepWidths d) (m : Module) (formed : Formed m) (val
 
   abbrev root : ℕ
   root = at.root + count_undefs (operands i.op) + 1
-
-  good : GoodFrame PoisonedBelow m f
-  good = top_good PoisonedBelow m f fs frames
 
   due : slice_get (insts_of (top_good PoisonedBelow m f fs frames).func f.block) f.place ≡ Some i
   due = due_first PoisonedBelow m f (top_good PoisonedBelow m f fs frames) i is rest

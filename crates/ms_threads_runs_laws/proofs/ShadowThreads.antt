@@ -1,21 +1,18 @@
 -- Shadow runs of fibers stay good, and their clean values stay clean.
-use Rattle.std.proofs.Common.{◌≡◌, ◌⊎◌, ◌^◌, ◌%◌, inl, inr, ℕ, zero, suc, Bool, true, false, List, [], ◌∷◌, length, eqb, Contains, Option, Some, None, if◌then◌else◌, refl, sym, ap, ◌∙◌, subst, arith}
+use Rattle.std.proofs.Common.{◌≡◌, ◌⊎◌, ◌^◌, ◌%◌, inl, inr, ℕ, false, List, [], ◌∷◌, length, eqb, Contains, Some, refl, sym, ap, ◌∙◌, subst, arith}
 use Rattle.std.specs.Prelude.{not}
 use Rattle.std.proofs.lemmas.Bool.{ne_eqb}
 use Rattle.ms_ir.specs.declared.syntax.Operand.{Operand}
 use Rattle.ms_ir.specs.declared.syntax.Operand.TheVariants as operand
 use Rattle.ms_ir.specs.declared.syntax.Inst.{Inst}
-use Rattle.ms_ir.specs.declared.syntax.Func.{Func}
 use Rattle.ms_ir.specs.declared.syntax.Module.{Module}
-use Rattle.ms_ir.specs.Instructions.{NoMarks, HeadUnmarked, operands, func_index, func_at}
+use Rattle.ms_ir.specs.Instructions.{NoMarks, HeadUnmarked, operands, func_index}
 use Rattle.ms_runs.specs.declared.runs.End.TheVariants as «end»
-use Rattle.ms_runs.specs.declared.runs.Report.{Report}
-use Rattle.ms_runs.specs.declared.runs.RunResult.{RunResult}
 use Rattle.ms_runs.specs.declared.runs.Setup.{Setup}
-use Rattle.ms_runs.specs.World.{World, Thread, Here, Effect, Gives, Does, Goes as Jumps, Enters, Leaves, Ends, result}
-use Rattle.ms_runs.specs.Threads.{Fibers as Beings, fibers_of, thread_at, with_answer}
+use Rattle.ms_runs.specs.World.{World, Thread, Effect, Gives, Does, Goes as Jumps, Enters, Leaves, Ends}
+use Rattle.ms_runs.specs.Threads.{Fibers as Beings, thread_at, with_answer}
 use Rattle.ms_runs.specs.Control.{Frame, Outcome, On, Over, here, rest_of, read_all, entered}
-use Rattle.ms_runs.specs.Plain.{Stepped, More, Stop, go_on, steps, setting_of, start_world, start_frame}
+use Rattle.ms_runs.specs.Plain.{Stepped, More, Stop, steps, setting_of, start_world, start_frame}
 use Rattle.ms_runs.specs.Poisoned.{Poisoned}
 use Rattle.ms_runs.specs.Masks.{Rules}
 use Rattle.ms_runs.specs.Uses.{uses, check_uses}
@@ -23,14 +20,12 @@ use Rattle.ms_runs.specs.Shadow.{ShadowState, read_poisoned, operand_mask, shado
 use Rattle.ms_check_valid.specs.CleanValues.{IsCleanOperand}
 use Rattle.ms_check_valid.specs.Formed.{Formed}
 use Rattle.ms_check_valid.specs.Valid.{Valid}
-use Rattle.ms_runs_good_laws.specs.GoodStates.{PoisonedBelow, GoodFrames, Bottom, begins}
-use Rattle.ms_runs_good_laws.specs.GoodEffects.{GoodMoved}
+use Rattle.ms_runs_good_laws.specs.GoodStates.{PoisonedBelow, GoodFrames, begins}
 use Rattle.ms_runs_good_laws.specs.GoodRules.{KeepWidths}
 use Rattle.ms_runs_good_laws.specs.GoodRuns.{SoundShadow, LeadsTo}
 use Rattle.ms_runs_good_laws.specs.GoodWorlds.{GoodWorld, GivesBytes, AnyOrigin}
 use Rattle.ms_runs_good_laws.specs.Sited.{HasSite}
-use Rattle.ms_runs_good_laws.proofs.Bottoms.{OnBottom, StateBottom, shadow_bottom}
-use Rattle.ms_runs_good_laws.proofs.Frames.{MovedTo}
+use Rattle.ms_runs_good_laws.proofs.Bottoms.{StateBottom, shadow_bottom}
 use Rattle.ms_runs_good_laws.proofs.Readings.{shadow_unset}
 use Rattle.ms_runs_good_laws.proofs.Sound.{shadow_sound, shadow_keeps}
 use Rattle.ms_runs_good_laws.proofs.Starts.{start_is_main}
@@ -45,12 +40,12 @@ use Rattle.ms_threads_laws.proofs.OwnSteps.{Passes, uses_pass, own_keeps, back_k
 use Rattle.ms_threads_laws.proofs.SameShown.{threads_undisturbed}
 use Rattle.ms_threads_laws.proofs.StartedFibers.{AllStart, answered_start, start_types, unary_good, first_clean_values}
 use Rattle.ms_threads_laws.proofs.ThreadCalls.{ThreadCall, asks_call}
-use Rattle.ms_runs_threads.specs.Fibers.{Own, Asks, Returns, Going, Meaning, Fibers, Goes, Waits, turned, goes_on, ended, fibers_step, world_of}
+use Rattle.ms_runs_threads.specs.Fibers.{Own, Asks, Returns, Going, Meaning, Fibers, Goes, Waits, turned, ended, fibers_step}
 use Rattle.ms_runs_threads.specs.PlainFibers.{due_inst, due_at, frames_due, frames_left, plain_threads}
 use Rattle.ms_runs_threads.specs.ShadowFibers.{shadow_state, shadow_going, checked, reach_first, shadow_reach, perform_first, shadow_perform, shadow_answer, shadow_fiber, shadow_threads_by, shadow_threads_start}
 use Rattle.ms_threads_runs_laws.specs.ThreadStates.{SoundFiber, StandsSound, SoundWorld, SoundShadowFibers, HasFiber, CleanFibers}
-use Rattle.ms_threads_runs_laws.proofs.PlainThreads.{returns_outside, ends_told, start_beside, plain_sited}
-use Rattle.ms_threads_runs_laws.proofs.ShadowCalls.{MovedClean, Performed, performed}
+use Rattle.ms_threads_runs_laws.proofs.PlainThreads.{returns_outside, start_beside, plain_sited}
+use Rattle.ms_threads_runs_laws.proofs.ShadowCalls.{Performed, performed}
 use Rattle.ms_threads_runs_laws.proofs.ThreadActs.{Beside, beside_kept, start_all, each_starts}
 use Rattle.ms_threads_runs_laws.proofs.Walked.{Predicates, Leading, GoesOn, StandsOn, Keeps, Holds, Stepping, run_keeps}
 

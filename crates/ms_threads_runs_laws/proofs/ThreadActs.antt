@@ -1,5 +1,5 @@
 -- What instructions leave of whose turn it is and of the fibers that were made: those begin with functions that may.
-use Rattle.std.proofs.Common.{◌≡◌, ◌<◌, ◌+◌, ◌%◌, ◌^◌, ℕ, suc, Bool, true, false, List, [], ◌∷◌, map, length, leb, eqb, slice_get, Option, Some, None, is_some, if◌then◌else◌, refl, sym, ap, ◌∙◌, subst, true≢false}
+use Rattle.std.proofs.Common.{◌≡◌, ◌<◌, ◌+◌, ◌%◌, ◌^◌, ℕ, suc, Bool, true, false, List, [], ◌∷◌, map, length, leb, eqb, slice_get, Option, Some, None, is_some, if◌then◌else◌, refl, sym, ap, ◌∙◌, subst}
 use Rattle.ms_bits.specs.declared.traps.Trap.TheVariants as trap
 use Rattle.ms_ir.specs.declared.syntax.Name.{Name}
 use Rattle.ms_ir.specs.declared.syntax.Ty.{Ty, Ptr}
@@ -21,7 +21,7 @@ use Rattle.ms_runs.specs.Memory.{is_good}
 use Rattle.ms_runs.specs.Globals.{address_of}
 use Rattle.ms_runs.specs.Threads.{Fibers, fibers_of, thread_at, has_ended, fiber_limit, join_answer}
 use Rattle.ms_runs.specs.Externals.{external, create, joined, join}
-use Rattle.ms_runs.specs.Control.{Frame, read_all}
+use Rattle.ms_runs.specs.Control.{read_all}
 use Rattle.ms_runs.specs.Act.{plain_reading, operand_word, act}
 use Rattle.ms_runs.specs.Plain.{setting_of, act_marked}
 use Rattle.ms_runs.specs.Poisoned.{Poisoned}

@@ -1,6 +1,6 @@
 -- Half a step of a shadow run of fibers keeps origins leading back to what fibers have reached.
-use Rattle.std.proofs.Common.{◌≡◌, ◌⊎◌, inl, inr, ⊎_elim, ℕ, zero, suc, ◌+◌, ◌%◌, ◌/◌, ◌<◌, Bool, true, false, List, [], ◌∷◌, ◌++◌, map, length, eqb, leb, Any, Contains, Option, Some, None, is_some, if◌then◌else◌, refl, sym, ap, ◌∙◌, subst, arith}
-use Rattle.std.specs.Prelude.{get_or, not, ◌&&◌}
+use Rattle.std.proofs.Common.{◌≡◌, ◌⊎◌, inl, inr, ℕ, zero, suc, ◌+◌, ◌%◌, ◌<◌, Bool, true, false, List, [], ◌∷◌, ◌++◌, map, length, eqb, leb, Any, Option, Some, None, if◌then◌else◌, refl, sym, ap, ◌∙◌, subst, arith}
+use Rattle.std.specs.Prelude.{get_or}
 use Rattle.std.proofs.lemmas.Bool.{eqb-true}
 use Rattle.std.proofs.lemmas.Option.{same_Some}
 use Rattle.ms_bits.specs.declared.traps.Trap.TheVariants as trap
@@ -13,11 +13,10 @@ use Rattle.ms_ir.specs.declared.calls.External.TheVariants.{PthreadCreate, Pthre
 use Rattle.ms_ir.specs.Instructions.{NoMarks, HeadUnmarked, operands, count_undefs, count_roots, func_index, external_named}
 use Rattle.ms_ir.specs.ThreadCalls.{is_asked}
 use Rattle.ms_runs.specs.declared.runs.Setup.{Setup}
-use Rattle.ms_runs.specs.declared.runs.End.{End}
 use Rattle.ms_runs.specs.World.{World, Setting, Thread, Here, Effect, Gives, Does, Goes as Jumps, Enters, Leaves, Ends, stuck, word, traps}
 use Rattle.ms_runs.specs.Memory.{is_good}
-use Rattle.ms_runs.specs.Threads.{Fibers as Beings, fibers_of, fiber_limit, thread_at, has_ended, join_answer, with_answer}
-use Rattle.ms_runs.specs.Externals.{external, create, joined, join}
+use Rattle.ms_runs.specs.Threads.{Fibers as Beings, fibers_of, fiber_limit, thread_at, has_ended, join_answer}
+use Rattle.ms_runs.specs.Externals.{external, joined}
 use Rattle.ms_runs.specs.Act.{act}
 use Rattle.ms_runs.specs.Origins.{trail_within, count_blind}
 use Rattle.ms_runs.specs.Control.{Frame, Outcome, On, Over, here, rest_of, read_all, entered, params_at, given_back, keeping}
@@ -25,32 +24,30 @@ use Rattle.ms_runs.specs.Plain.{Stepped, More, Stop, setting_of}
 use Rattle.ms_runs.specs.Poisoned.{Poisoned, clean}
 use Rattle.ms_runs.specs.Masks.{Rules, union, word_at}
 use Rattle.ms_runs.specs.Uses.{uses, check_uses, blinded}
-use Rattle.ms_runs.specs.Shadow.{ShadowState, read_poisoned, shadow_reading, planes, poisoned_result, shadow_act, after_checks, shadow_moved, shadow_frames, shadow_step}
+use Rattle.ms_runs.specs.Shadow.{read_poisoned, shadow_reading, planes, poisoned_result, shadow_act, shadow_moved, shadow_frames}
 use Rattle.ms_ir.specs.declared.calls.RuntimeFn.TheVariants as runtime
 use Rattle.ms_check_valid.specs.Formed.{Formed}
 use Rattle.ms_check_valid.specs.Valid.{Valid}
 use Rattle.ms_runs_good_laws.specs.GoodStates.{PoisonedBelow, GoodFrames}
 use Rattle.ms_runs_good_laws.specs.GoodRules.{KeepWidths}
 use Rattle.ms_runs_good_laws.specs.GoodWorlds.{GivesBytes, GoodAfter}
-use Rattle.ms_runs_good_laws.specs.Reached.{Due, IsOperand, Reaches, AsOperand, AsItself, AsEdge, StandsAt, LeadsBack}
-use Rattle.ms_runs_good_laws.proofs.FibersKept.{Kept, runtime_keeps, world_of as effect_world}
+use Rattle.ms_runs_good_laws.specs.Reached.{IsOperand, Reaches, AsOperand, AsItself, AsEdge, StandsAt}
+use Rattle.ms_runs_good_laws.proofs.FibersKept.{runtime_keeps, world_of as effect_world}
 use Rattle.ms_runs_good_laws.proofs.Frames.{MovedTo, moves_to}
-use Rattle.ms_runs_good_laws.proofs.ThreadsApart.{CallsNoThread}
 use Rattle.ms_runs_clean_laws.specs.KeepClean.{KeepClean}
 use Rattle.ms_runs_origins_laws.proofs.Trails.{back_weaker}
 use Rattle.ms_runs_origins_laws.proofs.Worlds.{Back, Backed, NoneFree, given_back_pairs, given_back_backed}
-use Rattle.ms_runs_origins_laws.proofs.Effects.{WordsBack}
 use Rattle.ms_runs_origins_laws.proofs.Checks.{Same, Checked, counted}
-use Rattle.ms_runs_origins_laws.proofs.Frames.{FramesHold, ValuesHold, Holds as WordHolds, bind_holds, first_holds, frames_weaker}
-use Rattle.ms_runs_origins_laws.proofs.Steps.{backed_weaker, frames_back, Leads, RunsNow, ToldNow, ReachesNow, ReachesNext, MovedLeads, CalmFirst, CalmTop, frames_lead, acts_lead, told_checked, now_words, now_frames}
+use Rattle.ms_runs_origins_laws.proofs.Frames.{FramesHold, Holds as WordHolds, bind_holds, first_holds, frames_weaker}
+use Rattle.ms_runs_origins_laws.proofs.Steps.{backed_weaker, Leads, RunsNow, ToldNow, ReachesNow, ReachesNext, MovedLeads, CalmFirst, CalmTop, frames_lead, acts_lead, told_checked, now_words, now_frames}
 use Rattle.ms_threads_laws.specs.Due.{argument_word}
 use Rattle.ms_threads_laws.proofs.DueSame.{due_head}
 use Rattle.ms_threads_laws.proofs.OwnSteps.{calm_due, checks_keep, own_moved, planes_keep, back_keeps}
 use Rattle.ms_threads_laws.proofs.ThreadCalls.{ThreadCall, asks_call}
-use Rattle.ms_runs_threads.specs.Fibers.{Due as Duty, Own, Asks, Returns, Going, Meaning, Others, Fibers, Goes, Waits, standing, turned, goes_on, ended, moved, site_at, runnable, world_of}
-use Rattle.ms_runs_threads.specs.PlainFibers.{due_inst, due_at, frames_due, frames_left, words_due}
+use Rattle.ms_runs_threads.specs.Fibers.{Due as Duty, Own, Asks, Returns, Meaning, Others, Fibers, Goes, Waits, standing, turned, goes_on, ended, moved, world_of}
+use Rattle.ms_runs_threads.specs.PlainFibers.{due_inst, due_at, frames_due, words_due}
 use Rattle.ms_runs_threads.specs.ShadowFibers.{shadow_state, shadow_going, checked, reach_first, shadow_reach, perform_first, shadow_perform, shadow_answer, shadow_fiber}
-use Rattle.ms_threads_runs_laws.specs.Halves.{turn_begun, turn_of, pick_of, half_step}
+use Rattle.ms_threads_runs_laws.specs.Halves.{turn_begun, pick_of}
 use Rattle.ms_threads_runs_laws.specs.ThreadStates.{HasFiber}
 use Rattle.ms_threads_runs_laws.specs.ThreadWalks.{Ran, frames_going}
 use Rattle.ms_threads_runs_laws.proofs.ShadowThreads.{shadow_kept}
@@ -91,9 +88,6 @@ call_answers s h (op.Call ret callee args) words w v asked k = by_own (s.func ca
 call_answers s h _ words w v asked k = absurd asked
 
 module _ (d : Rules) (keep : KeepClean d) (widths : KeepWidths d) (m : Module) (formed : Formed m) (valid : Valid m) (bare : NoMarks m) (setup : Setup) (bytes : GivesBytes setup) where
-  abbrev State : Type 0
-  State = Fibers (List (Frame Poisoned)) World
-
   abbrev means : Meaning (List (Frame Poisoned)) World
   means = shadow_fiber d (setting_of m setup) m
 
@@ -506,7 +500,6 @@ module _ (d : Rules) (keep : KeepClean d) (widths : KeepWidths d) (m : Module) (
         call_moves : MovedLeads m (shadow_state (f ∷ below) w) (Runs ran) (Reached ran)
             (shadow_act d (setting_of m setup) m i (here (setting_of m setup) m f) (read_all (read_poisoned (setting_of m setup) f.values) (operands i.op) (here (setting_of m setup) m f).root) f below (counts i))
         call_moves =
-            let state = shadow_state (f ∷ below) w in
             let fs = now_frames m formed valid bare setup d keep (shadow_state (f ∷ below) w) (Runs ran) (Reached ran) f below refl sound i is next_is leads_there good.0.world.shadow frames.0 frames.1 (counts i).pairs counted_same.0 in
             acts_lead m formed valid bare setup d keep (shadow_state (f ∷ below) w) (Runs ran) (Reached ran) f below refl sound i is next_is (counts i) counted_same.0 counted_same.2 fs.0 fs.1
             (now_words m formed valid bare setup d keep (shadow_state (f ∷ below) w) (Runs ran) (Reached ran) f below refl sound i is next_is leads_there good.0.world.shadow frames.0 frames.1 (counts i).pairs fs)

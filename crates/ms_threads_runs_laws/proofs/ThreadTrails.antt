@@ -9,18 +9,16 @@ use Rattle.ms_ir.specs.Instructions.{NoMarks, count_roots}
 use Rattle.ms_ir.specs.Roots.{root_numbered}
 use Rattle.ms_runs.specs.declared.runs.End.{End}
 use Rattle.ms_runs.specs.declared.runs.End.TheVariants as «end»
-use Rattle.ms_runs.specs.declared.runs.Origin.{Origin}
-use Rattle.ms_runs.specs.declared.runs.Origin.TheVariants.{Root, Chain}
 use Rattle.ms_runs.specs.declared.runs.Report.{Report}
 use Rattle.ms_runs.specs.declared.runs.RunResult.{RunResult}
 use Rattle.ms_runs.specs.declared.runs.Setup.{Setup}
 use Rattle.ms_runs.specs.World.{World, result}
 use Rattle.ms_runs.specs.Calls.{call_sites}
 use Rattle.ms_runs.specs.Control.{Frame}
-use Rattle.ms_runs.specs.Plain.{Stepped, More, Stop, steps, and_then, go_on, setting_of, start_world, start_frame}
+use Rattle.ms_runs.specs.Plain.{Stepped, More, Stop, steps, and_then, go_on, setting_of, start_world}
 use Rattle.ms_runs.specs.Poisoned.{Poisoned}
 use Rattle.ms_runs.specs.Masks.{Rules}
-use Rattle.ms_runs.specs.Shadow.{ShadowState, shadow_reading}
+use Rattle.ms_runs.specs.Shadow.{ShadowState}
 use Rattle.ms_runs.specs.Threads.{Fibers as Beings}
 use Rattle.ms_runs.specs.Globals.{address_of}
 use Rattle.ms_runs.specs.World.{first_world}
@@ -35,8 +33,8 @@ use Rattle.ms_runs_origins_laws.proofs.ListedRoots as listed
 use Rattle.ms_runs_origins_laws.proofs.Starting.{start_backed}
 use Rattle.ms_runs_origins_laws.proofs.Trails.{back_weaker}
 use Rattle.ms_threads_laws.proofs.KeptRuns.{globals_fibers}
-use Rattle.ms_runs_threads.specs.Calls.{acting, acting_of}
-use Rattle.ms_runs_threads.specs.Fibers.{Meaning, Others, Fibers, Goes, Waits, goes_on, runnable, fibers_step, world_of}
+use Rattle.ms_runs_threads.specs.Calls.{acting_of}
+use Rattle.ms_runs_threads.specs.Fibers.{Meaning, Fibers, Goes, Waits, goes_on, runnable, fibers_step, world_of}
 use Rattle.ms_runs_threads.specs.ShadowFibers.{shadow_state, shadow_fiber, shadow_threads_by, shadow_threads_start}
 use Rattle.ms_threads_runs_laws.specs.Halves.{pick_of, half_step, whole_step}
 use Rattle.ms_threads_runs_laws.specs.ThreadStates.{HasFiber}
@@ -44,13 +42,10 @@ use Rattle.ms_threads_runs_laws.specs.ThreadWalks.{Ran, ThreadWalk, frames_actin
 use Rattle.ms_threads_runs_laws.proofs.Halves.{halves}
 use Rattle.ms_threads_runs_laws.proofs.PlainThreads.{ends_told}
 use Rattle.ms_threads_runs_laws.proofs.ShadowThreads.{shadow_kept, shadow_law, start_holds}
-use Rattle.ms_threads_runs_laws.proofs.ThreadOrigins.{GoodState, Runs, Reached, BackTo, AllLead, ToldBy, HalfLeads, picked_from, goes_half, pick_half}
+use Rattle.ms_threads_runs_laws.proofs.ThreadOrigins.{GoodState, Reached, BackTo, AllLead, ToldBy, HalfLeads, picked_from, goes_half, pick_half}
 use Rattle.ms_threads_runs_laws.proofs.Walked.{Stepping, half_keeps}
 
 module _ (d : Rules) (keep : KeepClean d) (widths : KeepWidths d) (m : Module) (formed : Formed m) (valid : Valid m) (bare : NoMarks m) (setup : Setup) (bytes : GivesBytes setup) (schedule : List ℕ) where
-  abbrev State : Type 0
-  State = Fibers (List (Frame Poisoned)) World
-
   abbrev means : Meaning (List (Frame Poisoned)) World
   means = shadow_fiber d (setting_of m setup) m
 
@@ -92,9 +87,6 @@ module _ (d : Rules) (keep : KeepClean d) (widths : KeepWidths d) (m : Module) (
     };
   }
     where
-      back : ℕ → Type 0
-      back id = BackTo d keep widths m formed valid bare setup bytes [] (start_world m setup).pairs id
-
       by_fiber : (fs : List (Frame Poisoned)) → HasFiber (shadow_threads_start m setup) fs → FramesHold (BackTo d keep widths m formed valid bare setup bytes [] (start_world m setup).pairs) fs
       by_fiber fs (inl e) = subst (FramesHold (BackTo d keep widths m formed valid bare setup bytes [] (start_world m setup).pairs)) e ((λ x ne. absurd (ne refl)), tt)
       by_fiber fs (inr e) = absurd (none e.1)

@@ -1,12 +1,12 @@
 -- What each half of a step of fibers keeps of all fibers is kept by every run of them.
 use Rattle.std.proofs.Common.{◌≡◌, ◌⊎◌, inl, inr, ℕ, zero, suc, ◌+◌, ◌%◌, Bool, true, false, List, [], ◌∷◌, length, eqb, Option, Some, None, is_some, if◌then◌else◌, refl, sym, ap, ◌∙◌, subst, arith, true≢false}
-use Rattle.std.specs.Prelude.{◌&&◌, not, filter, get_or}
+use Rattle.std.specs.Prelude.{not, filter, get_or}
 use Rattle.std.proofs.lemmas.Bool.{and_parts, eqb-true}
 use Rattle.std.proofs.lemmas.Option.{same_Some}
 use Rattle.ms_bits.specs.declared.traps.Trap.TheVariants as trap
 use Rattle.ms_runs.specs.declared.runs.End.{End}
 use Rattle.ms_runs.specs.declared.runs.End.TheVariants as «end»
-use Rattle.ms_runs.specs.World.{World, Thread, stuck}
+use Rattle.ms_runs.specs.World.{World, Thread}
 use Rattle.ms_runs.specs.Plain.{Stepped, More, Stop, steps, and_then}
 use Rattle.ms_runs.specs.Threads.{thread_at, has_ended}
 use Rattle.ms_runs_threads.specs.Fibers.{Due, Own, Asks, Returns, Going, Meaning, Others, Fibers, Goes, Waits, may_go, is_runnable, numbers_from, runnable, standing, turned, goes_on, with_world, ended, moved, site_at, fibers_step}
@@ -49,9 +49,6 @@ module _ {F S : Type 0} (means : Meaning F S) where
     pub Ends : End → World → Type 0
 
   module _ (p : Predicates) where
-    abbrev pub turn_in : S → ℕ
-    turn_in s = (means.world s).turn
-
     abbrev pub Leading : (Going F S → Type 0) → Stepped (Going F S) → Type 0
     Leading next (More g) = next g
     Leading next (Stop e w) = p.Ends e w

@@ -1,6 +1,6 @@
 -- States of runs of fibers in which nothing is missing: the frames of each fiber are good, each that stands does so at a
 -- thread call, and `main` stands wherever another fiber goes on (own).
-use Rattle.std.specs.Prelude.{◌≡◌, ◌⊎◌, ◌<◌, ◌^◌, ℕ, true, not, eqb, List, [], ◌∷◌, Option, Some, None, is_some}
+use Rattle.std.specs.Prelude.{◌≡◌, ◌⊎◌, ◌<◌, ◌^◌, ℕ, true, not, eqb, List, Some, is_some}
 use Rattle.ms_ir.specs.declared.syntax.Module.{Module}
 use Rattle.ms_runs.specs.World.{World, Setting, Thread}
 use Rattle.ms_runs.specs.Control.{Frame}

@@ -8,7 +8,7 @@ use Rattle.ms_ir.specs.Roots.{root_numbered}
 use Rattle.ms_runs.specs.declared.runs.End.{End}
 use Rattle.ms_runs.specs.declared.runs.Report.{Report}
 use Rattle.ms_runs.specs.declared.runs.Setup.{Setup}
-use Rattle.ms_runs.specs.World.{World, Setting}
+use Rattle.ms_runs.specs.World.{World}
 use Rattle.ms_runs.specs.Calls.{call_sites}
 use Rattle.ms_runs.specs.Control.{Frame}
 use Rattle.ms_runs.specs.Origins.{trail}
@@ -19,7 +19,7 @@ use Rattle.ms_runs.specs.Shadow.{ShadowState}
 use Rattle.ms_runs_good_laws.specs.Reached.{Reaches, IsOperand, StandsAt, LeadsBack}
 use Rattle.ms_runs_threads.specs.Calls.{acting}
 use Rattle.ms_runs_threads.specs.Fibers.{Fibers, Goes, Waits, world_of}
-use Rattle.ms_runs_threads.specs.ShadowFibers.{shadow_state, shadow_fiber, shadow_threads_by, shadow_threads_start}
+use Rattle.ms_runs_threads.specs.ShadowFibers.{shadow_state, shadow_fiber, shadow_threads_start}
 use Rattle.ms_threads_runs_laws.specs.Halves.{half_step}
 use Rattle.ms_threads_runs_laws.specs.ThreadStates.{HasFiber}
 
