@@ -21,6 +21,8 @@ mod names;
 #[cfg(test)]
 mod order;
 #[cfg(test)]
+mod pauses;
+#[cfg(test)]
 mod pieces;
 #[cfg(test)]
 mod sites;
