@@ -1,9 +1,10 @@
-//! What lines under sites do to a text.
-ghost use Rattle.std.specs.Prelude.{◌≡◌, Bool, ℕ, List};
-ghost use Rattle.ms_ir.specs.declared.syntax.Module.{Module};
+//! What lines under sites do to a text, and which function a line names.
+ghost use Rattle.std.specs.Prelude.{◌≡◌, Bool, ℕ, List, Some, false, slice_get};
+ghost use Rattle.ms_ir.specs.{declared.syntax.Func.{Func}, declared.syntax.Inst.{Inst}, declared.syntax.Module.{Module}};
+ghost use Rattle.ms_ir.specs.Instructions.{func_at, insts_at, site_at};
 ghost use Rattle.ms_runs.specs.declared.runs.RunResult.{RunResult};
 ghost use Rattle.ms_where_places.specs.Indented.{IsIndented, unindented};
-ghost use Rattle.ms_report.specs.{declared.refusals.Refusal.{Refusal}, RunTexts.{closing_of}};
+ghost use Rattle.ms_report.specs.{declared.refusals.Refusal.{Refusal}, RunTexts.{closing_of, function_of}};
 ghost use Rattle.ms_report.specs.{ReportTexts.{report_text_of}, RefusalTexts.{refusal_text}, TrailTexts.{trail_with}};
 ghost use Rattle.ms_report.specs.WithLines.{no_lines, reports_with, closing_text_with, refusal_text_with};
 ghost use Rattle.ms_trail_moves.specs.{declared.moves.Source.{Source}, declared.moves.Move.{Move}, declared.moves.Hop.{Hop}};
@@ -19,4 +20,10 @@ pub fn law_lines_are_added()
     ensures taken_out_of_closings { (under : ℕ → List ℕ) (m : Module) (r : RunResult) (verdict : Bool) → ((site : ℕ) → IsIndented (under site)) → unindented (closing_text_with under m r verdict) ≡ closing_of m r verdict }
     ensures taken_out_of_trails { (under : ℕ → List ℕ) (m : Module) (moves : List Move) (at : Source) (hops : List Hop) → ((site : ℕ) → IsIndented (under site)) → unindented (trail_with under m moves at hops) ≡ trail_with no_lines m moves at hops }
     ensures taken_out_of_refusals { (under : ℕ → List ℕ) (cause : Refusal) → ((site : ℕ) → IsIndented (under site)) → unindented (refusal_text_with under cause) ≡ refusal_text cause }
+{}
+
+/// The function that a line names with a site is that in which the instruction with this site stands.
+pub fn law_functions_are_named()
+    ensures { (m : Module) (f b p : ℕ) (func : Func) (inst : Inst) → func_at m f ≡ Some func → slice_get (insts_at m f b) p ≡ Some inst → inst.marked ≡ false
+        → function_of m (site_at m f b p) ≡ Some func.name }
 {}
