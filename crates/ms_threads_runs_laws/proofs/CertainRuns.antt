@@ -196,7 +196,7 @@ module _ (m : Module) (formed : Formed m) (valid : Valid m) (can : CanInstrument
   others_low : (k j : Filling) (a b : Others (List (Frame Poisoned))) → OthersAlike one (one_filled k) (Lows k) a b → OthersAlike one (one_filled j) (Lows j) a b
   others_low k j a b h = record { stands = λ n. both_low k j (a.stands n) (b.stands n) (h.stands n); picks = h.picks }
 
-  low_again : (k j : Filling) (c d : Fibers (List (Frame Poisoned)) World) → LowAlike k c d → LowAlike j c d
+  pub low_again : (k j : Filling) (c d : Fibers (List (Frame Poisoned)) World) → LowAlike k c d → LowAlike j c d
   low_again k j (Goes f w a) (Goes g v b) h = (h.0, others_low k j a b h.1)
   low_again k j (Waits w a) (Waits v b) h = (h.0, others_low k j a b h.1)
   low_again k j (Goes f w a) (Waits v b) h = absurd h
@@ -236,7 +236,7 @@ module _ (m : Module) (formed : Formed m) (valid : Valid m) (can : CanInstrument
   AlignedSteps k (More c) (Stop x v) = ⊥
   AlignedSteps k (Stop e w) (More p) = ⊥
 
-  low_worlds : (k : Filling) (c d : Fibers (List (Frame Poisoned)) World) → LowAlike k c d → LowWorld (shadow_world c) (shadow_world d)
+  pub low_worlds : (k : Filling) (c d : Fibers (List (Frame Poisoned)) World) → LowAlike k c d → LowWorld (shadow_world c) (shadow_world d)
   low_worlds k (Goes f w a) (Goes g v b) h = h.0.1
   low_worlds k (Waits w a) (Waits v b) h = h.0.0
   low_worlds k (Goes f w a) (Waits v b) h = absurd h
@@ -250,7 +250,7 @@ module _ (m : Module) (formed : Formed m) (valid : Valid m) (can : CanInstrument
   state_untold (Goes f w rest) h = h
   state_untold (Waits w rest) h = h
 
-  abbrev LowSteps : Filling → Stepped (Fibers (List (Frame Poisoned)) World) → Stepped (Fibers (List (Frame Poisoned)) World) → Type 0
+  abbrev pub LowSteps : Filling → Stepped (Fibers (List (Frame Poisoned)) World) → Stepped (Fibers (List (Frame Poisoned)) World) → Type 0
   LowSteps k x y = SteppedAlike (FibersAlike one (one_filled k) (Lows k)) (Lows k).Ends (EarlyFibers one (one_filled k) (Lows k)) x y
 
   abbrev ShownSteps : Filling → Stepped (Fibers (List (Frame Poisoned)) World) → Stepped (Fibers (List (Frame ℕ)) Shared) → Type 0
@@ -312,15 +312,15 @@ module _ (m : Module) (formed : Formed m) (valid : Valid m) (can : CanInstrument
   pub again : (k j : Filling) (c : Fibers (List (Frame Poisoned)) World) (p : Fibers (List (Frame ℕ)) Shared) → Aligned k c p → Aligned j c p
   again k j c p b = record { between = b.between; lows = low_again k j c b.between b.lows; shows = shown_again k j b.between p b.shows }
 
-  pub start_aligned : (k : Filling) → Aligned k (shadow_threads_start m setup) (plain_threads_start m setup)
-  start_aligned k =
+  pub start_low : (k : Filling) → LowAlike k (shadow_threads_start m setup) (shadow_threads_start m setup)
+  start_low k =
       let alike = start_alike m (to_first_report setup) k.fill in
       let sound = shadow_sound m formed valid (to_first_report setup) bytes_one in
-      let shared = low.start_shared m formed valid can (to_first_report setup) refl bytes_one k.fill (bytes_too k) in record {
-        between = shadow_threads_start m setup;
-        lows = ((alike.frames, alike.world, (sound.frames, start_clean m (to_first_report setup)), (sound.frames, start_clean m (to_first_report setup)), shared, shared), record { stands = λ n. tt; picks = refl });
-        shows = ((refl, refl), record { stands = λ n. tt; picks = refl });
-      }
+      let shared = low.start_shared m formed valid can (to_first_report setup) refl bytes_one k.fill (bytes_too k) in
+      ((alike.frames, alike.world, (sound.frames, start_clean m (to_first_report setup)), (sound.frames, start_clean m (to_first_report setup)), shared, shared), record { stands = λ n. tt; picks = refl })
+
+  pub start_aligned : (k : Filling) → Aligned k (shadow_threads_start m setup) (plain_threads_start m setup)
+  start_aligned k = record { between = shadow_threads_start m setup; lows = start_low k; shows = ((refl, refl), record { stands = λ n. tt; picks = refl }) }
 
   -- ---- what is certain
 

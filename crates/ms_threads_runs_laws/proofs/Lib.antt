@@ -10,3 +10,4 @@ pub mod ThreadTrails
 pub mod Grown
 pub mod CertainRuns
 pub mod ChangingRuns
+pub mod ChosenRuns

@@ -8,11 +8,13 @@ use Rattle.ms_runs.specs.World.{World, result}
 use Rattle.ms_runs.specs.Control.{Frame}
 use Rattle.ms_runs.specs.Plain.{Stepped, More, Stop, go_on, setting_of}
 use Rattle.ms_runs.specs.Poisoned.{Poisoned}
+use Rattle.ms_runs.specs.Masks.{by_completions}
 use Rattle.ms_runs_good_laws.specs.Fills.{IsFill, refilled}
 use Rattle.ms_runs_fills_laws.specs.Changing.{MayHold}
 use Rattle.ms_runs_fills_laws.specs.Chosen.{steps_by}
 use Rattle.ms_runs_threads.specs.Fibers.{Fibers, Goes, Waits, fibers_step}
 use Rattle.ms_runs_threads.specs.PlainFibers.{Shared, plain_fiber, plain_threads_start}
+use Rattle.ms_runs_threads.specs.ShadowFibers.{shadow_fiber, shadow_threads_start}
 use Rattle.ms_threads_runs_laws.specs.CertainThreads.{chosen_fibers_step}
 
 -- the worlds of a state of each run
@@ -55,3 +57,10 @@ fibers_shown_by z = go_on (λ p. result «end».Spent (program_world p)) z
 -- the plain run of fibers, with the fill of each step
 abbrev pub plain_threads_chosen : Module → Setup → (ℕ → List ℕ) → (schedule : List ℕ) → RunResult
 plain_threads_chosen m setup fills schedule = fibers_shown_by (steps_by (chosen_fibers_step m setup fills schedule) setup.steps 0 (plain_threads_start m setup))
+
+-- step k of a shadow run of fibers, and that run, with the fill of each step
+abbrev pub chosen_shadow_fibers_step : Module → Setup → (ℕ → List ℕ) → (schedule : List ℕ) → ℕ → Fibers (List (Frame Poisoned)) World → Stepped (Fibers (List (Frame Poisoned)) World)
+chosen_shadow_fibers_step m setup fills schedule k = fibers_step (shadow_fiber by_completions (setting_of m (refilled setup (fills k))) m) schedule
+
+abbrev pub shadow_threads_chosen : Module → Setup → (ℕ → List ℕ) → (schedule : List ℕ) → RunResult
+shadow_threads_chosen m setup fills schedule = go_on (λ c. result «end».Spent (shadow_world c)) (steps_by (chosen_shadow_fibers_step m setup fills schedule) setup.steps 0 (shadow_threads_start m setup))

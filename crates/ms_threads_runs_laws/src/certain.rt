@@ -4,13 +4,13 @@ ghost use Rattle.ms_ir.specs.declared.syntax.Module.{Module};
 ghost use Rattle.ms_runs.specs.{declared.runs.Setup.{Setup}, Masks.{by_completions}, Plain.{Stepped, setting_of, steps}};
 ghost use Rattle.ms_runs.specs.{Control.{Frame}, Verdict.{Clean, verdict_of}};
 ghost use Rattle.ms_check_valid.specs.{Formed.{Formed}, Uninstrumented.{CanInstrument}, Valid.{Valid}};
-ghost use Rattle.ms_runs_good_laws.specs.{Fills.{IsFill, SameShown}, GoodWorlds.{GivesBytes}};
+ghost use Rattle.ms_runs_good_laws.specs.{Fills.{IsFill, to_first_report, SameShown}, GoodWorlds.{GivesBytes}};
 ghost use Rattle.ms_runs_fills_laws.specs.Chosen.{steps_by};
 ghost use Rattle.ms_runs_threads.specs.Fibers.{Fibers, fibers_step};
 ghost use Rattle.ms_runs_threads.specs.PlainFibers.{Shared, plain_threads_start};
 ghost use Rattle.ms_runs_threads.specs.ShadowFibers.{shadow_fiber, shadow_threads, shadow_threads_start};
 ghost use Rattle.ms_threads_runs_laws.specs.CertainThreads.{CertainFiberSteps, UntoldFibers, chosen_fibers_step};
-ghost use Rattle.ms_threads_runs_laws.specs.ChangingThreads.{FibersComeTo, fibers_shown_by, plain_threads_chosen};
+ghost use Rattle.ms_threads_runs_laws.specs.ChangingThreads.{FibersComeTo, fibers_shown_by, plain_threads_chosen, shadow_threads_chosen};
 
 /// Bits outside a mask are certain with guest threads too: after any number of steps of a shadow run under a schedule, with
 /// neither a report nor a blind use so far, the program itself under the same schedule stands at the same place in every
@@ -25,10 +25,13 @@ pub fn threads_masks_are_certain()
 {}
 
 /// A clean verdict holds under every choice: the program itself prints the same and ends in the same way under the same
-/// schedule, also where each step has a fill of its own.
+/// schedule, also where each step has a fill of its own. Where no blind use was counted, the run up to the first report is
+/// the same whatever fill each step has.
 pub fn clean_threads_under_choices()
-    ensures { (m : Module) → Formed m → Valid m → CanInstrument m → (setup : Setup) → GivesBytes setup → (schedule : List ℕ) → verdict_of (shadow_threads m setup schedule) ≡ Clean
+    ensures clean { (m : Module) → Formed m → Valid m → CanInstrument m → (setup : Setup) → GivesBytes setup → (schedule : List ℕ) → verdict_of (shadow_threads m setup schedule) ≡ Clean
         → (fills : ℕ → List ℕ) → ((k : ℕ) → IsFill (fills k)) → SameShown (plain_threads_chosen m setup fills schedule) (shadow_threads m setup schedule) }
+    ensures same { (m : Module) → Formed m → Valid m → CanInstrument m → (setup : Setup) → GivesBytes setup → (schedule : List ℕ) → (shadow_threads m (to_first_report setup) schedule).blind ≡ 0
+        → (fills : ℕ → List ℕ) → ((k : ℕ) → IsFill (fills k)) → shadow_threads_chosen m (to_first_report setup) fills schedule ≡ shadow_threads m (to_first_report setup) schedule }
 {}
 
 /// Both hold too where uninitialised memory changes: before each step memory may hold any bytes that are those of the shadow run
