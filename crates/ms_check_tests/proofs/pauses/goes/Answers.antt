@@ -15,6 +15,6 @@ stands-requires g c =
     let u = c.args.setup.now in
     let start = plain_start m u in
     let asked : HasAsked (IsRunning m u nothing_beside) m u start 1000 c.args.fiber.frame.at c.in-Asked.call c.advance.new.fiber c.advance.new.world c.advance.new.budget.left =
-        subst (λ (x : Pause). Advanced (IsRunning m u nothing_beside) m u nothing_beside start 1000 c.args.fiber.frame.at x c.advance.new.fiber c.advance.new.world c.advance.new.budget.left) c.in-Asked.is
-        (c.in_ok-call.ensures.advanced u nothing_beside start c.requires.running) in
+    subst (λ (x : Pause). Advanced (IsRunning m u nothing_beside) m u nothing_beside start 1000 c.args.fiber.frame.at x c.advance.new.fiber c.advance.new.world c.advance.new.budget.left) c.in-Asked.is
+    (c.in_ok-call.ensures.advanced u nothing_beside start c.requires.running) in
     (c.advance.new.world, (u, nothing_beside, asked.within, asked.stands))
