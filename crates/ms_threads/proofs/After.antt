@@ -1,5 +1,5 @@
 -- After the answer to a call a run of threads goes on, or has ended, as its definition does.
-use Rattle.std.proofs.Common.{◌≡◌, ◌<◌, ◌≤◌, ◌+◌, ◌-◌, ◌*◌, ◌^◌, ℕ, suc, Bool, true, false, not, eqb, if◌then◌else◌, List, ◌∷◌, length, slice_get, refl, sym, ap, subst, ◌∙◌, arith, Option, Some, None, inl}
+use Rattle.std.proofs.Common.{◌≡◌, ◌<◌, ◌≤◌, ◌+◌, ◌-◌, ◌*◌, ℕ, suc, Bool, true, false, not, eqb, List, ◌∷◌, length, slice_get, refl, sym, ap, subst, ◌∙◌, arith, Option, Some, None, inl}
 use Rattle.ms_ir.specs.declared.syntax.Module.{Module}
 use Rattle.ms_ir.specs.declared.calls.External.{External}
 use Rattle.ms_ir.specs.Instructions.{over_funcs}
@@ -14,7 +14,7 @@ use Rattle.ms_runs.specs.Plain.{PlainState, Stepped, setting_of}
 use Rattle.ms_runs.specs.Threads.{Fibers}
 use Rattle.ms_runs_good_laws.specs.GoodStates.{IsStart}
 use Rattle.ms_runs_threads.specs.Fibers.{goes_on, moves}
-use Rattle.ms_runs_threads.specs.PlainFibers.{plain_threads, plain_going}
+use Rattle.ms_runs_threads.specs.PlainFibers.{plain_going}
 use Rattle.ms_machine_code.specs.declared.code.Program.{Program}
 use Rattle.ms_machine_code.specs.Compiled.{Compiled}
 use Rattle.ms_host.specs.State.{WorldState}
@@ -36,12 +36,15 @@ use Rattle.ms_machine.proofs.Programs.{frames_to, frames_from, state_to, state_f
 use Rattle.ms_runtime.specs.declared.runs.Running.{Running}
 use Rattle.ms_runtime.specs.Served.{IsBeside}
 use Rattle.ms_runtime.specs.Answering.{HasRoom, AnsweredFor}
-use Rattle.ms_runtime.specs.Going.{ahead, Answers, LeftAfter}
+use Rattle.ms_runtime.specs.Going.{ahead, LeftAfter}
 use Rattle.ms_runtime.proofs.Fitting.{has_room}
 use Rattle.ms_runtime.proofs.Goings.{one_nearer, at_within}
 use Rattle.ms_threads.specs.declared.runs.ThreadedRun.{ThreadedRun}
+use Rattle.ms_threads.specs.declared.thread_table.ThreadTable.{ThreadTable}
 use Rattle.ms_threads.specs.ThreadTables.{standing_of, IsThreadCall, asked_starts, Shares, KeepsStands, SharesOn, Did}
-use Rattle.ms_threads.specs.Going.{Standings, fiber_of, goes_at, ends_from, ends_after, last_of, Going, Asking, After, Performing, Turned, most_ahead, far_of}
+use Rattle.ms_threads_schedules_laws.specs.Picks.{Pick}
+use Rattle.ms_threads.specs.Recording.{Records}
+use Rattle.ms_threads.specs.Going.{Standings, IsOver, ended_so, fiber_of, goes_at, ends_from, ends_after, last_of, Going, Asking, After, Performing, Turned, most_ahead, far_of}
 use Rattle.ms_threads.proofs.Kept.{standings_kept}
 use Rattle.ms_threads.proofs.FiberSteps.{same_step, own_step, step_ends}
 use Rattle.ms_threads.proofs.Turns.{ends_so}
@@ -75,18 +78,18 @@ module _ (m : Module) (u : Setup) (schedule : List ℕ) where
         ap (λ (n : ℕ). n * (over_funcs (λ inst. 1) m.funcs + 1) + (over_funcs (λ inst. 1) m.funcs - t'.running.fiber.frame.at)) left_is
         ∙ ap (λ (g : Fiber). t.running.budget.left * (over_funcs (λ inst. 1) m.funcs + 1) + (over_funcs (λ inst. 1) m.funcs - g.frame.at)) f.fiber
 
-    goes_by : (of : Asked) → (IsThreadCall of → ⊥) → LeftAfter of a.rest t.running.budget.left → (next : PlainState) → Resumes m u of a.within next → ends_from m u schedule t.running.budget.left (goes_at next a.others) ≡ last_of m u schedule
+    goes_by : (of : Asked) → (IsThreadCall of → ⊥) → LeftAfter of a.rest t.running.budget.left → (next : PlainState) → Resumes m u of a.within next → ends_from m u schedule a.made t.running.budget.left (goes_at next a.others) ≡ last_of m u schedule
     goes_by (asked.External e) none c next r =
-        ap (λ n. ends_from m u schedule n (goes_at next a.others)) (sym c)
-        ∙ sym (ap (ends_after m u schedule a.rest) (own_step m u schedule a.within next a.others (r.1 (not_thread e none)) r.0)) ∙ a.same
+        ap (λ n. ends_from m u schedule a.made n (goes_at next a.others)) (sym c)
+        ∙ sym (ap (ends_after m u schedule a.made a.rest) (own_step m u schedule a.within next a.others (r.1 (not_thread e none)) r.0)) ∙ a.same
     goes_by (asked.Runtime g) none c next r =
-        ap (λ n. ends_from m u schedule n (goes_at next a.others)) (sym c)
-        ∙ sym (ap (ends_after m u schedule a.rest) (same_step m u schedule a.within next a.others r)) ∙ a.same
+        ap (λ n. ends_from m u schedule a.made n (goes_at next a.others)) (sym c)
+        ∙ sym (ap (ends_after m u schedule a.made a.rest) (same_step m u schedule a.within next a.others r)) ∙ a.same
 
-    stops_by : (of : Asked) → (IsThreadCall of → ⊥) → (e : End) (last : World) → Stops m u of a.within e last → (e, last) ≡ last_of m u schedule
+    stops_by : (of : Asked) → (IsThreadCall of → ⊥) → (e : End) (last : World) → Stops m u of a.within e last → ended_so a.made e last ≡ last_of m u schedule
     stops_by (asked.External g) none e last s =
-        sym (ap (ends_after m u schedule a.rest) (step_ends m u schedule a.within a.others e last (record { step = s.0; early = inl (s.1 (not_thread g none)) }))) ∙ a.same
-    stops_by (asked.Runtime g) none e last s = sym (ap (ends_after m u schedule a.rest) (step_ends m u schedule a.within a.others e last s)) ∙ a.same
+        sym (ap (ends_after m u schedule a.made a.rest) (step_ends m u schedule a.within a.others e last (record { step = s.0; early = inl (s.1 (not_thread g none)) }))) ∙ a.same
+    stops_by (asked.Runtime g) none e last s = sym (ap (ends_after m u schedule a.made a.rest) (step_ends m u schedule a.within a.others e last s)) ∙ a.same
 
     pub answered_after : After m u schedule call x t'
     answered_after = record {
@@ -107,7 +110,9 @@ module _ (m : Module) (u : Setup) (schedule : List ℕ) where
       room = f.room;
       shares = λ v e. subst (λ g. Shares g f.beside.fibers) (sym guests) (subst (λ (y : Fibers). Shares t.table y) (sym (f.fibers ∙ a.stands.shows.fibers)) a.shares);
       standings = subst (λ g. Standings m u schedule g a.others) (sym guests) a.standings;
-      goes = λ next r. ap (λ n. ends_from m u schedule n (goes_at next a.others)) left_is ∙ goes_by call.asked other a.counted next r;
+      made = a.made;
+      recorded = subst (λ (g : ThreadTable). Records g.recorder a.made) (sym guests) a.recorded;
+      goes = λ next r. ap (λ n. ends_from m u schedule a.made n (goes_at next a.others)) left_is ∙ goes_by call.asked other a.counted next r;
       stops = λ e last s. stops_by call.asked other e last s;
     }
 
@@ -152,14 +157,14 @@ module _ (m : Module) (u : Setup) (schedule : List ℕ) where
     performed_far = let e = most_is in omega (arith, e)
 
     -- what the step of a pick comes to
-    abbrev on_perform : Stepped PlainState → End × World
-    on_perform r = ends_after m u schedule p.left (goes_on (plain_going r) (moves (fiber_of m u) p.others))
+    abbrev on_perform : Stepped PlainState → (End × World) × List Pick
+    on_perform r = ends_after m u schedule p.made p.left (goes_on (plain_going r) (moves (fiber_of m u) p.others))
 
-    goes_call : (of : Asked) → IsThreadCall of → (next : PlainState) → Resumes m u of within next → ends_from m u schedule (suc p.left) (goes_at next p.others) ≡ last_of m u schedule
+    goes_call : (of : Asked) → IsThreadCall of → (next : PlainState) → Resumes m u of within next → ends_from m u schedule p.made (suc p.left) (goes_at next p.others) ≡ last_of m u schedule
     goes_call (asked.External e) is next r = sym (ap on_perform r.0) ∙ p.same
     goes_call (asked.Runtime g) is next r = absurd is
 
-    stops_call : (of : Asked) → IsThreadCall of → (e : End) (last : World) → Stops m u of within e last → (e, last) ≡ last_of m u schedule
+    stops_call : (of : Asked) → IsThreadCall of → (e : End) (last : World) → Stops m u of within e last → ended_so p.made e last ≡ last_of m u schedule
     stops_call (asked.External g) is e last s = sym (ap on_perform s.0) ∙ p.same
     stops_call (asked.Runtime g) is e last s = absurd is
 
@@ -188,7 +193,9 @@ module _ (m : Module) (u : Setup) (schedule : List ℕ) where
           omega (arith, same, left, p.between.room);
       shares = shares_by x d.1.1;
       standings = standings_kept m u schedule (asked_starts call.asked call.args) t.table t'.table p.others p.between.stands kept begin;
-      goes = λ next r. ap (λ n. ends_from m u schedule n (goes_at next p.others)) left_there ∙ goes_call call.asked p.stood.call next r;
+      made = p.made;
+      recorded = subst (λ r. Records r p.made) (sym kept.same.recorder) p.recorded;
+      goes = λ next r. ap (λ n. ends_from m u schedule p.made n (goes_at next p.others)) left_there ∙ goes_call call.asked p.stood.call next r;
       stops = λ e last st. stops_call call.asked p.stood.call e last st;
     }
 
@@ -205,13 +212,13 @@ module _ (m : Module) (u : Setup) (schedule : List ℕ) where
     some_ahead = let lt = at_below in omega (arith, lt)
 
     -- the answer ended the run
-    pub after_ends : (e : End) → a ≡ answer.Ended e → Answers (plain_threads m u schedule) e t.running
+    pub after_ends : (e : End) → a ≡ answer.Ended e → IsOver m u schedule e t
     after_ends e is =
         let stopped : HasStopped m u b.beside call.asked b.within e t.running.world =
         answered_ends m p u b.old t.running.fiber b.before b.within stands call b.waits b.beside t.running.world b.fill b.slots e
         (subst (λ (x : Answer). Answered b.beside (asked_effect (setting_of m u) (types_due m b.within.frames) call b.within.world) x t.running.world) is b.answered) in
         let low = some_ahead in
-        ends_so m u schedule e stopped.last b.beside t (b.stops e stopped.last stopped.ends) stopped.shows b.told (omega (arith, b.blind, low))
+        ends_so m u schedule b.made e stopped.last b.beside t b.recorded (b.stops e stopped.last stopped.ends) stopped.shows b.told (omega (arith, b.blind, low))
 
     -- or it goes on
     module _ (value : Option ℕ) (is : a ≡ answer.Resumed value) (t' : ThreadedRun) (world : t'.running.world ≡ t.running.world) (depot : t'.running.depot ≡ t.running.depot) (told : t'.running.told ≡ t.running.told)
@@ -257,7 +264,9 @@ module _ (m : Module) (u : Setup) (schedule : List ℕ) where
         };
         shares = subst (λ g. Shares g b.beside.fibers) (sym guests) (b.shares value is);
         standings = subst (λ g. Standings m u schedule g b.others) (sym guests) b.standings;
-        same = ap (λ n. ends_from m u schedule n (goes_at on.next b.others)) left_on ∙ b.goes on.next on.goes;
+        made = b.made;
+        recorded = subst (λ (g : ThreadTable). Records g.recorder b.made) (sym guests) b.recorded;
+        same = ap (λ n. ends_from m u schedule b.made n (goes_at on.next b.others)) left_on ∙ b.goes on.next on.goes;
       }
 
 -- a run that is nearer to its end than so far is nearer than any number that isn't less

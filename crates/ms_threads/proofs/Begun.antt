@@ -34,6 +34,8 @@ use Rattle.ms_runtime.specs.Going.{ahead, Begins}
 use Rattle.ms_threads.specs.declared.thread_table.Thread.{Thread as Guest}
 use Rattle.ms_threads.specs.declared.runs.ThreadedRun.{ThreadedRun}
 use Rattle.ms_threads.specs.ThreadTables.{stand_at, thread_of, guest_at, part_at, SameCalls, IsNew, Shares}
+use Rattle.ms_threads.specs.Recording.{Records}
+use Rattle.ms_threads.specs.declared.thread_table.ThreadTable.{ThreadTable}
 use Rattle.ms_threads.specs.Going.{StandsAt, Standings, goes_at, ends_from, Beginning, Going, most_ahead}
 use Rattle.ms_threads.proofs.Places.{same_frames, none_more, no_call}
 
@@ -114,7 +116,9 @@ module _ (m : Module) (u : Setup) (schedule : List ℕ) where
           };
           shares = subst (λ g. Shares g b.beside.fibers) (sym guests) b.between.shares;
           standings = subst (λ g. Standings m u schedule g b.others) (sym guests) b.between.stands;
-          same = ap (λ n. ends_from m u schedule n (goes_at state b.others)) (left_is ∙ b.some) ∙ b.same;
+          made = b.made;
+          recorded = subst (λ (g : ThreadTable). Records g.recorder b.made) (sym guests) b.recorded;
+          same = ap (λ n. ends_from m u schedule b.made n (goes_at state b.others)) (left_is ∙ b.some) ∙ b.same;
         }
 
   -- ---- the start
@@ -142,7 +146,9 @@ module _ (m : Module) (u : Setup) (schedule : List ℕ) where
       place = new.place ∙ sym (mod-eq_of_lt some);
       starts = λ k f e. absurd (none k f (subst (λ xs. slice_get (map (λ (x : Guest). x.func) xs) k ≡ Some f) new.threads e));
     };
-    same = ap (λ n. ends_from m u schedule n (goes_at (plain_start m u) no_others)) b.budget;
+    made = [];
+    recorded = new.recorder;
+    same = ap (λ n. ends_from m u schedule [] n (goes_at (plain_start m u) no_others)) b.budget;
   }
     where
       none : (k f : ℕ) → slice_get [] k ≡ Some f → ⊥

@@ -1,5 +1,5 @@
 -- What steps of a fiber's own, and its pauses, come to in a run of fibers.
-use Rattle.std.proofs.Common.{◌≡◌, ◌<◌, ◌+◌, ◌-◌, ℕ, zero, suc, Bool, true, false, ◌&&◌, not, List, [], ◌∷◌, drop, slice_get, length, eqb, if◌then◌else◌, refl, sym, ap, ◌∙◌, arith, Option, Some, ◌⊎◌, inl, inr}
+use Rattle.std.proofs.Common.{◌≡◌, ◌+◌, ◌-◌, ℕ, zero, suc, Bool, true, false, ◌&&◌, not, List, [], ◌∷◌, drop, slice_get, length, eqb, if◌then◌else◌, refl, sym, ap, ◌∙◌, arith, Option, Some, ◌⊎◌, inl, inr}
 use Rattle.ms_ir.specs.declared.syntax.Name.{Name}
 use Rattle.ms_ir.specs.declared.syntax.Ty.{Ty}
 use Rattle.ms_ir.specs.declared.syntax.Operand.{Operand}
@@ -27,7 +27,8 @@ use Rattle.ms_host.specs.declared.calls.HostCall.{HostCall}
 use Rattle.ms_machine_steps.specs.Waiting.{IsAsked, FirstWaits, Finishes}
 use Rattle.ms_machine_steps.specs.Advances.{step_of, reach_of, due_in, Within, Ends, AllOwn}
 use Rattle.ms_threads.specs.ThreadTables.{IsThreadCall}
-use Rattle.ms_threads.specs.Going.{fiber_of, shared_in, goes_at, ends_from, ends_after}
+use Rattle.ms_threads_schedules_laws.specs.Picks.{Pick}
+use Rattle.ms_threads.specs.Going.{fiber_of, shared_in, goes_at, ends_from, ends_after, ended_so}
 
 -- what stands at a place stands first after it
 pub dropped : (xs : List Inst) (k : ℕ) (x : Inst) → slice_get xs k ≡ Some x → drop k xs ≡ x ∷ drop (suc k) xs
@@ -86,31 +87,31 @@ module _ (m : Module) (u : Setup) (schedule : List ℕ) where
   same_More e = cc
 
   -- so many of its own
-  own_steps : (n k : ℕ) (a b : PlainState) (others : Others (List (Frame ℕ))) → AllOwn m u n a → steps (step_of m u) n a ≡ More b
-      → ends_from m u schedule (n + k) (goes_at a others) ≡ ends_from m u schedule k (goes_at b others)
-  own_steps zero k a b others all e =
-      ap (λ j. ends_from m u schedule j (goes_at a others)) (let z : 0 + k ≡ k = omega arith in z) ∙ ap (λ s. ends_from m u schedule k (goes_at s others)) (same_More e)
-  own_steps (suc n) k a b others all e =
-      ap (λ j. ends_from m u schedule j (goes_at a others)) (let z : suc n + k ≡ suc (n + k) = omega arith in z)
-      ∙ by_step (step_of m u a) refl (λ c. own_steps n k c b others) e
+  own_steps : (made : List Pick) (n k : ℕ) (a b : PlainState) (others : Others (List (Frame ℕ))) → AllOwn m u n a → steps (step_of m u) n a ≡ More b
+      → ends_from m u schedule made (n + k) (goes_at a others) ≡ ends_from m u schedule made k (goes_at b others)
+  own_steps made zero k a b others all e =
+      ap (λ j. ends_from m u schedule made j (goes_at a others)) (let z : 0 + k ≡ k = omega arith in z) ∙ ap (λ s. ends_from m u schedule made k (goes_at s others)) (same_More e)
+  own_steps made (suc n) k a b others all e =
+      ap (λ j. ends_from m u schedule made j (goes_at a others)) (let z : suc n + k ≡ suc (n + k) = omega arith in z)
+      ∙ by_step (step_of m u a) refl (λ c. own_steps made n k c b others) e
     where
       by_step : (r : Stepped PlainState) → step_of m u a ≡ r
-          → ((c : PlainState) → AllOwn m u n c → steps (step_of m u) n c ≡ More b → ends_from m u schedule (n + k) (goes_at c others) ≡ ends_from m u schedule k (goes_at b others))
-          → and_then r (steps (step_of m u) n) ≡ More b → ends_after m u schedule (n + k) (step (goes_at a others)) ≡ ends_from m u schedule k (goes_at b others)
-      by_step (More c) is later came = ap (ends_after m u schedule (n + k)) (own_step a c others all.0 is) ∙ later c (all.1 c is) came
+          → ((c : PlainState) → AllOwn m u n c → steps (step_of m u) n c ≡ More b → ends_from m u schedule made (n + k) (goes_at c others) ≡ ends_from m u schedule made k (goes_at b others))
+          → and_then r (steps (step_of m u) n) ≡ More b → ends_after m u schedule made (n + k) (step (goes_at a others)) ≡ ends_from m u schedule made k (goes_at b others)
+      by_step (More c) is later came = ap (ends_after m u schedule made (n + k)) (own_step a c others all.0 is) ∙ later c (all.1 c is) came
       by_step (Stop x w) is later came = absurd (cc)
 
   -- all are done
-  pub run_spent : (left : ℕ) (a b : PlainState) (others : Others (List (Frame ℕ))) → AllOwn m u left a → steps (step_of m u) left a ≡ More b
-      → ends_from m u schedule left (goes_at a others) ≡ («end».Spent, b.world)
-  run_spent left a b others all e =
-      ap (λ j. ends_from m u schedule j (goes_at a others)) (let z : left ≡ left + 0 = omega arith in z) ∙ own_steps left 0 a b others all e
+  pub run_spent : (made : List Pick) (left : ℕ) (a b : PlainState) (others : Others (List (Frame ℕ))) → AllOwn m u left a → steps (step_of m u) left a ≡ More b
+      → ends_from m u schedule made left (goes_at a others) ≡ ended_so made «end».Spent b.world
+  run_spent made left a b others all e =
+      ap (λ j. ends_from m u schedule made j (goes_at a others)) (let z : left ≡ left + 0 = omega arith in z) ∙ own_steps made left 0 a b others all e
 
   -- after its first steps a run goes on with the step from there
-  pub run_due : (left rest n : ℕ) (a b : PlainState) (others : Others (List (Frame ℕ))) → rest + n + 1 ≡ left → AllOwn m u n a → steps (step_of m u) n a ≡ More b
-      → ends_from m u schedule left (goes_at a others) ≡ ends_after m u schedule rest (step (goes_at b others))
-  run_due left rest n a b others e all came =
-      ap (λ j. ends_from m u schedule j (goes_at a others)) (let z : left ≡ n + suc rest = omega (arith, e) in z) ∙ own_steps n (suc rest) a b others all came
+  pub run_due : (made : List Pick) (left rest n : ℕ) (a b : PlainState) (others : Others (List (Frame ℕ))) → rest + n + 1 ≡ left → AllOwn m u n a → steps (step_of m u) n a ≡ More b
+      → ends_from m u schedule made left (goes_at a others) ≡ ends_after m u schedule made rest (step (goes_at b others))
+  run_due made left rest n a b others e all came =
+      ap (λ j. ends_from m u schedule made j (goes_at a others)) (let z : left ≡ n + suc rest = omega (arith, e) in z) ∙ own_steps made n (suc rest) a b others all came
 
   -- ---- a thread call
 

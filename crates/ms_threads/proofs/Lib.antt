@@ -2,6 +2,7 @@ pub mod Called
 pub mod Apart
 pub mod Stripped
 pub mod FaithfulRuns
+pub mod Recorded
 pub mod Places
 pub mod Numbered
 pub mod Threading

@@ -1,5 +1,6 @@
 -- A pick of the code is a pick of the definitions: from where a thread stands at a call, or has ended, to where another goes on.
-use Rattle.std.proofs.Common.{◌≡◌, ◌≢◌, ◌<◌, ◌≤◌, ◌+◌, ◌-◌, ◌*◌, ◌%◌, ◌^◌, ◌&&◌, ℕ, zero, suc, Bool, true, false, not, eqb, if◌then◌else◌, List, [], ◌∷◌, length, map, filter, drop, get_or, refl, sym, ap, subst, ◌∙◌, arith, Option, Some, None, option_map, is_some, true≢false}
+use Rattle.std.proofs.Common.{◌≡◌, ◌≢◌, ◌<◌, ◌≤◌, ◌+◌, ◌-◌, ◌*◌, ◌%◌, ◌^◌, ◌&&◌, ℕ, zero, suc, Bool, true, false, not, eqb, List, [], ◌∷◌, ◌++◌, length, map, filter, drop, get_or, refl, sym, ap, subst, ◌∙◌, arith, Option, Some, None, option_map, is_some, true≢false}
+use Rattle.std.specs.Prelude.{MatchBool}
 use Rattle.std.proofs.lemmas.Bool.{and_parts}
 use Rattle.std.proofs.lemmas.Nat.{mod_below}
 use Rattle.ms_bits.specs.declared.traps.Trap.TheVariants as trap
@@ -16,8 +17,8 @@ use Rattle.ms_runs.specs.Control.{Frame, here, read_all}
 use Rattle.ms_runs.specs.Act.{plain_reading}
 use Rattle.ms_runs.specs.Plain.{setting_of}
 use Rattle.ms_runs.specs.Threads.{Fibers, fibers_of, thread_at, has_ended}
-use Rattle.ms_runs_threads.specs.Fibers.{Others, Waits, waits, may_go, is_runnable, numbers_from, runnable, standing, turned, resumed, resumes, picked, site_at}
-use Rattle.ms_runs_threads.specs.PlainFibers.{Shared, plain_threads, due_inst, joins_of, op_joins, inst_joins, frames_joins, frames_site, words_due}
+use Rattle.ms_runs_threads.specs.Fibers.{Others, Waits, waits, may_go, is_runnable, numbers_from, runnable, standing, turned, resumed, resumes, picked, site_at, fibers_step, ends_in}
+use Rattle.ms_runs_threads.specs.PlainFibers.{Shared, due_inst, joins_of, op_joins, inst_joins, frames_joins, frames_site, words_due}
 use Rattle.ms_host.specs.State.{WorldState, Beside}
 use Rattle.ms_host.specs.Shows.{Shows}
 use Rattle.ms_host.specs.declared.calls.Asked.{Asked}
@@ -27,17 +28,28 @@ use Rattle.ms_machine_frames.specs.declared.fibers.Fiber.{Fiber}
 use Rattle.ms_machine_steps.specs.Waiting.{IsAsked, FirstWaits}
 use Rattle.ms_runtime.specs.declared.runs.Running.{Running}
 use Rattle.ms_runtime.specs.Served.{IsBeside}
-use Rattle.ms_runtime.specs.Going.{Answers, LeftAfter, HasSlack}
+use Rattle.ms_runtime.specs.Going.{LeftAfter, HasSlack}
 use Rattle.ms_threads.specs.declared.thread_table.Thread.{Thread as Guest}
 use Rattle.ms_threads.specs.declared.thread_table.ThreadTable.{ThreadTable}
 use Rattle.ms_threads.specs.declared.runs.ThreadedRun.{ThreadedRun}
-use Rattle.ms_threads.specs.ThreadTables.{Standing, standing_of, stand_at, thread_of, guest_at, threads_of, stands_of, site_of, asked_joins, call_joins, standing_joins, runnable_in, IsThreadCall, Stands, Picked}
-use Rattle.ms_threads.specs.Going.{StandsFor, StandsAt, fiber_of, shared_in, ends_from, ends_after, last_of, Between, most_ahead, far_of, Asking, Picking, Performing, Beginning}
+use Rattle.ms_threads.specs.ThreadTables.{Standing, standing_of, stand_at, thread_of, guest_at, threads_of, stands_of, site_of, asked_joins, call_joins, standing_joins, runnable_in, IsThreadCall, Stands, picked_of, Picked}
+use Rattle.ms_threads_schedules_laws.specs.Picks.{Pick, number_at, pick_by, picked_on, picks_in}
+use Rattle.ms_threads.specs.Recording.{Records}
+use Rattle.ms_threads.specs.Going.{StandsFor, StandsAt, IsOver, ended_so, fiber_of, shared_in, ends_from, ends_after, last_of, Between, most_ahead, far_of, Asking, Picking, Performing, Beginning}
 use Rattle.ms_threads.proofs.Numbered.{test_of, picked_goes}
 use Rattle.ms_threads.proofs.Threading.{same_thread, shows_fibers, shares_turned, shares_same}
 use Rattle.ms_threads.proofs.Kept.{standings_stood, standings_picked}
 use Rattle.ms_threads.proofs.FiberSteps.{first_due, unmarked_of, dropped, step_asks}
 use Rattle.ms_threads.proofs.Turns.{ends_so}
+
+-- what a pick says, where one may go on and where none may
+pub picked_so : (schedule : List ℕ) (g h : ThreadTable) (b : Bool) → b ≡ true → MatchBool b (Picked schedule g h) ((runnable_in g ≡ []) × (h ≡ g)) → Picked schedule g h
+picked_so schedule g h true e p = p
+picked_so schedule g h false e p = absurd (true≢false (sym e))
+
+pub none_so : (schedule : List ℕ) (g h : ThreadTable) (b : Bool) → b ≡ false → MatchBool b (Picked schedule g h) ((runnable_in g ≡ []) × (h ≡ g)) → (runnable_in g ≡ []) × (h ≡ g)
+none_so schedule g h true e p = absurd (true≢false e)
+none_so schedule g h false e p = p
 
 -- ---- a thread stands at a call
 
@@ -77,10 +89,12 @@ module _ (m : Module) (u : Setup) (schedule : List ℕ) where
     };
     blind = let b : t'.running.told.blind ≡ t.running.told.blind = ap (λ r. r.blind) told in let most : most_ahead m t'.running ≡ most_ahead m t.running = ap (λ b. b.left * (over_funcs (λ inst. 1) m.funcs + 1) + over_funcs (λ inst. 1) m.funcs) budget in
         omega (arith, b, most, blind_of call.asked is t.running a.blind);
+    made = a.made;
+    recorded = subst (λ r. Records r a.made) (sym st.same.recorder) a.recorded;
     same =
-        ap (λ n. ends_from m u schedule n (Waits (shared_in a.within) (record a.others { stands = standing t.table.turn (Some a.within.frames) a.others.stands }))) (ap (λ b. b.left) budget ∙ sym (rest_of_call call.asked is a.rest t.running.budget.left a.counted))
-        ∙ ap (λ n. ends_from m u schedule a.rest (Waits (shared_in a.within) (record a.others { stands = standing n (Some a.within.frames) a.others.stands }))) (sym turn_is)
-        ∙ sym (ap (ends_after m u schedule a.rest) (step_asks m u schedule a.within call a.others is a.waits)) ∙ a.same;
+        ap (λ n. ends_from m u schedule a.made n (Waits (shared_in a.within) (record a.others { stands = standing t.table.turn (Some a.within.frames) a.others.stands }))) (ap (λ b. b.left) budget ∙ sym (rest_of_call call.asked is a.rest t.running.budget.left a.counted))
+        ∙ ap (λ n. ends_from m u schedule a.made a.rest (Waits (shared_in a.within) (record a.others { stands = standing n (Some a.within.frames) a.others.stands }))) (sym turn_is)
+        ∙ sym (ap (ends_after m u schedule a.made a.rest) (step_asks m u schedule a.within call a.others is a.waits)) ∙ a.same;
   }
     where
       turn_is : a.within.world.turn ≡ t.table.turn
@@ -155,9 +169,9 @@ module _ (m : Module) (u : Setup) (schedule : List ℕ) where
     few = omega (arith, p.blind)
 
     -- no step is left
-    pub pick_spent : t.running.budget.left ≡ 0 → Answers (plain_threads m u schedule) «end».Spent t.running
+    pub pick_spent : t.running.budget.left ≡ 0 → IsOver m u schedule «end».Spent t
     pick_spent none =
-        ends_so m u schedule «end».Spent p.shared.world p.beside t (sym (ap (λ n. ends_from m u schedule n (Waits p.shared p.others)) none) ∙ p.same) p.between.shows p.between.told few
+        ends_so m u schedule p.made «end».Spent p.shared.world p.beside t p.recorded (sym (ap (λ n. ends_from m u schedule p.made n (Waits p.shared p.others)) none) ∙ p.same) p.between.shows p.between.told few
 
     -- the steps after a pick
     abbrev pub left_of : ℕ
@@ -166,17 +180,32 @@ module _ (m : Module) (u : Setup) (schedule : List ℕ) where
     one_left : t.running.budget.left ≢ 0 → t.running.budget.left ≡ suc left_of
     one_left some = omega (arith, some)
 
-    after : t.running.budget.left ≢ 0 → ends_after m u schedule left_of (picked (fiber_of m u) schedule p.shared p.others (runnable_in t.table)) ≡ last_of m u schedule
+    -- the picks after one among some fibers
+    abbrev made_by : List ℕ → List Pick
+    made_by ks = p.made ++ pick_by (number_at schedule p.others.picks) ks
+
+    append_assoc : (xs ys zs : List Pick) → (xs ++ ys) ++ zs ≡ xs ++ (ys ++ zs)
+    append_assoc [] ys zs = refl
+    append_assoc (x ∷ xs) ys zs = ap (λ l. x ∷ l) (append_assoc xs ys zs)
+
+    after : t.running.budget.left ≢ 0 → ends_after m u schedule (made_by (runnable_in t.table)) left_of (picked (fiber_of m u) schedule p.shared p.others (runnable_in t.table)) ≡ last_of m u schedule
     after some =
-        ap (λ ks. ends_after m u schedule left_of (picked (fiber_of m u) schedule p.shared p.others ks)) (sym same_runnable)
-        ∙ sym (ap (λ n. ends_from m u schedule n (Waits p.shared p.others)) (one_left some)) ∙ p.same
+        ap (λ ks. ends_after m u schedule (made_by ks) left_of (picked (fiber_of m u) schedule p.shared p.others ks)) (sym same_runnable)
+        ∙ ap (λ l. (ends_in (fiber_of m u) schedule (suc left_of) (Waits p.shared p.others), l))
+        (append_assoc p.made (pick_by (number_at schedule p.others.picks) (runnable (fiber_of m u).joins p.shared.world.threads p.others.stands))
+        (picked_on (fiber_of m u) (picks_in (fiber_of m u) schedule left_of) (fibers_step (fiber_of m u) schedule (Waits p.shared p.others))))
+        ∙ sym (ap (λ n. ends_from m u schedule p.made n (Waits p.shared p.others)) (one_left some)) ∙ p.same
+
+    append_nil : (l : List Pick) → l ++ [] ≡ l
+    append_nil [] = refl
+    append_nil (x ∷ l) = ap (λ ps. x ∷ ps) (append_nil l)
 
     -- nobody may go on
-    pub pick_deadlocks : t.running.budget.left ≢ 0 → runnable_in t.table ≡ [] → (site : ℕ) → site ≡ site_of (stands_of t.table 0) → Answers (plain_threads m u schedule) («end».Trap trap.Deadlock site) t.running
+    pub pick_deadlocks : t.running.budget.left ≢ 0 → runnable_in t.table ≡ [] → (site : ℕ) → site ≡ site_of (stands_of t.table 0) → IsOver m u schedule («end».Trap trap.Deadlock site) t
     pick_deadlocks some none site is =
-        ends_so m u schedule («end».Trap trap.Deadlock site) p.shared.world p.beside t
-        (ap (λ s. («end».Trap trap.Deadlock s, p.shared.world)) (is ∙ sym (same_site 0 (stands_of t.table 0) (p.others.stands 0) (p.between.stands.stands 0)))
-        ∙ sym (ap (λ ks. ends_after m u schedule left_of (picked (fiber_of m u) schedule p.shared p.others ks)) none) ∙ after some)
+        ends_so m u schedule (p.made ++ []) («end».Trap trap.Deadlock site) p.shared.world p.beside t (subst (Records t.table.recorder) (sym (append_nil p.made)) p.recorded)
+        (ap (λ s. ended_so (p.made ++ []) («end».Trap trap.Deadlock s) p.shared.world) (is ∙ sym (same_site 0 (stands_of t.table 0) (p.others.stands 0) (p.between.stands.stands 0)))
+        ∙ sym (ap (λ ks. ends_after m u schedule (made_by ks) left_of (picked (fiber_of m u) schedule p.shared p.others ks)) none) ∙ after some)
         p.between.shows p.between.told few
 
     -- ---- one was picked
@@ -207,10 +236,22 @@ module _ (m : Module) (u : Setup) (schedule : List ℕ) where
       parts : (not (has_ended (thread_at h.turn (threads_of t.table))) ≡ true) × (may_go standing_joins h.turn (threads_of t.table) (stands_of t.table h.turn) ≡ true)
       parts = and_parts (not (has_ended (thread_at h.turn (threads_of t.table)))) (may_go standing_joins h.turn (threads_of t.table) (stands_of t.table h.turn)) goes.0
 
-      resumes_so : ends_after m u schedule left_of (resumes (fiber_of m u) p.shared p.others h.turn) ≡ last_of m u schedule
+      pick_is : (n : ℕ) (ks : List ℕ) → 0 < length ks → pick_by n ks ≡ record { chosen = n % length ks; among = length ks } ∷ []
+      pick_is n [] more = absurd (omega (arith, more))
+      pick_is n (k ∷ ks) more = refl
+
+      made_is : p.made ++ picked_of schedule t.table ∷ [] ≡ made_by (runnable_in t.table)
+      made_is =
+          ap (λ n. p.made ++ (let one : Pick = record { chosen = get_or schedule n 0 % length (runnable_in t.table); among = length (runnable_in t.table) } in one) ∷ []) p.between.stands.place
+          ∙ ap (λ l. p.made ++ l) (sym (pick_is (number_at schedule p.others.picks) (runnable_in t.table) pk.some))
+
+      recorded_on : Records h.recorder (made_by (runnable_in t.table))
+      recorded_on = subst (Records h.recorder) made_is (pk.recorder p.made p.recorded)
+
+      resumes_so : ends_after m u schedule (made_by (runnable_in t.table)) left_of (resumes (fiber_of m u) p.shared p.others h.turn) ≡ last_of m u schedule
       resumes_so =
-          ap (λ n. ends_after m u schedule left_of (resumes (fiber_of m u) p.shared p.others n)) turn_is
-          ∙ sym (ap (ends_after m u schedule left_of) (picks (runnable_in t.table) pk.some)) ∙ after some
+          ap (λ n. ends_after m u schedule (made_by (runnable_in t.table)) left_of (resumes (fiber_of m u) p.shared p.others n)) turn_is
+          ∙ sym (ap (ends_after m u schedule (made_by (runnable_in t.table)) left_of) (picks (runnable_in t.table) pk.some)) ∙ after some
 
       -- the world and the fibers then
       abbrev shared' : Shared
@@ -250,6 +291,9 @@ module _ (m : Module) (u : Setup) (schedule : List ℕ) where
         blind' : t'.running.told.blind + most_ahead m t'.running ≤ 2 ^ 62
         blind' = subst (λ (r : Running). r.told.blind + most_ahead m r ≤ 2 ^ 62) (sym running) p.blind
 
+        recorded' : Records t'.table.recorder (made_by (runnable_in t.table))
+        recorded' = subst (λ r. Records r (made_by (runnable_in t.table))) (sym st.same.recorder) recorded_on
+
         left' : t'.running.budget.left ≡ suc left_of
         left' = ap (λ (r : Running). r.budget.left) running ∙ one_left some
 
@@ -282,7 +326,9 @@ module _ (m : Module) (u : Setup) (schedule : List ℕ) where
               free = free;
               left = left_of;
               some = left';
-              same = sym (ap (λ o. ends_after m u schedule left_of (resumed (fiber_of m u) shared' others' h.turn o (thread_at h.turn p.shared.world.threads))) e) ∙ resumes_so;
+              made = made_by (runnable_in t.table);
+              recorded = recorded';
+              same = sym (ap (λ o. ends_after m u schedule (made_by (runnable_in t.table)) left_of (resumed (fiber_of m u) shared' others' h.turn o (thread_at h.turn p.shared.world.threads))) e) ∙ resumes_so;
             }
 
         -- it begins
@@ -308,9 +354,11 @@ module _ (m : Module) (u : Setup) (schedule : List ℕ) where
               there = ap (λ n. guest_at n t'.table.threads.items) turn' ∙ ap (λ v. guest_at h.turn v.items) threads' ∙ is;
               left = left_of;
               some = left';
+              made = made_by (runnable_in t.table);
+              recorded = recorded';
               same =
-                  sym (ap (λ o. ends_after m u schedule left_of (resumed (fiber_of m u) shared' others' h.turn o (thread_at h.turn p.shared.world.threads))) e
-                  ∙ ap (λ o. ends_after m u schedule left_of (resumed (fiber_of m u) shared' others' h.turn None o)) (ap (thread_at h.turn) threads_are ∙ sym (same_thread h.turn t.table.threads.items) ∙ ap (option_map thread_of) is))
+                  sym (ap (λ o. ends_after m u schedule (made_by (runnable_in t.table)) left_of (resumed (fiber_of m u) shared' others' h.turn o (thread_at h.turn p.shared.world.threads))) e
+                  ∙ ap (λ o. ends_after m u schedule (made_by (runnable_in t.table)) left_of (resumed (fiber_of m u) shared' others' h.turn None o)) (ap (thread_at h.turn) threads_are ∙ sym (same_thread h.turn t.table.threads.items) ∙ ap (option_map thread_of) is))
                   ∙ resumes_so;
             }
 

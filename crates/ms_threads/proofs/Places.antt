@@ -61,10 +61,10 @@ pub no_call : (p : Parked) → p.call ≡ None → stand_of p ≡ None
 no_call p none = ap (λ (o : Option HostCall). stand_of (record p { call = o })) none
 
 -- the place of the one that has the turn is changed
-pub stands_so : (g h : ThreadTable) (p : Parked) (o : Option Standing) → g.turn < length g.parked.items → h.parked.items ≡ set g.parked.items g.turn p → stand_of p ≡ o → h.threads ≡ g.threads → h.turn ≡ g.turn → h.next_pick ≡ g.next_pick → Stands o g h
-stands_so g h p o lt items is threads turn place = record {
+pub stands_so : (g h : ThreadTable) (p : Parked) (o : Option Standing) → g.turn < length g.parked.items → h.parked.items ≡ set g.parked.items g.turn p → stand_of p ≡ o → h.threads ≡ g.threads → h.turn ≡ g.turn → h.next_pick ≡ g.next_pick → h.recorder ≡ g.recorder → Stands o g h
+stands_so g h p o lt items is threads turn place recorder = record {
   stands = λ k. ap (λ ps. stand_at ps k) items ∙ stand_set g.parked.items g.turn p lt k ∙ ap (λ (x : Option Standing). if eqb k g.turn then x else stand_at g.parked.items k) is;
   count = ap length items ∙ length-set g.parked.items g.turn p;
   threads = threads;
-  same = record { turn = turn; place = place };
+  same = record { turn = turn; place = place; recorder = recorder };
 }

@@ -1,5 +1,5 @@
 -- What thread calls and ends of threads do to the threads of a run is what they do to the fibers of its world.
-use Rattle.std.proofs.Common.{◌≡◌, ◌<◌, ◌≤◌, ◌+◌, ◌-◌, ◌&&◌, ◌||◌, ◌≢◌, ℕ, zero, suc, Bool, true, false, not, List, [], ◌∷◌, ◌++◌, length, map, get_or, slice_get, eqb, leb, if◌then◌else◌, refl, sym, ap, ◌∙◌, subst, arith, Some, None, option_map, ◌⊎◌, inl, inr, true≢false, eqb-true, Result}
+use Rattle.std.proofs.Common.{◌≡◌, ◌<◌, ◌≤◌, ◌+◌, ◌-◌, ◌&&◌, ◌||◌, ◌≢◌, ℕ, zero, suc, Bool, true, false, not, List, [], ◌∷◌, ◌++◌, length, map, get_or, slice_get, eqb, leb, if◌then◌else◌, refl, sym, ap, ◌∙◌, subst, arith, Some, None, option_map, inl, inr, true≢false, eqb-true, Result}
 use Rattle.std.specs.Prelude.{IfOk}
 use Rattle.std.proofs.Math.ListN.{set}
 use Rattle.std.proofs.Math.Nat.{suc-ne-zero}
@@ -441,7 +441,7 @@ keeps_changed n change same starts g h c = record {
     funcs (suc k) = map_changed change (λ t. t.func) same k g.threads.items
 
 pub keeps_all : (starts : List ℕ) (g : ThreadTable) → KeepsStands starts g g
-keeps_all starts g = record { stands = λ k. refl; counted = λ c. c; few = λ c le. le; funcs = inl refl; same = record { turn = refl; place = refl } }
+keeps_all starts g = record { stands = λ k. refl; counted = λ c. c; few = λ c le. le; funcs = inl refl; same = record { turn = refl; place = refl; recorder = refl } }
 
 -- ---- what is asked for
 

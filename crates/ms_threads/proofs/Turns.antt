@@ -1,5 +1,5 @@
 -- From one pause to the next a run of threads keeps what it answers.
-use Rattle.std.proofs.Common.{◌≡◌, ◌<◌, ◌≤◌, ◌+◌, ◌-◌, ◌*◌, ◌%◌, ◌^◌, ℕ, suc, Bool, true, false, eqb, if◌then◌else◌, List, [], ◌∷◌, length, slice_get, refl, sym, ap, subst, ◌∙◌, arith, Some}
+use Rattle.std.proofs.Common.{◌≡◌, ◌<◌, ◌≤◌, ◌+◌, ◌-◌, ◌*◌, ◌%◌, ◌^◌, ℕ, suc, Bool, true, false, eqb, if◌then◌else◌, List, [], ◌∷◌, ◌++◌, length, slice_get, refl, sym, ap, subst, ◌∙◌, arith, Some}
 use Rattle.std.proofs.lemmas.Nat.{mod_below}
 use Rattle.ms_bits.specs.Maps.{number_at}
 use Rattle.ms_ir.specs.declared.syntax.Module.{Module}
@@ -26,11 +26,14 @@ use Rattle.ms_machine_frames.specs.declared.fibers.Fiber.{Fiber}
 use Rattle.ms_machine_steps.specs.Advances.{Counts, IsSpent, HasEnded as HasStopped, HasAsked, HasFinished}
 use Rattle.ms_machine.specs.Running.{IsRunning}
 use Rattle.ms_runtime.specs.Served.{IsBeside}
-use Rattle.ms_runtime.specs.Going.{ahead, Answers, LeftAfter}
+use Rattle.ms_runtime.specs.Going.{ahead, LeftAfter}
 use Rattle.ms_runtime.proofs.Goings.{answers_so, fewer, not_further, slack_is, after}
 use Rattle.ms_threads.specs.declared.runs.ThreadedRun.{ThreadedRun}
 use Rattle.ms_threads.specs.ThreadTables.{Shares, Changed, KeepsStands, ended_guest}
-use Rattle.ms_threads.specs.Going.{Standings, ends_after, last_of, most_ahead, far_of, Going, Asking, Picking, HasEnded}
+use Rattle.ms_threads_schedules_laws.specs.Picks.{Pick}
+use Rattle.ms_threads.specs.declared.thread_table.ThreadTable.{ThreadTable}
+use Rattle.ms_threads.specs.Recording.{Records}
+use Rattle.ms_threads.specs.Going.{Standings, Recorded, IsOver, ended_so, ends_after, last_of, most_ahead, far_of, Going, Asking, Picking, HasEnded}
 use Rattle.ms_threads.proofs.Threading.{shows_fibers, ended_fiber, shares_ended, keeps_changed}
 use Rattle.ms_threads.proofs.Kept.{standings_kept}
 use Rattle.ms_threads.proofs.FiberSteps.{same_step, step_ends, step_returns, run_spent, run_due, answered_word, after_return}
@@ -70,11 +73,21 @@ ended_good mask value origin w g = record {
 
 module _ (m : Module) (u : Setup) (schedule : List ℕ) where
   -- a run that ends so answers what the whole run does
-  pub ends_so : (e : End) (last : World) (beside : Beside) (t : ThreadedRun) → (e, last) ≡ last_of m u schedule → Shows t.running.world beside last → IsBeside t.running.depot t.running.told beside → t.running.told.blind ≤ 2 ^ 62
-      → Answers (plain_threads m u schedule) e t.running
-  ends_so e last beside t is shows told few = answers_so (plain_threads m u schedule) e last beside t.running (ap (λ (at : End × World). result at.0 at.1) (sym is)) shows told few
+  pub ends_so : (made : List Pick) (e : End) (last : World) (beside : Beside) (t : ThreadedRun) → Recorded t made → ended_so made e last ≡ last_of m u schedule → Shows t.running.world beside last → IsBeside t.running.depot t.running.told beside
+      → t.running.told.blind ≤ 2 ^ 62 → IsOver m u schedule e t
+  ends_so made e last beside t recorded is shows told few = (
+    answers_so (plain_threads m u schedule) e last beside t.running (ap (λ (at : (End × World) × List Pick). result at.0.0 at.0.1) (sym is)) shows told few,
+    subst (Records t.table.recorder) (sym (append_nil made) ∙ ap (λ (at : (End × World) × List Pick). at.1) is) recorded,
+  )
+    where
+      append_nil : (l : List Pick) → l ++ [] ≡ l
+      append_nil [] = refl
+      append_nil (p ∷ l) = ap (λ ps. p ∷ ps) (append_nil l)
 
-  module _ (t : ThreadedRun) (g : Going m u schedule t) (t' : ThreadedRun) (depot : t'.running.depot ≡ t.running.depot) (told : t'.running.told ≡ t.running.told) where
+  module _ (t : ThreadedRun) (g : Going m u schedule t) (t' : ThreadedRun) (depot : t'.running.depot ≡ t.running.depot) (told : t'.running.told ≡ t.running.told) (guests : t'.table ≡ t.table) where
+    still_recorded : Recorded t' g.made
+    still_recorded = subst (λ (x : ThreadTable). Records x.recorder g.made) (sym guests) g.recorded
+
     still_beside : IsBeside t'.running.depot t'.running.told g.beside
     still_beside = subst (λ d. IsBeside d t'.running.told g.beside) (sym depot) (subst (λ r. IsBeside t.running.depot r g.beside) (sym told) g.told)
 
@@ -88,22 +101,22 @@ module _ (m : Module) (u : Setup) (schedule : List ℕ) where
     few_reports = subst (λ r. length r.reports < u.reports) (sym told) g.keeping.few
 
     -- no step is left
-    pub turn_spent : IsSpent (IsRunning m u g.beside) m u g.state t.running.budget.left t'.running.fiber t'.running.world t'.running.budget.left → Answers (plain_threads m u schedule) «end».Spent t'.running
+    pub turn_spent : IsSpent (IsRunning m u g.beside) m u g.state t.running.budget.left t'.running.fiber t'.running.world t'.running.budget.left → IsOver m u schedule «end».Spent t'
     turn_spent h =
-        ends_so «end».Spent h.last.world g.beside t' (sym (run_spent m u schedule t.running.budget.left g.state h.last g.others h.own h.came) ∙ g.same) h.stands.shows still_beside still_few
+        ends_so g.made «end».Spent h.last.world g.beside t' still_recorded (sym (run_spent m u schedule g.made t.running.budget.left g.state h.last g.others h.own h.came) ∙ g.same) h.stands.shows still_beside still_few
 
     -- a step ended it
-    pub turn_ended : (e : End) → HasStopped m u g.beside g.state t.running.budget.left e t'.running.world → Answers (plain_threads m u schedule) e t'.running
+    pub turn_ended : (e : End) → HasStopped m u g.beside g.state t.running.budget.left e t'.running.world → IsOver m u schedule e t'
     turn_ended e h =
         let rest : ℕ = t.running.budget.left - h.done - 1 in
         let sum : rest + h.done + 1 ≡ t.running.budget.left = omega (arith, h.few) in
-        ends_so e h.last g.beside t'
-        (sym (run_due m u schedule t.running.budget.left rest h.done g.state h.before g.others sum h.own h.came ∙ ap (ends_after m u schedule rest) (step_ends m u schedule h.before g.others e h.last h.ends)) ∙ g.same)
+        ends_so g.made e h.last g.beside t' still_recorded
+        (sym (run_due m u schedule g.made t.running.budget.left rest h.done g.state h.before g.others sum h.own h.came ∙ ap (ends_after m u schedule g.made rest) (step_ends m u schedule h.before g.others e h.last h.ends)) ∙ g.same)
         h.shows still_beside still_few
 
     -- ---- a call is asked for
 
-    module _ (guests : t'.table ≡ t.table) (call : HostCall) (h : HasAsked (IsRunning m u g.beside) m u g.state t.running.budget.left t.running.fiber.frame.at call t'.running.fiber t'.running.world t'.running.budget.left)
+    module _ (call : HostCall) (h : HasAsked (IsRunning m u g.beside) m u g.state t.running.budget.left t.running.fiber.frame.at call t'.running.fiber t'.running.world t'.running.budget.left)
         (made : t'.running.world.made + 2 ^ 26 * t'.running.budget.left ≤ t.running.world.made + 2 ^ 26 * t.running.budget.left) where
       fewer_left : t'.running.budget.left ≤ t.running.budget.left
       fewer_left = fewer m u g.beside g.state t.running t'.running g.keeping.room call h made
@@ -141,14 +154,16 @@ module _ (m : Module) (u : Setup) (schedule : List ℕ) where
             standings = subst (λ x. Standings m u schedule x g.others) (sym guests) g.standings;
             rest = b.0;
             counted = b.1.0;
+            made = g.made;
+            recorded = still_recorded;
             same =
-                ap (ends_after m u schedule b.0) (sym (same_step m u schedule h.before h.within g.others h.same))
-                ∙ sym (run_due m u schedule t.running.budget.left b.0 h.done g.state h.before g.others b.1.1 h.own h.came) ∙ g.same;
+                ap (ends_after m u schedule g.made b.0) (sym (same_step m u schedule h.before h.within g.others h.same))
+                ∙ sym (run_due m u schedule g.made t.running.budget.left b.0 h.done g.state h.before g.others b.1.1 h.own h.came) ∙ g.same;
           }
 
     -- ---- the thread has ended
 
-    module _ (guests : t'.table ≡ t.table) (value : ℕ) (h : HasFinished m u g.beside g.state t.running.budget.left value t'.running.world t'.running.budget.left)
+    module _ (value : ℕ) (h : HasFinished m u g.beside g.state t.running.budget.left value t'.running.world t'.running.budget.left)
         (made : t'.running.world.made + 2 ^ 26 * t'.running.budget.left ≤ t.running.world.made + 2 ^ 26 * t.running.budget.left)
         (t'' : ThreadedRun) (fiber : Fiber) (running : t''.running ≡ record t'.running { fiber = fiber }) (has : HasEnded value t' t'') where
       abbrev word : Poisoned
@@ -217,11 +232,13 @@ module _ (m : Module) (u : Setup) (schedule : List ℕ) where
           room = subst (λ r. r.world.made + 2 ^ 27 * r.budget.left ≤ 2 ^ 58) (sym running) (let e = left_is in omega (arith, e, made, g.keeping.room));
         };
         blind = subst (λ r. r.told.blind + most_ahead m r ≤ 2 ^ 62) (sym running) (let e = same_blind in let le = far' in omega (arith, e, le, g.keeping.blind));
+        made = g.made;
+        recorded = subst (λ r. Records r g.made) (sym changed.same.recorder) still_recorded;
         same =
             let sum : t''.running.budget.left + h.done + 1 ≡ t.running.budget.left = ap (λ r. r.budget.left + h.done + 1) running ∙ h.counted in
-            sym (ap (ends_after m u schedule t''.running.budget.left)
+            sym (ap (ends_after m u schedule g.made t''.running.budget.left)
             (same_step m u schedule h.before h.within g.others h.same ∙ step_returns m u schedule g.beside h.within value t'.running.world h.finishes g.others))
-            ∙ sym (run_due m u schedule t.running.budget.left t''.running.budget.left h.done g.state h.before g.others sum h.own h.came) ∙ g.same;
+            ∙ sym (run_due m u schedule g.made t.running.budget.left t''.running.budget.left h.done g.state h.before g.others sum h.own h.came) ∙ g.same;
       }
         where
           none_there : (k f : ℕ) → slice_get [] k ≡ Some f → ⊥

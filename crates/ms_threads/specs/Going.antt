@@ -1,5 +1,5 @@
 -- What a run of threads keeps from pause to pause (own).
-use Rattle.std.specs.Prelude.{◌≡◌, ◌<◌, ◌≤◌, ◌+◌, ◌*◌, ◌%◌, ◌^◌, ℕ, suc, false, not, List, length, reverse, eqb, Option, Some, None, slice_get}
+use Rattle.std.specs.Prelude.{◌≡◌, ◌<◌, ◌≤◌, ◌+◌, ◌*◌, ◌%◌, ◌^◌, ℕ, suc, false, not, List, [], ◌++◌, length, reverse, eqb, Option, Some, None, slice_get}
 use Rattle.ms_ir.specs.declared.syntax.Module.{Module}
 use Rattle.ms_ir.specs.Instructions.{over_funcs, count_roots}
 use Rattle.ms_runs.specs.declared.runs.End.{End}
@@ -12,6 +12,7 @@ use Rattle.ms_runs_good_laws.specs.GoodStates.{GoodFrames, IsBelow, IsStart}
 use Rattle.ms_runs_good_laws.specs.GoodWorlds.{GoodWorld, GivesBytes, FitsCell}
 use Rattle.ms_runs_threads.specs.Fibers.{Meaning, Others, Fibers, Goes, Waits, waits as must_wait, goes_on, moves, finish, fibers_step, ends_in}
 use Rattle.ms_runs_threads.specs.PlainFibers.{Shared, plain_fiber, plain_threads, plain_threads_start}
+use Rattle.ms_threads_schedules_laws.specs.Picks.{Pick, picked_on, picks_in, plain_picks}
 use Rattle.ms_host.specs.State.{WorldState, Beside}
 use Rattle.ms_host.specs.Shows.{Shows}
 use Rattle.ms_host.specs.SlotBytes.{ShowsSlots}
@@ -33,6 +34,7 @@ use Rattle.ms_threads.specs.declared.thread_table.Thread.{Thread as Guest}
 use Rattle.ms_threads.specs.declared.thread_table.ThreadTable.{ThreadTable}
 use Rattle.ms_threads.specs.declared.runs.ThreadedRun.{ThreadedRun}
 use Rattle.ms_threads.specs.ThreadTables.{Standing, standing_of, threads_of, funcs_of, stands_of, guest_at, call_joins, IsThreadCall, Counted, Shares, Changed, ended_guest}
+use Rattle.ms_threads.specs.Recording.{Records}
 
 -- ---- where fibers stand
 
@@ -72,16 +74,25 @@ shared_in state = record { slots = state.slots; world = state.world }
 abbrev pub goes_at : PlainState → Others (List (Frame ℕ)) → Fibers (List (Frame ℕ)) Shared
 goes_at state others = Goes state.frames (shared_in state) others
 
--- from a state of fibers on, with so many steps, and from a step on
-abbrev pub ends_from : Module → Setup → List ℕ → ℕ → Fibers (List (Frame ℕ)) Shared → End × World
-ends_from m u schedule left c = ends_in (fiber_of m u) schedule left c
+-- from a state of fibers on, with so many steps, and from a step on, and what is picked after some picks
+abbrev pub ends_from : Module → Setup → List ℕ → (made : List Pick) → ℕ → Fibers (List (Frame ℕ)) Shared → (End × World) × List Pick
+ends_from m u schedule made left c = (ends_in (fiber_of m u) schedule left c, made ++ picks_in (fiber_of m u) schedule left c)
 
-abbrev pub ends_after : Module → Setup → List ℕ → ℕ → Stepped (Fibers (List (Frame ℕ)) Shared) → End × World
-ends_after m u schedule left step = finish (fiber_of m u) (ends_from m u schedule left) step
+abbrev pub ends_after : Module → Setup → List ℕ → (made : List Pick) → ℕ → Stepped (Fibers (List (Frame ℕ)) Shared) → (End × World) × List Pick
+ends_after m u schedule made left step =
+    (finish (fiber_of m u) (ends_in (fiber_of m u) schedule left) step, made ++ picked_on (fiber_of m u) (picks_in (fiber_of m u) schedule left) step)
 
--- how the whole run ends
-abbrev pub last_of : Module → Setup → List ℕ → End × World
-last_of m u schedule = ends_from m u schedule u.steps (plain_threads_start m u)
+-- how the whole run ends, and what it picks
+abbrev pub last_of : Module → Setup → List ℕ → (End × World) × List Pick
+last_of m u schedule = ends_from m u schedule [] u.steps (plain_threads_start m u)
+
+-- a run has ended so, after some picks
+abbrev pub ended_so : (made : List Pick) → End → World → (End × World) × List Pick
+ended_so made e last = ((e, last), made ++ [])
+
+-- the picks so far are recorded
+abbrev pub Recorded : ThreadedRun → (made : List Pick) → Type 0
+Recorded t made = Records t.table.recorder made
 
 -- ---- a run
 
@@ -114,7 +125,9 @@ pub record Going (m : Module) (u : Setup) (schedule : List ℕ) (t : ThreadedRun
   pub keeping : Keeping m u t.running
   pub shares : Shares t.table beside.fibers
   pub standings : Standings m u schedule t.table others
-  pub same : ends_from m u schedule t.running.budget.left (goes_at state others) ≡ last_of m u schedule
+  pub made : List Pick
+  pub recorded : Recorded t made
+  pub same : ends_from m u schedule made t.running.budget.left (goes_at state others) ≡ last_of m u schedule
 
 -- the same of a thread that waits for the answer of a call: after an external another one may go on
 abbrev pub far_of : Module → Asked → Running → ℕ
@@ -136,7 +149,9 @@ pub record Asking (m : Module) (u : Setup) (schedule : List ℕ) (call : HostCal
   pub standings : Standings m u schedule t.table others
   pub rest : ℕ
   pub counted : LeftAfter call.asked rest t.running.budget.left
-  pub same : ends_after m u schedule rest (fibers_step (fiber_of m u) schedule (goes_at within others)) ≡ last_of m u schedule
+  pub made : List Pick
+  pub recorded : Recorded t made
+  pub same : ends_after m u schedule made rest (fibers_step (fiber_of m u) schedule (goes_at within others)) ≡ last_of m u schedule
 
 -- a call at which a thread stands was answered: what is left is to go on after it
 pub record After (m : Module) (u : Setup) (schedule : List ℕ) (call : HostCall) (a : Answer) (t : ThreadedRun) : Type 0 where
@@ -157,8 +172,10 @@ pub record After (m : Module) (u : Setup) (schedule : List ℕ) (call : HostCall
   pub room : t.running.world.made + 2 ^ 27 * t.running.budget.left ≤ 2 ^ 58
   pub shares : (v : Option ℕ) → a ≡ answer.Resumed v → Shares t.table beside.fibers
   pub standings : Standings m u schedule t.table others
-  pub goes : (next : PlainState) → Resumes m u call.asked within next → ends_from m u schedule t.running.budget.left (goes_at next others) ≡ last_of m u schedule
-  pub stops : (e : End) (last : World) → Stops m u call.asked within e last → (e, last) ≡ last_of m u schedule
+  pub made : List Pick
+  pub recorded : Recorded t made
+  pub goes : (next : PlainState) → Resumes m u call.asked within next → ends_from m u schedule made t.running.budget.left (goes_at next others) ≡ last_of m u schedule
+  pub stops : (e : End) (last : World) → Stops m u call.asked within e last → ended_so made e last ≡ last_of m u schedule
 
 -- a pick is due
 pub record Picking (m : Module) (u : Setup) (schedule : List ℕ) (t : ThreadedRun) : Type 0 where
@@ -167,7 +184,9 @@ pub record Picking (m : Module) (u : Setup) (schedule : List ℕ) (t : ThreadedR
   pub others : Others (List (Frame ℕ))
   pub between : Between m u schedule t beside shared others
   pub blind : t.running.told.blind + most_ahead m t.running ≤ 2 ^ 62
-  pub same : ends_from m u schedule t.running.budget.left (Waits shared others) ≡ last_of m u schedule
+  pub made : List Pick
+  pub recorded : Recorded t made
+  pub same : ends_from m u schedule made t.running.budget.left (Waits shared others) ≡ last_of m u schedule
 
 -- a thread was picked that does the call at which it stood, and needn't wait
 pub record Performing (m : Module) (u : Setup) (schedule : List ℕ) (s : Standing) (t : ThreadedRun) : Type 0 where
@@ -181,7 +200,9 @@ pub record Performing (m : Module) (u : Setup) (schedule : List ℕ) (s : Standi
   pub free : must_wait t.table.turn (threads_of t.table) (call_joins s.call) ≡ false
   pub left : ℕ
   pub some : t.running.budget.left ≡ suc left
-  pub same : ends_after m u schedule left (goes_on ((fiber_of m u).perform frames shared) (moves (fiber_of m u) others)) ≡ last_of m u schedule
+  pub made : List Pick
+  pub recorded : Recorded t made
+  pub same : ends_after m u schedule made left (goes_on ((fiber_of m u).perform frames shared) (moves (fiber_of m u) others)) ≡ last_of m u schedule
 
 -- a thread was picked that begins
 pub record Beginning (m : Module) (u : Setup) (schedule : List ℕ) (t : ThreadedRun) : Type 0 where
@@ -194,16 +215,22 @@ pub record Beginning (m : Module) (u : Setup) (schedule : List ℕ) (t : Threade
   pub there : guest_at t.table.turn t.table.threads.items ≡ Some guest
   pub left : ℕ
   pub some : t.running.budget.left ≡ suc left
-  pub same : ends_after m u schedule left (moves (fiber_of m u) others ((fiber_of m u).begun guest.func guest.argument shared)) ≡ last_of m u schedule
+  pub made : List Pick
+  pub recorded : Recorded t made
+  pub same : ends_after m u schedule made left (moves (fiber_of m u) others ((fiber_of m u).begun guest.func guest.argument shared)) ≡ last_of m u schedule
 
 -- the thread that has the turn has ended with a word, whose mask and origin the slots hold
 abbrev pub HasEnded : (value : ℕ) → ThreadedRun → ThreadedRun → Type 0
 HasEnded value old new = (cells : ℕ → ℕ) → ShowsSlots old.running.world.slots cells → Changed old.table.turn (ended_guest value (result_mask cells) (result_origin cells)) old.table new.table
 
+-- a run has ended: it answers what the whole run does, and its picks are recorded
+abbrev pub IsOver : Module → Setup → List ℕ → End → ThreadedRun → Type 0
+IsOver m u schedule e t = Answers (plain_threads m u schedule) e t.running × Recorded t (plain_picks m u schedule)
+
 -- a run goes on, and is nearer to its end, or it has ended
 abbrev pub Turned : Module → Setup → List ℕ → ℕ → Option End → ThreadedRun → Type 0
 Turned m u schedule far None t = Going m u schedule t × (ahead m t.running < far)
-Turned m u schedule far (Some e) t = Answers (plain_threads m u schedule) e t.running
+Turned m u schedule far (Some e) t = IsOver m u schedule e t
 
 -- ---- with some setup and schedule
 

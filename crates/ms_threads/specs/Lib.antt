@@ -1,4 +1,5 @@
 pub mod Faithful
 pub mod Fills
+pub mod Recording
 pub mod ThreadTables
 pub mod Going

@@ -20,6 +20,8 @@ use Rattle.ms_machine_frames.specs.Standing.{frames_of}
 use Rattle.ms_threads.specs.declared.thread_table.Thread.{Thread as Guest}
 use Rattle.ms_threads.specs.declared.thread_table.Parked.{Parked}
 use Rattle.ms_threads.specs.declared.thread_table.ThreadTable.{ThreadTable}
+use Rattle.ms_threads_schedules_laws.specs.Picks.{Pick}
+use Rattle.ms_threads.specs.Recording.{Records, RecordsNext}
 
 -- ---- one thread
 
@@ -163,11 +165,13 @@ pub record IsNew (g : ThreadTable) : Type 0 where
   pub threads : g.threads.items ≡ []
   pub stands : (p : Parked) × ((p.call ≡ None) × (g.parked.items ≡ p ∷ []))
   pub place : g.next_pick ≡ 0
+  pub recorder : Records g.recorder []
 
 -- nobody has another turn, and no pick was made
 pub record SameTurn (old new : ThreadTable) : Type 0 where
   pub turn : new.turn ≡ old.turn
   pub place : new.next_pick ≡ old.next_pick
+  pub recorder : new.recorder ≡ old.recorder
 
 -- one thread more, which stands nowhere
 pub record Added (func argument : ℕ) (old new : ThreadTable) : Type 0 where
@@ -192,11 +196,16 @@ pub record Stands (where_now : Option Standing) (old new : ThreadTable) : Type 0
 abbrev pub next_place : List ℕ → ℕ → ℕ
 next_place schedule place = if ltb (place + 1) (length schedule) then place + 1 else 0
 
+-- the pick that a schedule makes
+abbrev pub picked_of : List ℕ → ThreadTable → Pick
+picked_of schedule g = record { chosen = get_or schedule g.next_pick 0 % length (runnable_in g); among = length (runnable_in g) }
+
 -- a thread that may go on was picked by a schedule
 pub record Picked (schedule : List ℕ) (old new : ThreadTable) : Type 0 where
   pub some : 0 < length (runnable_in old)
   pub turn : new.turn ≡ get_or (runnable_in old) (get_or schedule old.next_pick 0 % length (runnable_in old)) 0
   pub place : new.next_pick ≡ next_place schedule old.next_pick
+  pub recorder : RecordsNext (picked_of schedule old) old.recorder new.recorder
   pub threads : new.threads ≡ old.threads
   pub stands : new.parked ≡ old.parked
 

@@ -4,10 +4,12 @@
 
 mod calls;
 mod instruments;
+mod recorder;
 mod runs;
 mod searching;
 mod thread_table;
 
 pub use instruments::instrument_threads;
-pub use runs::run_threads;
+pub use recorder::{Pick, Recorder};
+pub use runs::{RecordedRun, record_threads, run_threads};
 pub use searching::threaded;

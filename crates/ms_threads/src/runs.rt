@@ -6,9 +6,11 @@ ghost use Rattle.ms_runs.specs.{declared.runs.Setup.{Setup as SetupOf}, Limits.{
 ghost use Rattle.ms_runs_threads.specs.PlainFibers.{plain_threads};
 ghost use Rattle.ms_host.specs.declared.calls.Answer.TheVariants.{Resumed as ResumedOf};
 ghost use Rattle.ms_runtime.specs.{Answering.{AnsweredFor}, Going.{ahead}, Served.{Fits}};
-ghost use Rattle.ms_threads.specs.{Faithful.{IsSchedule}, ThreadTables.{IsThreadCall, IsResult, standing_of}};
+ghost use Rattle.ms_threads_schedules_laws.specs.Picks.{plain_picks};
+ghost use Rattle.ms_threads.specs.{Faithful.{IsSchedule}, Recording.{Records}, ThreadTables.{IsThreadCall, IsResult, standing_of}};
 ghost use Rattle.ms_threads.specs.Going.{Asking, After, Picking, Performing, Beginning, Going, HasEnded, Turned, IsGoing, IsAsking, IsAfter, IsPicking, IsPerforming, IsBeginning, most_ahead, far_of};
 
+use crate::recorder::Recorder;
 use crate::thread_table::{ThreadTable, exchange, word};
 use ms_bits::{NoMemory, Trap};
 use ms_check::CheckedModule;
@@ -198,7 +200,7 @@ impl ThreadedRun {
         if self.running.budget.left == 0 {
             return Ok(Some(End::Spent));
         }
-        if !self.table.pick(schedule) {
+        if !self.table.pick(schedule)? {
             return Ok(Some(End::Trap {
                 kind: Trap::Deadlock,
                 site: self.table.main_site(),
@@ -266,6 +268,38 @@ impl ThreadedRun {
     }
 }
 
+/// A run with the picks that it made.
+#[derive(Drop)]
+pub struct RecordedRun {
+    pub result: RunResult,
+    pub recorder: Recorder,
+}
+
+/// Runs a checked module with threads, as `run_threads` does, and keeps its first 2048 picks.
+pub fn record_threads(
+    alloc: Global,
+    m: &CheckedModule,
+    setup: &Setup,
+    schedule: &[u8],
+) -> Result<RecordedRun, NoMemory>
+    requires limits { WithinLimits setup.now }
+    requires scheduled { IsSchedule schedule.now }
+    ensures result { IfOk result (λ r. r.result ≡ plain_threads m.now setup.now schedule.now) }
+    ensures picks { IfOk result (λ r. Records r.recorder (plain_picks m.now setup.now schedule.now)) }
+{
+    let running = start_run(alloc, m, setup)?;
+    let table = ThreadTable::new(alloc)?;
+    let mut threads = ThreadedRun { running, table };
+    loop {
+        if let Some(end) = threads.run_to_pause(alloc, m, setup.reports, schedule)? {
+            return Ok(RecordedRun {
+                result: threads.running.into_result(end),
+                recorder: threads.table.recorder,
+            });
+        }
+    }
+}
+
 /// Runs a checked module with threads, under a schedule that isn't empty: the k-th pick of the run, counted from 0, takes of
 /// r threads that may go on, in order of number, the one at the place `schedule[k mod length] mod r`. Ok is what its plain
 /// run answers.
@@ -281,12 +315,6 @@ pub fn run_threads(
     requires scheduled { IsSchedule schedule.now }
     ensures { IfOk result (λ r. r ≡ plain_threads m.now setup.now schedule.now) }
 {
-    let running = start_run(alloc, m, setup)?;
-    let table = ThreadTable::new(alloc)?;
-    let mut threads = ThreadedRun { running, table };
-    loop {
-        if let Some(end) = threads.run_to_pause(alloc, m, setup.reports, schedule)? {
-            return Ok(threads.running.into_result(end));
-        }
-    }
+    let recorded = record_threads(alloc, m, setup, schedule)?;
+    Ok(recorded.result)
 }

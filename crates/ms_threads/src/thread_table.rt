@@ -4,6 +4,7 @@ ghost use Rattle.ms_runs.specs.Threads.{fiber_limit, thread_at, join_answer as j
 ghost use Rattle.ms_runs_threads.specs.Fibers.{waits as waits_of, is_runnable as is_runnable_of};
 ghost use Rattle.ms_threads.specs.ThreadTables.{guest_at, asked_creates, call_joins, standing_of, standing_joins, threads_of, stand_of, stands_of, runnable_in, joined_guest, ended_guest, Counted, IsNew, Added, Changed, SameCalls, Stands, Picked, part_at, site_of};
 
+use crate::recorder::{Pick, Recorder};
 use ms_bits::NoMemory;
 use ms_host::{Asked, HostCall};
 use ms_ir::External;
@@ -49,6 +50,7 @@ pub struct ThreadTable {
     pub parked: Vec<Parked>,
     /// The place in the schedule of the next pick.
     pub next_pick: usize,
+    pub recorder: Recorder,
 }
 
 /// Whether a call makes a thread.
@@ -147,6 +149,7 @@ impl ThreadTable {
             threads: Vec::new(alloc),
             parked,
             next_pick: 0,
+            recorder: Recorder::new(alloc),
         })
     }
 
@@ -300,26 +303,32 @@ impl ThreadTable {
         count
     }
 
-    /// Picks the thread that the schedule gives among those that may go on. Returns whether there is one. One walk over the threads.
+    /// Picks the thread that the schedule gives among those that may go on, and records it. Returns whether there is one. One walk over
+    /// the threads.
     #[inline(always)]
-    pub fn pick(&mut self, schedule: &[u8]) -> bool
+    pub fn pick(&mut self, schedule: &[u8]) -> Result<bool, NoMemory>
         requires counted { Counted self.old }
         requires few { length self.old.parked.items ≤ fiber_limit }
         requires place { self.old.next_pick < length schedule.now }
-        ensures { MatchBool result (Picked schedule.now self.old self.new) ((runnable_in self.old ≡ []) × (self.new ≡ self.old)) }
+        ensures { IfOk result (λ some. MatchBool some (Picked schedule.now self.old self.new) ((runnable_in self.old ≡ []) × (self.new ≡ self.old))) }
     {
         let mut ready = [0u8; LIMIT];
         let count = self.list_runnable(&mut ready);
         if count == 0 {
-            return false;
+            return Ok(false);
         }
-        self.turn = ready[schedule[self.next_pick] as usize % count] as usize;
+        let chosen = schedule[self.next_pick] as usize % count;
+        self.recorder.record(Pick {
+            chosen: chosen as u8,
+            among: count as u8,
+        })?;
+        self.turn = ready[chosen] as usize;
         self.next_pick = if self.next_pick + 1 < schedule.len() {
             self.next_pick + 1
         } else {
             0
         };
-        true
+        Ok(true)
     }
 
     /// The site of the call at which the thread of `main` stands; 0 where it stands nowhere.

@@ -1,5 +1,5 @@
 -- Where the schedules that were run cover all, each runs as one of them, with each fill.
-use Rattle.std.proofs.Common.{◌≡◌, inl, inr, ℕ, List, [], ◌∷◌, length, refl, sym, ap, ◌∙◌, subst, arith}
+use Rattle.std.proofs.Common.{◌≡◌, inl, inr, ℕ, List, [], ◌∷◌, length, sym, ap, ◌∙◌, subst, arith}
 use Rattle.std.specs.Prelude.{map}
 use Rattle.ms_ir.specs.declared.syntax.Module.{Module}
 use Rattle.ms_runs.specs.declared.runs.End.{End}
@@ -12,11 +12,10 @@ use Rattle.ms_runs.specs.Verdict.{Clean, verdict_of}
 use Rattle.ms_check_valid.specs.Formed.{Formed}
 use Rattle.ms_check_valid.specs.Uninstrumented.{CanInstrument}
 use Rattle.ms_check_valid.specs.Valid.{Valid}
-use Rattle.ms_runs_good_laws.specs.Fills.{IsFill, refilled, to_first_report, SameShown}
+use Rattle.ms_runs_good_laws.specs.Fills.{IsFill, refilled, to_first_report}
 use Rattle.ms_runs_good_laws.specs.GoodWorlds.{GivesBytes}
 use Rattle.ms_runs_fills_laws.specs.First.{FirstOf}
 use Rattle.ms_runs_fills_laws.proofs.Whole.{quiet_first, nothing_told}
-use Rattle.ms_runs_threads.specs.PlainFibers.{plain_threads}
 use Rattle.ms_runs_threads.specs.ShadowFibers.{shadow_fiber, shadow_threads_start, shadow_threads}
 use Rattle.ms_threads_laws.proofs.UnderFills.{first_threads, first_same, same_threads, shown_threads}
 use Rattle.ms_threads_schedules_laws.specs.Picks.{Pick, shadow_picks}

@@ -4,7 +4,7 @@ use Rattle.std.specs.Prelude.{◌%◌, ◌++◌, map, get_or}
 use Rattle.std.proofs.Math.Nat.{mod-eq_of_lt}
 use Rattle.ms_threads_schedules_laws.specs.Picks.{Pick, number_at, Chooses}
 use Rattle.ms_threads_schedules_laws.specs.Trees.{OneTree, Chosen, Begins, Somewhere, Everywhere, branches, others}
-use Rattle.ms_threads_schedules_laws.specs.Explored.{IsTree, EachOnce, Reads, Leads, Exploring}
+use Rattle.ms_threads_schedules_laws.specs.Explored.{IsTree, Reads, Leads, Exploring}
 use Rattle.ms_threads_schedules_laws.proofs.Lists.{joined, every_mapped, every_so, without, the_one}
 use Rattle.ms_threads_schedules_laws.proofs.Branching.{three, one_more}
 use Rattle.ms_threads_schedules_laws.proofs.Printed.{all_chosen}

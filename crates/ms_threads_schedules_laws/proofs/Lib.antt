@@ -4,4 +4,8 @@ pub mod Branching
 pub mod Printed
 pub mod Once
 pub mod Leading
+pub mod Queued
 pub mod Covered
+pub mod Tried
+pub mod PicksAlike
+pub mod PicksFollowed

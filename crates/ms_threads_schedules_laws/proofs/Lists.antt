@@ -1,5 +1,5 @@
 -- Properties of the items of lists.
-use Rattle.std.proofs.Common.{◌≡◌, ◌⊎◌, inl, inr, List, [], ◌∷◌, refl, sym, ◌∙◌, subst}
+use Rattle.std.proofs.Common.{◌≡◌, ◌⊎◌, inl, inr, List, [], ◌∷◌, subst}
 use Rattle.std.specs.Prelude.{◌++◌, map}
 use Rattle.ms_threads_schedules_laws.specs.Trees.{Somewhere, Everywhere, Pairwise, Within}
 

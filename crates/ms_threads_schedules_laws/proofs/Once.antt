@@ -1,8 +1,8 @@
 -- No run of an exploration is seen twice.
-use Rattle.std.proofs.Common.{◌≡◌, ◌<◌, ◌≤◌, ◌⊎◌, inl, inr, ℕ, zero, suc, ◌+◌, ◌-◌, List, [], ◌∷◌, refl, sym, ap, ◌∙◌, subst, arith}
+use Rattle.std.proofs.Common.{◌≡◌, ◌<◌, ◌≤◌, ◌⊎◌, inl, inr, ℕ, zero, suc, ◌+◌, ◌-◌, List, [], ◌∷◌, sym, ap, ◌∙◌, subst, arith}
 use Rattle.std.specs.Prelude.{◌++◌, map}
 use Rattle.ms_threads_schedules_laws.specs.Picks.{Pick}
-use Rattle.ms_threads_schedules_laws.specs.Trees.{Begins, Somewhere, Everywhere, Pairwise, branches, others, below, above}
+use Rattle.ms_threads_schedules_laws.specs.Trees.{Begins, Everywhere, Pairwise, branches, others, below, above}
 use Rattle.ms_threads_schedules_laws.specs.Explored.{Disjoint, EachOnce}
 use Rattle.ms_threads_schedules_laws.proofs.Lists.{every, joined, every_mapped, every_so, without, the_one, paired, pairs_without, with_others, pairs_mapped}
 

@@ -1,13 +1,18 @@
 -- Runs of fibers that begin in one state, under two schedules.
-use Rattle.std.proofs.Common.{◌≡◌, ◌<◌, ◌≤◌, ℕ, zero, suc, ◌+◌, Bool, true, false, Option, None, Some, List, [], ◌∷◌, length, refl, sym, ap, ◌∙◌, subst, arith}
-use Rattle.std.specs.Prelude.{◌%◌, ◌++◌, map, get_or}
+use Rattle.std.proofs.Common.{◌≡◌, ℕ, zero, suc, ◌+◌, Option, None, Some, List, [], ◌∷◌, length, refl, sym, ap, subst, arith}
+use Rattle.std.specs.Prelude.{◌%◌, ◌++◌, get_or}
 use Rattle.std.proofs.lemmas.Nat.{mod_below}
-use Rattle.ms_runs.specs.declared.runs.End.{End}
-use Rattle.ms_runs.specs.World.{World, Thread}
+use Rattle.ms_ir.specs.declared.syntax.Module.{Module}
+use Rattle.ms_runs.specs.declared.runs.Setup.{Setup}
+use Rattle.ms_runs.specs.Masks.{by_completions}
+use Rattle.ms_runs.specs.Plain.{setting_of}
+use Rattle.ms_runs_threads.specs.PlainFibers.{plain_fiber, plain_threads_start}
+use Rattle.ms_runs_threads.specs.ShadowFibers.{shadow_fiber, shadow_threads_start}
+use Rattle.ms_runs.specs.World.{Thread}
 use Rattle.ms_runs.specs.Plain.{Stepped, More, Stop}
 use Rattle.ms_runs.specs.Threads.{thread_at}
-use Rattle.ms_runs_threads.specs.Fibers.{Due, Own, Asks, Returns, Going, Meaning, Others, Fibers, Goes, Waits, goes_on, runnable, standing, turned, with_world, ended, moved, moves, resumed, resumes, picked, fibers_step, world_of, finish, ends_in}
-use Rattle.ms_threads_schedules_laws.specs.Picks.{Pick, number_at, pick_by, picks_of, picked_now, picked_on, picks_in, schedule_of, Chooses}
+use Rattle.ms_runs_threads.specs.Fibers.{Due, Own, Asks, Returns, Going, Meaning, Others, Fibers, Goes, Waits, goes_on, runnable, standing, turned, with_world, moved, resumed, resumes, picked, finish, ends_in}
+use Rattle.ms_threads_schedules_laws.specs.Picks.{number_at, pick_by, picks_of, picked_on, picks_in, plain_picks, shadow_picks, Chooses}
 use Rattle.ms_threads_schedules_laws.specs.Trees.{OneTree}
 use Rattle.ms_threads_schedules_laws.specs.Explored.{IsTree}
 
@@ -132,3 +137,9 @@ module _ {F S : Type 0} (means : Meaning F S) where
   -- runs that picked the same are the same
   pub same_end : (a b : List ℕ) (n : ℕ) (c : Fibers F S) → picks_in means b n c ≡ picks_in means a n c → ends_in means b n c ≡ ends_in means a n c
   same_end a b n c e = (same_run a b n c (subst (Chooses b (picks_of c)) e (own_chooses b n c))).1
+
+pub plain_tree : (m : Module) (setup : Setup) → IsTree (plain_picks m setup)
+plain_tree m setup = fiber_tree (plain_fiber (setting_of m setup) m) setup.steps (plain_threads_start m setup) refl
+
+pub shadow_tree : (m : Module) (setup : Setup) → IsTree (shadow_picks m setup)
+shadow_tree m setup = fiber_tree (shadow_fiber by_completions (setting_of m setup) m) setup.steps (shadow_threads_start m setup) refl

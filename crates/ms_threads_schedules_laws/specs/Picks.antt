@@ -3,9 +3,8 @@ use Rattle.std.specs.Prelude.{◌≡◌, ℕ, zero, suc, ◌+◌, ◌%◌, List,
 use Rattle.ms_ir.specs.declared.syntax.Module.{Module}
 use Rattle.ms_runs.specs.declared.runs.Setup.{Setup}
 use Rattle.ms_runs.specs.Masks.{Rules, by_completions}
-use Rattle.ms_runs.specs.World.{World}
 use Rattle.ms_runs.specs.Plain.{Stepped, More, Stop, setting_of}
-use Rattle.ms_runs_threads.specs.Fibers.{Meaning, Fibers, Goes, Waits, Others, runnable, fibers_step}
+use Rattle.ms_runs_threads.specs.Fibers.{Meaning, Fibers, Goes, Waits, runnable, fibers_step}
 use Rattle.ms_runs_threads.specs.PlainFibers.{plain_fiber, plain_threads_start}
 use Rattle.ms_runs_threads.specs.ShadowFibers.{shadow_fiber, shadow_threads_start}
 
@@ -48,8 +47,11 @@ module _ {F S : Type 0} (means : Meaning F S) where
 abbrev pub plain_picks : Module → Setup → (schedule : List ℕ) → List Pick
 plain_picks m setup schedule = picks_in (plain_fiber (setting_of m setup) m) schedule setup.steps (plain_threads_start m setup)
 
+abbrev pub shadow_picks_by : Rules → Module → Setup → (schedule : List ℕ) → List Pick
+shadow_picks_by d m setup schedule = picks_in (shadow_fiber d (setting_of m setup) m) schedule setup.steps (shadow_threads_start m setup)
+
 abbrev pub shadow_picks : Module → Setup → (schedule : List ℕ) → List Pick
-shadow_picks m setup schedule = picks_in (shadow_fiber by_completions (setting_of m setup) m) schedule setup.steps (shadow_threads_start m setup)
+shadow_picks = shadow_picks_by by_completions
 
 -- picks as a schedule; that of none is 0
 abbrev pub schedule_of : List Pick → List ℕ

@@ -3,6 +3,8 @@
 //! body, and what it promises is the law.
 #![tactic(auto)]
 
+pub mod examples;
 pub mod exploration;
+pub mod followed;
 pub mod promise;
 pub mod trees;

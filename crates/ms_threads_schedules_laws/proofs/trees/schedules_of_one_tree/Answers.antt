@@ -1,19 +1,18 @@
-use Rattle.std.proofs.Common.{◌≡◌, ℕ, ap, refl}
-use Rattle.std.specs.Prelude.{List}
+use Rattle.std.proofs.Common.{ap}
 use Rattle.ms_runs.specs.declared.runs.End.{End}
 use Rattle.ms_runs.specs.World.{World, result}
 use Rattle.ms_runs.specs.Masks.{by_completions}
 use Rattle.ms_runs.specs.Plain.{setting_of}
 use Rattle.ms_runs_threads.specs.PlainFibers.{plain_fiber, plain_threads_start}
 use Rattle.ms_runs_threads.specs.ShadowFibers.{shadow_fiber, shadow_threads_start}
-use Rattle.ms_threads_schedules_laws.proofs.SamePicks.{fiber_tree, same_run, same_end}
+use Rattle.ms_threads_schedules_laws.proofs.SamePicks.{plain_tree, shadow_tree, same_run, same_end}
 use Rattle.ms_threads_schedules_laws.proofs.trees.schedules_of_one_tree.Goals as goal
 
 pub returns-clause-plain : goal.returns-clause-plain
-returns-clause-plain c = λ m setup. fiber_tree (plain_fiber (setting_of m setup) m) setup.steps (plain_threads_start m setup) refl
+returns-clause-plain c = plain_tree
 
 pub returns-clause-shadow : goal.returns-clause-shadow
-returns-clause-shadow c = λ m setup. fiber_tree (shadow_fiber by_completions (setting_of m setup) m) setup.steps (shadow_threads_start m setup) refl
+returns-clause-shadow c = shadow_tree
 
 pub returns-clause-plain_repeats : goal.returns-clause-plain_repeats
 returns-clause-plain_repeats c = λ m setup a b h.

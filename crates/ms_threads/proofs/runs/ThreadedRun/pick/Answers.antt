@@ -1,8 +1,10 @@
-use Rattle.std.proofs.Common.{◌≡◌, ◌<◌, ◌≤◌, ◌∙◌, Some, None, option_map, length, refl, sym, ap, subst, arith}
+use Rattle.std.proofs.Common.{◌<◌, ◌∙◌, Some, None, option_map, length, refl, sym, ap, subst, arith}
 use Rattle.std.proofs.lemmas.Nat.{mod_below}
 use Rattle.ms_threads.specs.declared.thread_table.ThreadTable.{ThreadTable}
+use Rattle.ms_threads_schedules_laws.specs.Picks.{plain_picks}
+use Rattle.ms_threads.specs.Recording.{Records}
 use Rattle.ms_threads.specs.ThreadTables.{standing_of, stands_of, site_of}
-use Rattle.ms_threads.proofs.Picks.{pick_spent, pick_deadlocks, picked_few, pick_performs, pick_begins}
+use Rattle.ms_threads.proofs.Picks.{picked_so, none_so, pick_spent, pick_deadlocks, picked_few, pick_performs, pick_begins}
 use Rattle.ms_threads.proofs.runs.ThreadedRun.pick.Goals as goal
 
 pub returns-then-self-eq0 : goal.returns-then-self-eq0
@@ -21,26 +23,27 @@ pick-requires-clause-place c =
 
 pub main_site-requires : goal.main_site-requires
 main_site-requires c =
-    let h = c.if-not-pick.ensures in
+    let h = none_so c.args.schedule.now c.args.self.now.table c.pick.new.self _ c.if-not-branch.true c.in_ok-pick.ensures in
     subst (λ (g : ThreadTable). 0 < length g.parked.items) (sym h.1) (omega (arith, c.requires.picking.1.between.stands.counted))
 
-pub returns-then-not-pick : goal.returns-then-not-pick
-returns-then-not-pick c = record {
+pub returns-then-not-branch : goal.returns-then-not-branch
+returns-then-not-branch c = record {
   turned = λ u p.
-      let h = c.if-not-pick.ensures in
-      pick_deadlocks c.args.m.now u c.args.schedule.now c.args.self.now p c.if-self-eq0.false h.0 c.main_site.result (c.main_site.ensures ∙ ap (λ (g : ThreadTable). site_of (stands_of g 0)) h.1);
+      let h = none_so c.args.schedule.now c.args.self.now.table c.pick.new.self _ c.if-not-branch.true c.in_ok-pick.ensures in
+      let k = pick_deadlocks c.args.m.now u c.args.schedule.now c.args.self.now p c.if-self-eq0.false h.0 c.main_site.result (c.main_site.ensures ∙ ap (λ (g : ThreadTable). site_of (stands_of g 0)) h.1) in
+      (k.0, subst (λ (g : ThreadTable). Records g.recorder (plain_picks c.args.m.now u c.args.schedule.now)) (sym h.1) k.1);
 }
 
 pub unpark-requires : goal.unpark-requires
 unpark-requires c =
-    picked_few c.args.m.now c.requires.picking.0 c.args.schedule.now c.args.self.now c.requires.picking.1 c.if-self-eq0.false c.requires.scheduled c.pick.new.self c.if-not-pick.ensures
+    picked_few c.args.m.now c.requires.picking.0 c.args.schedule.now c.args.self.now c.requires.picking.1 c.if-self-eq0.false c.requires.scheduled c.pick.new.self (picked_so c.args.schedule.now c.args.self.now.table c.pick.new.self _ c.if-not-branch.false c.in_ok-pick.ensures)
 
 pub perform-requires : goal.perform-requires
 perform-requires c = record {
   performing = (
     c.requires.picking.0,
     c.args.schedule.now,
-    pick_performs c.args.m.now c.requires.picking.0 c.args.schedule.now c.args.self.now c.requires.picking.1 c.if-self-eq0.false c.requires.scheduled c.pick.new.self c.if-not-pick.ensures _ c.unpark.new.fiber
+    pick_performs c.args.m.now c.requires.picking.0 c.args.schedule.now c.args.self.now c.requires.picking.1 c.if-self-eq0.false c.requires.scheduled c.pick.new.self (picked_so c.args.schedule.now c.args.self.now.table c.pick.new.self _ c.if-not-branch.false c.in_ok-pick.ensures) _ c.unpark.new.fiber
         c.unpark.ensures.stands refl (standing_of c.unpark.new.fiber c.in-Some.call) (sym c.unpark.ensures.taken ∙ ap (option_map (standing_of c.unpark.new.fiber)) c.in-Some.is),
   );
 }
@@ -49,7 +52,7 @@ pub returns-in-Some : goal.returns-in-Some
 returns-in-Some c = record {
   turned = λ u p.
       c.perform.ensures.turned u c.args.schedule.now
-      (pick_performs c.args.m.now u c.args.schedule.now c.args.self.now p c.if-self-eq0.false c.requires.scheduled c.pick.new.self c.if-not-pick.ensures _ c.unpark.new.fiber
+      (pick_performs c.args.m.now u c.args.schedule.now c.args.self.now p c.if-self-eq0.false c.requires.scheduled c.pick.new.self (picked_so c.args.schedule.now c.args.self.now.table c.pick.new.self _ c.if-not-branch.false c.in_ok-pick.ensures) _ c.unpark.new.fiber
       c.unpark.ensures.stands refl (standing_of c.unpark.new.fiber c.in-Some.call) (sym c.unpark.ensures.taken ∙ ap (option_map (standing_of c.unpark.new.fiber)) c.in-Some.is));
 }
 
@@ -58,7 +61,7 @@ begin-requires c = record {
   beginning = (
     c.requires.picking.0,
     c.args.schedule.now,
-    pick_begins c.args.m.now c.requires.picking.0 c.args.schedule.now c.args.self.now c.requires.picking.1 c.if-self-eq0.false c.requires.scheduled c.pick.new.self c.if-not-pick.ensures _ c.unpark.new.fiber c.unpark.ensures.stands refl
+    pick_begins c.args.m.now c.requires.picking.0 c.args.schedule.now c.args.self.now c.requires.picking.1 c.if-self-eq0.false c.requires.scheduled c.pick.new.self (picked_so c.args.schedule.now c.args.self.now.table c.pick.new.self _ c.if-not-branch.false c.in_ok-pick.ensures) _ c.unpark.new.fiber c.unpark.ensures.stands refl
         (sym c.unpark.ensures.taken ∙ ap (option_map (standing_of c.unpark.new.fiber)) c.in-None.is),
   );
 }
@@ -67,6 +70,6 @@ pub returns-in_ok-begin-in-None : goal.returns-in_ok-begin-in-None
 returns-in_ok-begin-in-None c = record {
   turned = λ u p.
       c.in_ok-begin-in-None.ensures.turned u c.args.schedule.now
-      (pick_begins c.args.m.now u c.args.schedule.now c.args.self.now p c.if-self-eq0.false c.requires.scheduled c.pick.new.self c.if-not-pick.ensures _ c.unpark.new.fiber c.unpark.ensures.stands refl
+      (pick_begins c.args.m.now u c.args.schedule.now c.args.self.now p c.if-self-eq0.false c.requires.scheduled c.pick.new.self (picked_so c.args.schedule.now c.args.self.now.table c.pick.new.self _ c.if-not-branch.false c.in_ok-pick.ensures) _ c.unpark.new.fiber c.unpark.ensures.stands refl
       (sym c.unpark.ensures.taken ∙ ap (option_map (standing_of c.unpark.new.fiber)) c.in-None.is));
 }

@@ -16,7 +16,7 @@ returns-in-Spent c = record {
   turned = λ u same g.
       let m = c.args.m.now in
       let old = c.args.self.now.running in
-      turn_spent m u c.args.schedule.now c.args.self.now g (record c.args.self.now { running = record c.args.self.now.running { fiber = c.advance.new.fiber; world = c.advance.new.world; budget = c.advance.new.budget } }) refl refl
+      turn_spent m u c.args.schedule.now c.args.self.now g (record c.args.self.now { running = record c.args.self.now.running { fiber = c.advance.new.fiber; world = c.advance.new.world; budget = c.advance.new.budget } }) refl refl refl
       (subst (λ (x : Pause). Advanced (IsRunning m u g.beside) m u g.beside g.state old.budget.left old.fiber.frame.at x c.advance.new.fiber c.advance.new.world c.advance.new.budget.left) c.in-Spent.is
       (c.in_ok-advance.ensures.advanced u g.beside g.state g.stands));
 }
@@ -26,7 +26,7 @@ returns-in-Ended c = record {
   turned = λ u same g.
       let m = c.args.m.now in
       let old = c.args.self.now.running in
-      turn_ended m u c.args.schedule.now c.args.self.now g (record c.args.self.now { running = record c.args.self.now.running { fiber = c.advance.new.fiber; world = c.advance.new.world; budget = c.advance.new.budget } }) refl refl c.in-Ended.end
+      turn_ended m u c.args.schedule.now c.args.self.now g (record c.args.self.now { running = record c.args.self.now.running { fiber = c.advance.new.fiber; world = c.advance.new.world; budget = c.advance.new.budget } }) refl refl refl c.in-Ended.end
       (subst (λ (x : Pause). Advanced (IsRunning m u g.beside) m u g.beside g.state old.budget.left old.fiber.frame.at x c.advance.new.fiber c.advance.new.world c.advance.new.budget.left) c.in-Ended.is
       (c.in_ok-advance.ensures.advanced u g.beside g.state g.stands));
 }

@@ -5,5 +5,5 @@ pub returns : goal.returns
 returns c = record {
   threads = c.in_ok-push.ensures.items;
   stands = (c.empty.result, (c.empty.ensures, c.in_ok-push-2.ensures.items));
-  same = record { turn = refl; place = refl };
+  same = record { turn = refl; place = refl; recorder = refl };
 }

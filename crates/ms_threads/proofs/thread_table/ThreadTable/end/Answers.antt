@@ -17,5 +17,5 @@ returns c =
       threads = set_numbered c.args.self.now.turn (ended_guest c.args.answer c.args.mask c.args.origin) c.args.self.now.threads.items t _ some c.requires c.index-thread.ensures
           (ap (with_origin t c.args.answer c.args.mask) c.kept_origin-kept.ensures);
       stands = refl;
-      same = record { turn = refl; place = refl };
+      same = record { turn = refl; place = refl; recorder = refl };
     }

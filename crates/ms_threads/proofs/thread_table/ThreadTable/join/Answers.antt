@@ -7,5 +7,5 @@ pub returns : goal.returns
 returns c = record {
   threads = set_numbered c.args.number joined_guest c.args.self.now.threads.items c.index-thread.result.now _ c.requires.some c.requires.few c.index-thread.ensures refl;
   stands = refl;
-  same = record { turn = refl; place = refl };
+  same = record { turn = refl; place = refl; recorder = refl };
 }

@@ -8,4 +8,5 @@ returns c = record {
   threads = c.new.ensures.items;
   stands = (c.empty.result, (c.empty.ensures, c.in_ok-push.ensures.items ∙ ap (λ (xs : List Parked). xs ++ c.empty.result ∷ []) c.new-parked.ensures.items));
   place = refl;
+  recorder = c.new-2.ensures;
 }

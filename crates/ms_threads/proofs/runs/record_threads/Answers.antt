@@ -4,19 +4,27 @@ use Rattle.ms_runs_threads.specs.PlainFibers.{plain_threads}
 use Rattle.ms_runtime.specs.Going.{ahead}
 use Rattle.ms_threads.specs.Going.{Turned}
 use Rattle.ms_threads.proofs.Begun.{going_begun}
-use Rattle.ms_threads.proofs.runs.run_threads.Goals as goal
+use Rattle.ms_threads.proofs.runs.record_threads.Goals as goal
 
 pub loop-threads-init : goal.loop-threads-init
 loop-threads-init c = going_begun c.args.m.now c.args.setup.now c.args.schedule.now c.requires.scheduled _ c.in_ok-running.ensures.begins c.in_ok-table.ensures
 
-pub returns-in-Some : goal.returns-in-Some
-returns-in-Some c =
+pub returns-in-Some-clause-result : goal.returns-in-Some-clause-result
+returns-in-Some-clause-result c =
     let m = c.args.m.now in
     let u = c.args.setup.now in
     let schedule = c.args.schedule.now in
     let threads = c.loop-threads.threads in
     c.into_result.ensures (plain_threads m u schedule)
-    (subst (λ (o : Option End). Turned m u schedule (ahead m threads.running) o c.run_to_pause.new.self) c.in-Some.is (c.in_ok-end.ensures.turned u refl c.loop-threads.invariant))
+    (subst (λ (o : Option End). Turned m u schedule (ahead m threads.running) o c.run_to_pause.new.self) c.in-Some.is (c.in_ok-end.ensures.turned u refl c.loop-threads.invariant)).0
+
+pub returns-in-Some-clause-picks : goal.returns-in-Some-clause-picks
+returns-in-Some-clause-picks c =
+    let m = c.args.m.now in
+    let u = c.args.setup.now in
+    let schedule = c.args.schedule.now in
+    let threads = c.loop-threads.threads in
+    (subst (λ (o : Option End). Turned m u schedule (ahead m threads.running) o c.run_to_pause.new.self) c.in-Some.is (c.in_ok-end.ensures.turned u refl c.loop-threads.invariant)).1
 
 pub loop-threads-smaller : goal.loop-threads-smaller
 loop-threads-smaller c =

@@ -1,6 +1,6 @@
 use Rattle.ms_runtime.specs.Going.{ahead}
 use Rattle.ms_threads.specs.Going.{Going}
-use Rattle.ms_threads.proofs.runs.run_threads.Given as goal
+use Rattle.ms_threads.proofs.runs.record_threads.Given as goal
 
 abbrev pub invariant-loop-threads : goal.invariant-loop-threads
 invariant-loop-threads l = Going l.m l.setup l.schedule l.threads
