@@ -9,44 +9,20 @@ use crate::names::Takes;
 use ms_bits::NoMemory;
 use std::alloc::Global;
 
-/// Whether the word has decimal digits alone.
-#[tactic(auto, using(crate::proofs::Finding::fails_here, crate::proofs::Finding::all_passed))]
-fn are_digits(word: &[u8]) -> bool
-    ensures { result ≡ list_all is_ascii_digit word.now }
-{
-    for b in word {
-        if !b.is_ascii_digit() {
-            return false;
-        }
-    }
-    true
-}
-
-/// Whether the word has hexadecimal digits alone.
-#[tactic(auto, using(crate::proofs::Finding::fails_here, crate::proofs::Finding::all_passed))]
-fn are_hex_digits(word: &[u8]) -> bool
-    ensures { result ≡ list_all is_ascii_hexdigit word.now }
-{
-    for b in word {
-        if !b.is_ascii_hexdigit() {
-            return false;
-        }
-    }
-    true
-}
-
 /// Whether the word has decimal digits alone, and no zero before another digit.
 fn is_number(word: &[u8]) -> bool
     ensures { result ≡ is_number_of word.now }
 {
-    !word.is_empty() && are_digits(word) && (word.len() == 1 || word[0] != b'0')
+    !word.is_empty()
+        && word.iter().all(|b| b.is_ascii_digit())
+        && (word.len() == 1 || word[0] != b'0')
 }
 
 /// Whether the word has hexadecimal digits alone, two for each byte, and at least one byte.
 fn is_hex(word: &[u8]) -> bool
     ensures { result ≡ is_hex_of word.now }
 {
-    !word.is_empty() && word.len() % 2 == 0 && are_hex_digits(word)
+    !word.is_empty() && word.len() % 2 == 0 && word.iter().all(|b| b.is_ascii_hexdigit())
 }
 
 /// The number that a word of digits spells, where 64 bits have it.
