@@ -9,20 +9,32 @@ use crate::names::Takes;
 use ms_bits::NoMemory;
 use std::alloc::Global;
 
+/// Whether the word has decimal digits alone.
+fn are_digits(word: &[u8]) -> bool
+    ensures { result ≡ list_all is_ascii_digit word.now }
+{
+    word.iter().all(|b| b.is_ascii_digit())
+}
+
+/// Whether the word has hexadecimal digits alone.
+fn are_hex_digits(word: &[u8]) -> bool
+    ensures { result ≡ list_all is_ascii_hexdigit word.now }
+{
+    word.iter().all(|b| b.is_ascii_hexdigit())
+}
+
 /// Whether the word has decimal digits alone, and no zero before another digit.
 fn is_number(word: &[u8]) -> bool
     ensures { result ≡ is_number_of word.now }
 {
-    !word.is_empty()
-        && word.iter().all(|b| b.is_ascii_digit())
-        && (word.len() == 1 || word[0] != b'0')
+    !word.is_empty() && are_digits(word) && (word.len() == 1 || word[0] != b'0')
 }
 
 /// Whether the word has hexadecimal digits alone, two for each byte, and at least one byte.
 fn is_hex(word: &[u8]) -> bool
     ensures { result ≡ is_hex_of word.now }
 {
-    !word.is_empty() && word.len() % 2 == 0 && word.iter().all(|b| b.is_ascii_hexdigit())
+    !word.is_empty() && word.len() % 2 == 0 && are_hex_digits(word)
 }
 
 /// The number that a word of digits spells, where 64 bits have it.
