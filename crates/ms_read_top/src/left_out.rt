@@ -1,6 +1,8 @@
 //! What a module says of its source and its target (LLVM Language Reference, "Source Filename", "Data Layout", "Target
 //! Triple"), which is read over.
 
+ghost use Rattle.std.specs.Prelude.{◌||◌, if◌then◌else◌, Err, Ok};
+ghost use Rattle.ms_text_grammar.specs.{Lexemes.{is}, Steps.{refusal}};
 ghost use Rattle.ms_text_grammar.specs.Modules as spec;
 ghost use Rattle.ms_read_cursor.specs.Reading.{Gives, Judges, run};
 
@@ -20,11 +22,11 @@ pub fn source_filename(tokens: &mut Tokens<'_>) -> Result<(), Cause>
     tokens.word(Symbol::Str)
 }
 
-/// What of the target is said.
-fn target_word_of(token: &Lexeme<'_>) -> Result<(), Cause>
-    ensures { Judges (spec.target_word_of token.now) result }
+/// That a token is one of two.
+pub fn either(token: &Lexeme<'_>, one: Symbol, other: Symbol) -> Result<(), Cause>
+    ensures { Judges (if is one token.now || is other token.now then Ok tt else Err (refusal token.now)) result }
 {
-    if token.is(Symbol::DataLayout) || token.is(Symbol::Triple) {
+    if token.is(one) || token.is(other) {
         Ok(())
     } else {
         Err(token.refusal())
@@ -40,7 +42,7 @@ fn target_word_of(token: &Lexeme<'_>) -> Result<(), Cause>
 pub fn target_entity(tokens: &mut Tokens<'_>) -> Result<(), Cause>
     ensures { Gives (run spec.target_entity tokens.old) result tokens.new }
 {
-    target_word_of(&tokens.lexeme())?;
+    either(&tokens.lexeme(), Symbol::DataLayout, Symbol::Triple)?;
     tokens.advance();
     tokens.word(Symbol::Equals)?;
     tokens.word(Symbol::Str)

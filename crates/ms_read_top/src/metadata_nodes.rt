@@ -4,22 +4,13 @@ ghost use Rattle.std.specs.Prelude.{◌≡◌, cond};
 ghost use Rattle.ms_lex.specs.Grammar.{done, give, seq};
 ghost use Rattle.ms_text_grammar.specs.{declared.symbols.Symbol.TheVariants.{Distinct}, Steps.{sees, skip}};
 ghost use Rattle.ms_text_grammar.specs.Modules as spec;
-ghost use Rattle.ms_read_cursor.specs.Reading.{Gives, Judges, run};
+ghost use Rattle.ms_read_cursor.specs.Reading.{Gives, run};
 
+use crate::left_out::either;
 use ms_ir::Form;
-use ms_read_cursor::{Lexeme, Tokens};
+use ms_read_cursor::Tokens;
 use ms_read_values::{balanced, meta};
 use ms_text_grammar::{Cause, Symbol};
-
-fn group_of(token: &Lexeme<'_>) -> Result<(), Cause>
-    ensures { Judges (spec.group_of token.now) result }
-{
-    if token.is(Symbol::Group) || token.is(Symbol::DebugGroup) {
-        Ok(())
-    } else {
-        Err(token.refusal())
-    }
-}
 
 /// Reads a group, `=` and tokens in braces in which brackets match, after `attributes`.
 ///
@@ -30,7 +21,7 @@ fn group_of(token: &Lexeme<'_>) -> Result<(), Cause>
 pub fn attribute_group(tokens: &mut Tokens<'_>, form: Form) -> Result<(), Cause>
     ensures { Gives (run (spec.attribute_group form) tokens.old) result tokens.new }
 {
-    group_of(&tokens.lexeme())?;
+    either(&tokens.lexeme(), Symbol::Group, Symbol::DebugGroup)?;
     tokens.advance();
     tokens.word(Symbol::Equals)?;
     tokens.word(Symbol::OpenBrace)?;

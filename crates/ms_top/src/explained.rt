@@ -14,7 +14,6 @@ use crate::output::Output;
 use crate::passes::{Pass, has_threads};
 use crate::refused::refused_threads;
 use ms_bits::{Bytes, NoMemory};
-use ms_check::CheckedModule;
 use ms_fork::Gate;
 use ms_ir::Module;
 use ms_report::{SiteLines, closing_with, report_text_with, trail_text_with};
@@ -51,74 +50,57 @@ impl<R: Threads + Sync, P: Pass, G: Gate + Sync, L: SiteLines> ModuleJob<'_, R, 
         requires alone { is_threaded self.now.m.now ≡ false }
         ensures { IfOk result (λ a. IsExplanation P.gives (L.lines self.now.lines.now) (setup_with options.now (only_input self.now.inputs.now)) self.now.m.now a) }
     {
-        let alloc = self.job.alloc;
-        let setup = setup_of(alloc, options, self.input())?;
+        let setup = setup_of(self.job.alloc, options, self.input())?;
         let result = self.job.run(self.m, &setup, options.schedule.as_slice())?;
-        explanation(alloc, self.m, &setup, &result, self.lines)
+        self.explanation(&setup, &result)
     }
-}
 
-/// What explains the result of a run with a setup.
-fn explanation<L: SiteLines>(
-    alloc: Global,
-    m: &CheckedModule,
-    setup: &Setup,
-    r: &RunResult,
-    lines: &L,
-) -> Result<Output, NoMemory>
-    requires plain { CanInstrument m.now }
-    requires limits { WithinLimits setup.now }
-    requires alone { is_threaded m.now ≡ false }
-    ensures { IfOk result (λ a. a ≡ answer_of_explained (L.lines lines.now) m.now setup.now r.now) }
-{
-    m.law_valid();
-    let out = explained(alloc, m, setup, r, lines)?;
-    let err = closing_with(alloc, m.module(), r, true, lines)?;
-    Ok(Output {
-        status: status_of(r),
-        out: Bytes::from_vec(out),
-        err: Bytes::from_vec(err),
-    })
-}
-
-/// The lines of the report of a run with a setup, and of the way to what its use read.
-fn explained<L: SiteLines>(
-    alloc: Global,
-    m: &CheckedModule,
-    setup: &Setup,
-    r: &RunResult,
-    lines: &L,
-) -> Result<Vec<u8>, NoMemory>
-    requires plain { CanInstrument m.now }
-    requires limits { WithinLimits setup.now }
-    requires alone { is_threaded m.now ≡ false }
-    ensures { IfOk result (λ text. text.items ≡ explained_with (L.lines lines.now) m.now setup.now r.now) }
-{
-    m.law_valid();
-    if r.reports.as_slice().is_empty() {
-        return Vec::from_slice(alloc, b"no report\n");
+    /// What explains the result of a run with a setup.
+    fn explanation(&self, setup: &Setup, r: &RunResult) -> Result<Output, NoMemory>
+        requires plain { CanInstrument self.now.m.now }
+        requires limits { WithinLimits setup.now }
+        requires alone { is_threaded self.now.m.now ≡ false }
+        ensures { IfOk result (λ a. a ≡ answer_of_explained (L.lines self.now.lines.now) self.now.m.now setup.now r.now) }
+    {
+        self.m.law_valid();
+        let out = self.explained(setup, r)?;
+        let err = closing_with(self.job.alloc, self.m.module(), r, true, self.lines)?;
+        Ok(Output {
+            status: status_of(r),
+            out: Bytes::from_vec(out),
+            err: Bytes::from_vec(err),
+        })
     }
-    let mut text = report_text_with(alloc, m.module(), r, lines)?;
-    let way = lines_of_run(alloc, m, setup, lines)?;
-    text.extend_from_slice(&way)?;
-    Ok(text)
-}
 
-/// The lines of the way of the bits that the first report of a run with a setup is about.
-fn lines_of_run<L: SiteLines>(
-    alloc: Global,
-    m: &CheckedModule,
-    setup: &Setup,
-    lines: &L,
-) -> Result<Vec<u8>, NoMemory>
-    requires plain { CanInstrument m.now }
-    requires limits { WithinLimits setup.now }
-    requires alone { is_threaded m.now ≡ false }
-    ensures { IfOk result (λ text. text.items ≡ trace_with (L.lines lines.now) m.now (followed m.now setup.now)) }
-{
-    m.law_valid();
-    let found = trace(alloc, m, setup)?;
-    lines_of_trace(alloc, m.module(), &found, lines)
+    /// The lines of the report of a run with a setup, and of the way to what its use read.
+    fn explained(&self, setup: &Setup, r: &RunResult) -> Result<Vec<u8>, NoMemory>
+        requires plain { CanInstrument self.now.m.now }
+        requires limits { WithinLimits setup.now }
+        requires alone { is_threaded self.now.m.now ≡ false }
+        ensures { IfOk result (λ text. text.items ≡ explained_with (L.lines self.now.lines.now) self.now.m.now setup.now r.now) }
+    {
+        self.m.law_valid();
+        let alloc = self.job.alloc;
+        if r.reports.as_slice().is_empty() {
+            return Vec::from_slice(alloc, b"no report\n");
+        }
+        let mut text = report_text_with(alloc, self.m.module(), r, self.lines)?;
+        let way = self.lines_of_run(setup)?;
+        text.extend_from_slice(&way)?;
+        Ok(text)
+    }
+
+    /// The lines of the way of the bits that the first report of a run with a setup is about.
+    fn lines_of_run(&self, setup: &Setup) -> Result<Vec<u8>, NoMemory>
+        requires plain { CanInstrument self.now.m.now }
+        requires limits { WithinLimits setup.now }
+        requires alone { is_threaded self.now.m.now ≡ false }
+        ensures { IfOk result (λ text. text.items ≡ trace_with (L.lines self.now.lines.now) self.now.m.now (followed self.now.m.now setup.now)) }
+    {
+        self.m.law_valid();
+        let found = trace(self.job.alloc, self.m, setup)?;
+        lines_of_trace(self.job.alloc, self.m.module(), &found, self.lines)
+    }
 }
 
 /// The lines of what following a run comes to.

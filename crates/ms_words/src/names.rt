@@ -97,16 +97,13 @@ static GEN_WANTED: [OptionName; 2] = [OptionName::Seed, OptionName::Functions];
 
 impl CommandName {
     /// The command that the word names.
-    #[tactic(auto, using(crate::proofs::Finding::find_here, crate::proofs::Finding::find_passed))]
     pub fn named(word: &str) -> Option<CommandName>
         ensures { result ≡ find (λ c. same word.now (command_word c)) commands }
     {
-        for command in &COMMANDS {
-            if word == command.word() {
-                return Some(*command);
-            }
-        }
-        None
+        COMMANDS
+            .iter()
+            .copied()
+            .find(|command| word == command.word())
     }
 
     /// The word that names it.
@@ -148,16 +145,12 @@ impl CommandName {
     }
 
     /// Whether it must have the option.
-    #[tactic(auto, using(crate::proofs::Finding::holds_here, crate::proofs::Finding::any_passed))]
     pub fn wants(self, option: OptionName) -> bool
         ensures { result ≡ is_wanted self option }
     {
-        for wanted in self.wanted() {
-            if wanted.word() == option.word() {
-                return true;
-            }
-        }
-        false
+        self.wanted()
+            .iter()
+            .any(|wanted| wanted.word() == option.word())
     }
 
     /// How many files it has at least.
@@ -183,16 +176,12 @@ impl CommandName {
     }
 
     /// The option that has the name; one that takes no value isn't known with a value.
-    #[tactic(auto, using(crate::proofs::Finding::find_here, crate::proofs::Finding::find_passed))]
     pub fn option_named(self, name: &str, has_value: bool) -> Option<OptionName>
         ensures { result ≡ find (λ o. same (option_word o) name.now && not (takes_nothing (takes_of o) && has_value)) (options_of self) }
     {
-        for option in self.options() {
-            if option.word() == name && !(option.takes_nothing() && has_value) {
-                return Some(*option);
-            }
-        }
-        None
+        self.options().iter().copied().find(|option| {
+            option.word() == name && !(option.takes_nothing() && has_value)
+        })
     }
 }
 

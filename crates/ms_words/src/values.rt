@@ -10,29 +10,17 @@ use ms_bits::NoMemory;
 use std::alloc::Global;
 
 /// Whether the word has decimal digits alone.
-#[tactic(auto, using(crate::proofs::Finding::fails_here, crate::proofs::Finding::all_passed))]
 fn are_digits(word: &[u8]) -> bool
     ensures { result ≡ list_all is_ascii_digit word.now }
 {
-    for b in word {
-        if !b.is_ascii_digit() {
-            return false;
-        }
-    }
-    true
+    word.iter().all(|b| b.is_ascii_digit())
 }
 
 /// Whether the word has hexadecimal digits alone.
-#[tactic(auto, using(crate::proofs::Finding::fails_here, crate::proofs::Finding::all_passed))]
 fn are_hex_digits(word: &[u8]) -> bool
     ensures { result ≡ list_all is_ascii_hexdigit word.now }
 {
-    for b in word {
-        if !b.is_ascii_hexdigit() {
-            return false;
-        }
-    }
-    true
+    word.iter().all(|b| b.is_ascii_hexdigit())
 }
 
 /// Whether the word has decimal digits alone, and no zero before another digit.
