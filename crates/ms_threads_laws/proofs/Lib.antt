@@ -9,6 +9,9 @@ pub mod DueSame
 pub mod Following
 pub mod OwnSteps
 pub mod StartedFibers
+pub mod ThreadActs
+pub mod ShadowCalls
+pub mod ShadowKept
 pub mod KeptRuns
 pub mod LowCalls
 pub mod LowFibers

@@ -1,20 +1,18 @@
 -- Steps of one fiber under two fills, where one report ends a run and no blind use occurs.
-use Rattle.std.proofs.Common.{◌≡◌, ◌≤◌, ◌+◌, ℕ, Bool, true, false, List, [], ◌∷◌, map, length, eqb, Contains, Option, Some, None, if◌then◌else◌, refl, sym, ap, ◌∙◌, subst, arith}
+use Rattle.std.proofs.Common.{◌≡◌, ◌≤◌, ◌+◌, ℕ, Bool, true, false, List, [], ◌∷◌, map, length, eqb, Option, Some, None, if◌then◌else◌, refl, sym, ap, ◌∙◌, subst, arith}
 use Rattle.std.proofs.lemmas.Bool.{false≢true}
 use Rattle.ms_ir.specs.declared.syntax.Name.{Name}
 use Rattle.ms_ir.specs.declared.syntax.Ty.{Ty}
 use Rattle.ms_ir.specs.declared.syntax.Operand.{Operand}
-use Rattle.ms_ir.specs.declared.syntax.Operand.TheVariants as operand
 use Rattle.ms_ir.specs.declared.syntax.Op.{Op}
 use Rattle.ms_ir.specs.declared.syntax.Op.TheVariants as op
 use Rattle.ms_ir.specs.declared.syntax.Inst.{Inst}
-use Rattle.ms_ir.specs.declared.syntax.Func.{Func}
 use Rattle.ms_ir.specs.declared.syntax.Module.{Module}
 use Rattle.ms_ir.specs.declared.calls.External.{External}
 use Rattle.ms_ir.specs.declared.calls.External.TheVariants.{PthreadCreate, PthreadJoin, SchedYield}
 use Rattle.ms_ir.specs.Names.{lookup, externals}
 use Rattle.ms_ir.specs.ThreadCalls.{is_asked}
-use Rattle.ms_ir.specs.Instructions.{HeadUnmarked, operands, count_undefs, func_index, func_at, external_named}
+use Rattle.ms_ir.specs.Instructions.{NoMarks, HeadUnmarked, operands, count_undefs, func_index, external_named}
 use Rattle.ms_runs.specs.declared.runs.Setup.{Setup}
 use Rattle.ms_runs.specs.World.{World, Thread, Here, Effect, Gives, Does, Goes, Enters, Leaves, Ends as Over, result}
 use Rattle.ms_runs.specs.Threads.{thread_at, changed_thread, set_at, with_answer}
@@ -32,21 +30,15 @@ use Rattle.ms_runs.specs.Calls.{call_sites}
 use Rattle.ms_runs_threads.specs.Calls.{none_told, shadow_threads_calls_by}
 use Rattle.ms_runs_threads.proofs.CallsAlike.{SaysSame, calls_alike}
 use Rattle.ms_runs_fills_laws.proofs.SameCalls.{low_calls}
-use Rattle.ms_check_valid.specs.CleanValues.{IsClean}
 use Rattle.ms_check_valid.specs.Formed.{Formed}
-use Rattle.ms_check_valid.specs.Uninstrumented.{CanInstrument}
 use Rattle.ms_check_valid.specs.Valid.{Valid}
 use Rattle.ms_runs_good_laws.specs.Fills.{refilled}
 use Rattle.ms_runs_good_laws.specs.GoodStates.{PoisonedBelow, GoodFrames}
-use Rattle.ms_runs_good_laws.specs.GoodWorlds.{GoodWorld, GivesBytes, AnyOrigin}
+use Rattle.ms_runs_good_laws.specs.GoodWorlds.{GivesBytes}
 use Rattle.ms_runs_good_laws.proofs.Frames.{top_good, due_first as first_due}
 use Rattle.ms_runs_good_laws.proofs.Sound.{shadow_sound}
 use Rattle.ms_runs_good_laws.proofs.Readings.{word_number}
-use Rattle.ms_runs_clean_laws.specs.CleanStates.{HasCleanValues}
-use Rattle.ms_runs_clean_laws.proofs.CleanRuns.{start_clean}
 use Rattle.ms_pass_tasks.specs.InstructionLaw.{words_at}
-use Rattle.ms_pass_laws.specs.Numbers.{numbering}
-use Rattle.ms_pass_laws.proofs.Taken.{module_known}
 use Rattle.ms_runs_threads.specs.Fibers.{Own, Asks, Returns, Going, Meaning, Fibers, Goes as GoesOn, turned, ended, ends_in}
 use Rattle.ms_runs_threads.specs.Alike.{SteppedAlike, count_of, Relation, GoBoth, AtBoth, EndBoth, EarlyGoing, of_going, Quiet, Laws, LateLaws, Counts}
 use Rattle.ms_runs_threads.specs.PlainFibers.{due_inst, due_of, due_at, frames_due, frames_site, frames_left, words_due, inst_joins, op_joins, joins_of}
@@ -68,16 +60,17 @@ use Rattle.ms_runs_fills_laws.proofs.Whole.{start_alike}
 use Rattle.ms_threads_laws.proofs.ThreadCalls.{ThreadCall, ReturnsAlone, asks_call, returns_alone, counts_none}
 use Rattle.ms_threads_laws.proofs.DueSame.{due_head, due_first}
 use Rattle.ms_threads_laws.proofs.OwnSteps.{more_is, calm_due}
-use Rattle.ms_threads_laws.proofs.StartedFibers.{AllStart, creates}
-use Rattle.ms_threads_laws.proofs.Following.{Kept}
-use Rattle.ms_threads_laws.proofs.KeptRuns.{run_kept, start_begun}
+use Rattle.ms_threads_laws.proofs.StartedFibers.{creates}
+use Rattle.ms_threads_laws.proofs.ShadowKept.{WorldKept, ended_kept, turned_kept, step_kept, perform_kept, begun_kept}
+use Rattle.ms_threads_laws.proofs.KeptRuns.{start_begun}
+use Rattle.ms_runs_good_laws.proofs.MaskRanges.{formulas_keep}
 use Rattle.ms_threads_laws.proofs.LowCalls.{WordsClean, CallClean, OpAlike, passed_clean, call_alike}
 
 -- ---- what is due
 
-module _ (m : Module) (can : CanInstrument m) where
+module _ (m : Module) (bare : NoMarks m) where
   unmarked : (f : Frame Poisoned) (i : Inst) (is : List Inst) → rest_of m f ≡ i ∷ is → i.marked ≡ false
-  unmarked f i is e = subst HeadUnmarked e (can.plain.unmarked f.func f.block f.place)
+  unmarked f i is e = subst HeadUnmarked e (bare f.func f.block f.place)
 
   -- the instruction that is due, of a kind
   record DueAt (f : Frame Poisoned) (P : Op → Type 0) : Type 0 where
@@ -110,23 +103,13 @@ module _ (m : Module) (can : CanInstrument m) where
 
 -- ---- two fills
 
-module _ (m : Module) (formed : Formed m) (valid : Valid m) (can : CanInstrument m) (setup : Setup) (one : setup.reports ≡ 1) (bytes : GivesBytes setup) (fill : List ℕ) (bytes_too : GivesBytes (refilled setup fill)) where
-  -- nothing is said to be clean
-  none_clean : (n : ℕ) (f : Func) → func_at m n ≡ Some f → (x : Name) → (numbering m n).env.clean x ≡ true → IsClean m f x
-  none_clean n f at x e = absurd (false≢true e)
-
-  abbrev kept : Kept (setting_of m setup) (numbering m) m (module_known m formed valid can setup)
-  kept = run_kept m formed valid setup bytes (numbering m) (module_known m formed valid can setup) none_clean
-
-  abbrev kept_too : Kept (setting_of m (refilled setup fill)) (numbering m) m (module_known m formed valid can (refilled setup fill))
-  kept_too = run_kept m formed valid (refilled setup fill) bytes_too (numbering m) (module_known m formed valid can (refilled setup fill)) none_clean
-
+module _ (m : Module) (formed : Formed m) (valid : Valid m) (bare : NoMarks m) (setup : Setup) (one : setup.reports ≡ 1) (bytes : GivesBytes setup) (fill : List ℕ) (bytes_too : GivesBytes (refilled setup fill)) where
   -- the frames of a fiber, and what all fibers share
   abbrev pub GoodFiber : List (Frame Poisoned) → Type 0
-  GoodFiber fs = GoodFrames PoisonedBelow m fs × ((x : Frame Poisoned) → Contains fs x → HasCleanValues m x)
+  GoodFiber fs = GoodFrames PoisonedBelow m fs
 
   abbrev pub GoodShared : World → Type 0
-  GoodShared w = (GoodWorld AnyOrigin w × AllStart m w.threads) × HeapPlaced w
+  GoodShared w = WorldKept m w × HeapPlaced w
 
   fit : (w : World) → GoodShared w → FitWorld w
   fit w g = record { bytes = g.0.0.bytes; shadow = g.0.0.shadow; sizes = g.0.0.sizes; placed = g.1 }
@@ -197,7 +180,7 @@ module _ (m : Module) (formed : Formed m) (valid : Valid m) (can : CanInstrument
   due_is_stood f fs good [] e q = tt
   due_is_stood f fs good (i ∷ is) e q =
       due_stands m formed valid (setting_of m setup) refl refl f fs good i is e
-      (calm_due (func_index m.funcs) (here (setting_of m setup) m f).main (eqb (length fs) 0) i.op (due_own m can (func_index m.funcs) f (here (setting_of m setup) m f).main (eqb (length fs) 0) i is e q))
+      (calm_due (func_index m.funcs) (here (setting_of m setup) m f).main (eqb (length fs) 0) i.op (due_own m bare (func_index m.funcs) f (here (setting_of m setup) m f).main (eqb (length fs) 0) i is e q))
 
   top_stands : (fs : List (Frame Poisoned)) → GoodFrames PoisonedBelow m fs → frames_due (setting_of m setup) m fs ≡ Own → TopStands (setting_of m setup) m fs
   top_stands [] good own = tt
@@ -213,11 +196,11 @@ module _ (m : Module) (formed : Formed m) (valid : Valid m) (can : CanInstrument
       let x = shadow_step by_formulas (setting_of m setup) m (shadow_state f w) in
       let y = shadow_step by_formulas (refill (setting_of m setup) fill) m (shadow_state g v) in
       stepped_low x y
-      (step_alike (setting_of m setup) fill one m (shadow_state f w) (shadow_state g v) (record { frames = h.0; world = h.1 }) (top_stands f h.2.0 own) (fit w h.4) h.5.0.0.bytes
+      (step_alike (setting_of m setup) fill one m (shadow_state f w) (shadow_state g v) (record { frames = h.0; world = h.1 }) (top_stands f h.2 own) (fit w h.4) h.5.0.0.bytes
       (step_quiet (setting_of m setup) m (shadow_state f w) (counts_step (shadow_state f w) x quiet)))
-      (λ c e. let k = kept.step f w h.2 h.4.0 own c e in
+      (λ c e. let k = step_kept by_formulas formulas_keep m formed valid bare setup bytes f w h.2 h.4.0 own c e in
       (k.0, (k.1, subst (PlacedStep (setting_of m setup) m) e (step_placed (setting_of m setup) m (shadow_state f w) h.4.1))))
-      (λ d e. let k = kept_too.step g v h.3 h.5.0 (sym (due_low f g h.0) ∙ own) d e in
+      (λ d e. let k = step_kept by_formulas formulas_keep m formed valid bare (refilled setup fill) bytes_too g v h.3 h.5.0 (sym (due_low f g h.0) ∙ own) d e in
       (k.0, (k.1, subst (PlacedStep (refill (setting_of m setup) fill) m) e (step_placed (refill (setting_of m setup) fill) m (shadow_state g v) h.5.1))))
 
   -- ---- up to what is due
@@ -336,12 +319,12 @@ module _ (m : Module) (formed : Formed m) (valid : Valid m) (can : CanInstrument
         let y = shadow_act by_formulas (refill (setting_of m setup) fill) m i at qs (revalued f u) gs v in
         let moves : MovesAlike x y =
         subst (λ z. MovesAlike (shadow_act by_formulas (setting_of m setup) m i at ps f fs w) (shadow_act by_formulas (refill (setting_of m setup) fill) m i at qs (revalued f u) gs z)) (other_is w v low)
-        (call_moves good.0 call clean w (unseen_of v) (low.bytes, low.answers)) in
+        (call_moves good call clean w (unseen_of v) (low.bytes, low.answers)) in
         subst (λ z. GoesAlike (shadow_going z) (right.perform (revalued f u ∷ gs) v)) (sym (left_performs call w))
         (subst (λ z. GoesAlike (shadow_going (shadow_moved (shadow_act by_formulas (setting_of m setup) m i at ps f fs w))) (shadow_going z)) (sym (right_performs call v))
         (stepped_low (shadow_moved x) (shadow_moved y) (moved_steps (setting_of m setup) fill one m x y moves)
-        (λ c e. let n = kept.perform f fs w i is rest call good g.0 c e in (n.0, (n.1, moved_placed w x (act_moves_kept (setting_of m setup) m i at ps f fs w) g.1 c e)))
-        (λ d e. let n = kept_too.perform (revalued f u) gs v i is rest call good_too k.0 d e in
+        (λ c e. let n = perform_kept by_formulas formulas_keep m formed valid bare setup bytes f fs w i is rest call good g.0 c e in (n.0, (n.1, moved_placed w x (act_moves_kept (setting_of m setup) m i at ps f fs w) g.1 c e)))
+        (λ d e. let n = perform_kept by_formulas formulas_keep m formed valid bare (refilled setup fill) bytes_too (revalued f u) gs v i is rest call good_too k.0 d e in
         (n.0, (n.1, moved_placed v y (act_moves_kept (refill (setting_of m setup) fill) m i at qs (revalued f u) gs v) k.1 d e)))))
 
   reach_low : (f : List (Frame Poisoned)) (w : World) (g : List (Frame Poisoned)) (v : World) → relation.Go f w g v → left.due f ≡ Asks
@@ -349,7 +332,7 @@ module _ (m : Module) (formed : Formed m) (valid : Valid m) (can : CanInstrument
   reach_low [] w g v h asks = absurd (grind arith)
   reach_low (f ∷ fs) w [] v h asks = absurd h.0
   reach_low (f ∷ fs) w (g ∷ gs) v h asks =
-      let d = due_call m can (func_index m.funcs) f (here (setting_of m setup) m f).main (eqb (length fs) 0) (rest_of m f) refl asks in
+      let d = due_call m bare (func_index m.funcs) f (here (setting_of m setup) m f).main (eqb (length fs) 0) (rest_of m f) refl asks in
       by_values f (λ e. GoodFiber (e ∷ gs) → SteppedAlike (AtBoth left right relation) relation.Ends (EarlyGoing left right relation) (left.reach (f ∷ fs) w) (right.reach (e ∷ gs) v))
       (λ u k good. call_reached f fs gs h.0.1 u k d.inst d.after d.rest d.kind h.2 good w v h.1 h.4 h.5) g h.0.0 h.3
 
@@ -412,8 +395,8 @@ module _ (m : Module) (formed : Formed m) (valid : Valid m) (can : CanInstrument
       (subst (λ y. EndsSame (More (record { fiber = f ∷ fs; shared = w })) y)
       (sym (right_reaches f fs gs below u k i is rest v ∙ ap (λ l. shadow_going (checked (revalued f u ∷ gs) (check_uses (refill (setting_of m setup) fill) at.site (operands i.op) qs l v))) none)) (
         answered_low _ _ (first_alike _ _ (words_low f u k (due_inst (rest_of m f)))) (given_back f w) (given_back (revalued f u) v) (given_back_low f (revalued f u) (frame_alike f u k) w v low),
-        (kept.ended_too (f ∷ fs) w good g.0, (given_back_kept f w).placed g.1),
-        (kept_too.ended_too (revalued f u ∷ gs) v good_too h.0, (given_back_kept (revalued f u) v).placed h.1),
+        (ended_kept m setup (f ∷ fs) w g.0, (given_back_kept f w).placed g.1),
+        (ended_kept m (refilled setup fill) (revalued f u ∷ gs) v h.0, (given_back_kept (revalued f u) v).placed h.1),
       ))
 
   returns_low : (f : List (Frame Poisoned)) (w : World) (g : List (Frame Poisoned)) (v : World) → relation.Go f w g v → left.due f ≡ Returns → EndsSame (left.reach f w) (right.reach g v)
@@ -421,7 +404,7 @@ module _ (m : Module) (formed : Formed m) (valid : Valid m) (can : CanInstrument
   returns_low (f ∷ fs) w [] v h due = absurd h.0
   returns_low (f ∷ fs) w (g ∷ gs) v h due =
       let main = (here (setting_of m setup) m f).main in
-      let d = due_return m can (func_index m.funcs) f main (eqb (length fs) 0) (rest_of m f) refl due in
+      let d = due_return m bare (func_index m.funcs) f main (eqb (length fs) 0) (rest_of m f) refl due in
       by_values f (λ e. GoodFiber (e ∷ gs) → EndsSame (left.reach (f ∷ fs) w) (right.reach (e ∷ gs) v))
       (λ u k good. return_low f fs gs h.0.1 u k d.inst d.after d.rest (none_used main (eqb (length fs) 0) d.inst.op d.kind) h.2 good w v h.1 h.4 h.5) g h.0.0 h.3
 
@@ -447,7 +430,7 @@ module _ (m : Module) (formed : Formed m) (valid : Valid m) (can : CanInstrument
   }
 
   turned_shared : (w v : World) → relation.Shared w v → (k : ℕ) → relation.Shared (turned k w) (turned k v)
-  turned_shared w v h k = (turned_low k w v h.0, (kept.turned_too w h.1.0 k, h.1.1), (kept_too.turned_too v h.2.0 k, h.2.1))
+  turned_shared w v h k = (turned_low k w v h.0, (turned_kept m k w h.1.0, h.1.1), (turned_kept m k v h.2.0, h.2.1))
 
   begun_low : (w v : World) → relation.Shared w v → (k : ℕ) (x : Thread) → thread_at k w.threads ≡ Some x
       → GoBoth left right relation (left.begun x.func x.argument (turned k w)) (right.begun x.func x.argument (turned k v))
@@ -457,8 +440,8 @@ module _ (m : Module) (formed : Formed m) (valid : Valid m) (can : CanInstrument
       let same : AlikeWords (a ∷ []) (a ∷ []) = (record { mask = refl; origin = refl; value = λ i z. refl }, tt) in (
         (entered_alike (setting_of m setup) fill m x.func x.func refl (a ∷ []) (a ∷ []) same (turned k w) (turned k v) sh.0, tt),
         sh.0,
-        (kept.begun w h.1.0 k x is).0,
-        (kept_too.begun v h.2.0 k x (ap (thread_at k) (sym h.0.threads) ∙ is)).0,
+        begun_kept by_formulas formulas_keep m formed valid bare setup bytes w h.1.0 k x is,
+        begun_kept by_formulas formulas_keep m formed valid bare (refilled setup fill) bytes_too v h.2.0 k x (ap (thread_at k) (sym h.0.threads) ∙ is),
         sh.1,
         sh.2,
       )
@@ -484,7 +467,7 @@ module _ (m : Module) (formed : Formed m) (valid : Valid m) (can : CanInstrument
   joins_low (f ∷ fs) (g ∷ gs) h =
       let st = h.1 in
       let i = st.inst in
-      let is_due : due_inst (rest_of m f) ≡ Some i = due_first i st.rest (unmarked m can f i st.after st.rest) in
+      let is_due : due_inst (rest_of m f) ≡ Some i = due_first i st.rest (unmarked m bare f i st.after st.rest) in
       by_values f (λ e. left.joins (f ∷ fs) ≡ right.joins (e ∷ gs))
       (λ u k. ap (λ l. inst_joins (func_index m.funcs) l (map (λ p. p.value) (words_due shadow_reading (setting_of m setup) m f l))) is_due
       ∙ numbers_low (words_at (setting_of m setup) f.values (here (setting_of m setup) m f) i) (words_at (refill (setting_of m setup) fill) u (here (setting_of m setup) m f) i)
@@ -585,7 +568,7 @@ module _ (m : Module) (formed : Formed m) (valid : Valid m) (can : CanInstrument
 
   pub start_shared : GoodShared (start_world m setup)
   start_shared = (
-    ((shadow_sound m formed valid setup bytes).world, start_begun m formed valid setup bytes (numbering m) (module_known m formed valid can setup) none_clean),
+    ((shadow_sound m formed valid setup bytes).world, start_begun m setup),
     (globals_kept m.types (address_of m) m.globals _).placed (λ k d l. absurd (omega (arith, l))),
   )
 
@@ -600,7 +583,7 @@ module _ (m : Module) (formed : Formed m) (valid : Valid m) (can : CanInstrument
       let d = ends_in right schedule setup.steps c in
       let low = start_alike m setup fill in
       let sound = shadow_sound m formed valid setup bytes in
-      let good : GoodFiber (start_frame shadow_reading m ∷ []) = (sound.frames, start_clean m setup) in
+      let good : GoodFiber (start_frame shadow_reading m ∷ []) = sound.frames in
       let both = runs_alike left right relation laws counts late schedule setup.steps c c ((low.frames, low.world, good, good, start_shared, start_shared), record { stands = λ n. tt; picks = refl }) (quiet ∙ sym start_blind) in
       ap (λ e. result e a.1) both.0 ∙ result_same d.0 a.1 d.1 both.1
 
@@ -624,6 +607,6 @@ module _ (m : Module) (formed : Formed m) (valid : Valid m) (can : CanInstrument
       let c : Fibers (List (Frame Poisoned)) World = GoesOn (start_frame shadow_reading m ∷ []) (start_world m setup) (record { stands = λ n. None; picks = 0 }) in
       let low = start_alike m setup fill in
       let sound = shadow_sound m formed valid setup bytes in
-      let good : GoodFiber (start_frame shadow_reading m ∷ []) = (sound.frames, start_clean m setup) in
+      let good : GoodFiber (start_frame shadow_reading m ∷ []) = sound.frames in
       calls_alike left right relation laws counts late (call_sites m) (call_sites m) says schedule setup.steps c c
       ((low.frames, low.world, good, good, start_shared, start_shared), record { stands = λ n. tt; picks = refl }) (quiet ∙ sym start_blind) none_told

@@ -65,14 +65,14 @@ module _ (m : Module) (formed : Formed m) (valid : Valid m) (can : CanInstrument
   same_threads fill is =
       let one : Setup = to_first_report setup in
       computed_threads m (refilled (to_first_report setup) fill) schedule
-      ∙ sym (same_fills m formed valid can (to_first_report setup) refl (record { input = bytes.input; fill = bytes.fill }) fill (record { input = bytes.input; fill = is.bytes }) schedule
+      ∙ sym (same_fills m formed valid can.plain.unmarked (to_first_report setup) refl (record { input = bytes.input; fill = bytes.fill }) fill (record { input = bytes.input; fill = is.bytes }) schedule
       (ap (λ (r : RunResult). r.blind) (sym (computed_threads m (to_first_report setup) schedule)) ∙ quiet))
       ∙ sym (computed_threads m (to_first_report setup) schedule)
 
   pub same_threads_calls : (fill : List ℕ) → IsFill fill → shadow_threads_calls m (refilled (to_first_report setup) fill) schedule ≡ shadow_threads_calls m (to_first_report setup) schedule
   same_threads_calls fill is =
       computed_calls m (refilled (to_first_report setup) fill) schedule
-      ∙ sym (same_calls m formed valid can (to_first_report setup) refl (record { input = bytes.input; fill = bytes.fill }) fill (record { input = bytes.input; fill = is.bytes }) schedule
+      ∙ sym (same_calls m formed valid can.plain.unmarked (to_first_report setup) refl (record { input = bytes.input; fill = bytes.fill }) fill (record { input = bytes.input; fill = is.bytes }) schedule
       (ap (λ (r : RunResult). r.blind) (sym (computed_threads m (to_first_report setup) schedule)) ∙ quiet))
       ∙ sym (computed_calls m (to_first_report setup) schedule)
 

@@ -3,6 +3,7 @@
 use Rattle.std.proofs.Common.{◌≡◌, inl, inr, ℕ, zero, suc, List, [], ◌∷◌, map, length, Option, Some, None, refl, sym, ap, ◌∙◌, subst, arith}
 use Rattle.ms_bits.specs.Completion.{Agrees}
 use Rattle.ms_ir.specs.declared.syntax.Module.{Module}
+use Rattle.ms_ir.specs.Instructions.{NoMarks}
 use Rattle.ms_runs.specs.declared.runs.End.{End}
 use Rattle.ms_runs.specs.declared.runs.End.TheVariants as «end»
 use Rattle.ms_runs.specs.declared.runs.Setup.{Setup}
@@ -13,12 +14,10 @@ use Rattle.ms_runs.specs.Plain.{Stepped, More, Stop, steps, and_then, setting_of
 use Rattle.ms_runs.specs.Poisoned.{Poisoned}
 use Rattle.ms_runs.specs.Masks.{by_formulas, by_completions}
 use Rattle.ms_check_valid.specs.Formed.{Formed}
-use Rattle.ms_check_valid.specs.Uninstrumented.{CanInstrument}
 use Rattle.ms_check_valid.specs.Valid.{Valid}
 use Rattle.ms_runs_good_laws.specs.Fills.{IsFill, refilled, to_first_report}
 use Rattle.ms_runs_good_laws.specs.GoodWorlds.{GivesBytes}
 use Rattle.ms_runs_good_laws.proofs.Sound.{shadow_sound}
-use Rattle.ms_runs_clean_laws.proofs.CleanRuns.{start_clean}
 use Rattle.ms_runs_laws.proofs.ExactRules.{formulas_exact}
 use Rattle.ms_runs_laws.proofs.PlainPart.{bare}
 use Rattle.ms_runs_laws.specs.Follows.{bare_frame}
@@ -142,7 +141,7 @@ pub record Filling : Type 0 where
   pub fill : List ℕ
   pub is : IsFill fill
 
-module _ (m : Module) (formed : Formed m) (valid : Valid m) (can : CanInstrument m) (setup : Setup) (bytes : GivesBytes setup) (schedule : List ℕ) where
+module _ (m : Module) (formed : Formed m) (valid : Valid m) (unmarked : NoMarks m) (setup : Setup) (bytes : GivesBytes setup) (schedule : List ℕ) where
   pub bytes_one : GivesBytes (to_first_report setup)
   bytes_one = record { input = bytes.input; fill = bytes.fill }
 
@@ -169,10 +168,10 @@ module _ (m : Module) (formed : Formed m) (valid : Valid m) (can : CanInstrument
   program k = plain_fiber (given k) m
 
   abbrev Lows : (k : Filling) → Relation (shadow_fiber by_formulas (setting_of m (to_first_report setup)) m) (shadow_fiber by_formulas (setting_of m (refilled (to_first_report setup) k.fill)) m)
-  Lows k = low.relation m formed valid can (to_first_report setup) refl bytes_one k.fill (bytes_too k)
+  Lows k = low.relation m formed valid unmarked (to_first_report setup) refl bytes_one k.fill (bytes_too k)
 
   abbrev Shows : (k : Filling) → Relation (shadow_fiber by_formulas (setting_of m (refilled setup k.fill)) m) (plain_fiber (setting_of m (refilled setup k.fill)) m)
-  Shows k = shown.relation by_formulas (given k) m can.plain.unmarked
+  Shows k = shown.relation by_formulas (given k) m unmarked
 
   abbrev pub LowAlike : Filling → Fibers (List (Frame Poisoned)) World → Fibers (List (Frame Poisoned)) World → Type 0
   LowAlike k c d = FibersAlike one (one_filled k) (Lows k) c d
@@ -182,8 +181,8 @@ module _ (m : Module) (formed : Formed m) (valid : Valid m) (can : CanInstrument
 
   -- ---- the same under another fill
 
-  stands_again : (k j : Filling) (f : List (Frame Poisoned)) → low.AllStand m formed valid can (to_first_report setup) refl bytes_one k.fill (bytes_too k) f
-      → low.AllStand m formed valid can (to_first_report setup) refl bytes_one j.fill (bytes_too j) f
+  stands_again : (k j : Filling) (f : List (Frame Poisoned)) → low.AllStand m formed valid unmarked (to_first_report setup) refl bytes_one k.fill (bytes_too k) f
+      → low.AllStand m formed valid unmarked (to_first_report setup) refl bytes_one j.fill (bytes_too j) f
   stands_again k j [] h = h
   stands_again k j (f ∷ fs) h = record { inst = h.inst; after = h.after; rest = h.rest; call = h.call; words = h.words }
 
@@ -294,12 +293,12 @@ module _ (m : Module) (formed : Formed m) (valid : Valid m) (can : CanInstrument
       let same : fibers_step one schedule c ≡ fibers_step whole schedule c = whole_first (setting_of m setup) m schedule c before.reports told in
       let told_one : UntoldFibers (fibers_step one schedule c) = subst UntoldFibers (sym same) told in
       let lows : LowSteps k (fibers_step one schedule c) (fibers_step (one_filled k) schedule d) =
-      fibers_alike one (one_filled k) (Lows k) (low.laws m formed valid can (to_first_report setup) refl bytes_one k.fill (bytes_too k)) (low.counts m formed valid can (to_first_report setup) refl bytes_one k.fill (bytes_too k))
-      (low.late m formed valid can (to_first_report setup) refl bytes_one k.fill (bytes_too k)) schedule c d a.lows (quiet_step c before.blind (fibers_step one schedule c) told_one) in
+      fibers_alike one (one_filled k) (Lows k) (low.laws m formed valid unmarked (to_first_report setup) refl bytes_one k.fill (bytes_too k)) (low.counts m formed valid unmarked (to_first_report setup) refl bytes_one k.fill (bytes_too k))
+      (low.late m formed valid unmarked (to_first_report setup) refl bytes_one k.fill (bytes_too k)) schedule c d a.lows (quiet_step c before.blind (fibers_step one schedule c) told_one) in
       let told_too : UntoldFibers (fibers_step (one_filled k) schedule d) = steps_untold k (fibers_step one schedule c) (fibers_step (one_filled k) schedule d) lows told_one in
       let same_too : fibers_step (one_filled k) schedule d ≡ fibers_step (filled k) schedule d = first_whole (given k) m schedule d before_too.reports told_too in
       let shows : ShownSteps k (fibers_step (filled k) schedule d) (fibers_step (program k) schedule p) =
-      fibers_alike (filled k) (program k) (Shows k) (shown.laws by_formulas (given k) m can.plain.unmarked) (shown.counts by_formulas (given k) m can.plain.unmarked) (shown.late by_formulas (given k) m can.plain.unmarked) schedule d p a.shows
+      fibers_alike (filled k) (program k) (Shows k) (shown.laws by_formulas (given k) m unmarked) (shown.counts by_formulas (given k) m unmarked) (shown.late by_formulas (given k) m unmarked) schedule d p a.shows
       (none_counted (left_world (filled k) (program k) (Shows k)) (fibers_step (filled k) schedule d)) in
       combine k (fibers_step whole schedule c) (fibers_step (filled k) schedule d) (fibers_step (program k) schedule p)
       (subst (λ y. LowSteps k (fibers_step whole schedule c) y) same_too (subst (λ x. LowSteps k x (fibers_step (one_filled k) schedule d)) same lows)) shows
@@ -316,8 +315,8 @@ module _ (m : Module) (formed : Formed m) (valid : Valid m) (can : CanInstrument
   start_low k =
       let alike = start_alike m (to_first_report setup) k.fill in
       let sound = shadow_sound m formed valid (to_first_report setup) bytes_one in
-      let shared = low.start_shared m formed valid can (to_first_report setup) refl bytes_one k.fill (bytes_too k) in
-      ((alike.frames, alike.world, (sound.frames, start_clean m (to_first_report setup)), (sound.frames, start_clean m (to_first_report setup)), shared, shared), record { stands = λ n. tt; picks = refl })
+      let shared = low.start_shared m formed valid unmarked (to_first_report setup) refl bytes_one k.fill (bytes_too k) in
+      ((alike.frames, alike.world, sound.frames, sound.frames, shared, shared), record { stands = λ n. tt; picks = refl })
 
   pub start_aligned : (k : Filling) → Aligned k (shadow_threads_start m setup) (plain_threads_start m setup)
   start_aligned k = record { between = shadow_threads_start m setup; lows = start_low k; shows = ((refl, refl), record { stands = λ n. tt; picks = refl }) }

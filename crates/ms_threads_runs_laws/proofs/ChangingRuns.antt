@@ -1,6 +1,7 @@
 -- What a shadow run of fibers says of the program holds too where uninitialised memory changes before each step; and clean verdicts.
 use Rattle.std.proofs.Common.{◌≡◌, ◌<◌, ◌^◌, ℕ, zero, suc, length, get_or, List, [], ◌∷◌, refl, sym, ap, ◌∙◌, subst, arith}
 use Rattle.ms_ir.specs.declared.syntax.Module.{Module}
+use Rattle.ms_ir.specs.Instructions.{NoMarks}
 use Rattle.ms_runs.specs.declared.runs.End.TheVariants as «end»
 use Rattle.ms_runs.specs.declared.runs.RunResult.{RunResult}
 use Rattle.ms_runs.specs.declared.runs.Setup.{Setup}
@@ -12,7 +13,6 @@ use Rattle.ms_runs.specs.Poisoned.{Poisoned}
 use Rattle.ms_runs.specs.Masks.{by_formulas, by_completions}
 use Rattle.ms_runs.specs.Verdict.{Clean, verdict_of}
 use Rattle.ms_check_valid.specs.Formed.{Formed}
-use Rattle.ms_check_valid.specs.Uninstrumented.{CanInstrument}
 use Rattle.ms_check_valid.specs.Valid.{Valid}
 use Rattle.ms_runs_good_laws.specs.Fills.{IsFill, refilled, SameShown}
 use Rattle.ms_runs_good_laws.specs.GoodWorlds.{GoodWorld, GivesBytes, AnyOrigin}
@@ -60,7 +60,7 @@ same_shown (Stop e w) (Stop x v) h = record { output = sym h.1.world.output; end
 same_shown (More c) (Stop x v) h = absurd h
 same_shown (Stop e w) (More p) h = absurd h
 
-module _ (m : Module) (formed : Formed m) (valid : Valid m) (can : CanInstrument m) (setup : Setup) (bytes : GivesBytes setup) (schedule : List ℕ) where
+module _ (m : Module) (formed : Formed m) (valid : Valid m) (unmarked : NoMarks m) (setup : Setup) (bytes : GivesBytes setup) (schedule : List ℕ) where
   abbrev step : Fibers (List (Frame Poisoned)) World → Stepped (Fibers (List (Frame Poisoned)) World)
   step = fibers_step (shadow_fiber by_formulas (setting_of m setup) m) schedule
 
@@ -85,7 +85,7 @@ module _ (m : Module) (formed : Formed m) (valid : Valid m) (can : CanInstrument
   pub clean_chosen : verdict_of (shadow_threads m setup schedule) ≡ Clean → (fills : ℕ → List ℕ) → ((k : ℕ) → IsFill (fills k)) → SameShown (plain_threads_chosen m setup fills schedule) (shadow_threads m setup schedule)
   clean_chosen is fills are =
       subst (SameShown (plain_threads_chosen m setup fills schedule)) (sym answers)
-      (same_shown _ _ (certain_threads m formed valid can setup bytes schedule fills are setup.steps (clean_untold is)))
+      (same_shown _ _ (certain_threads m formed valid unmarked setup bytes schedule fills are setup.steps (clean_untold is)))
 
   -- ---- memory that changes
 
@@ -112,11 +112,11 @@ module _ (m : Module) (formed : Formed m) (valid : Valid m) (can : CanInstrument
   good_holding v others small g = with_bytes AnyOrigin v g others small
 
   changed : (k : Filling) (c : Fibers (List (Frame Poisoned)) World) (p : Fibers (List (Frame ℕ)) Shared) (others : ℕ → ℕ) → MayHold (shadow_world c) others
-      → Aligned m formed valid can setup bytes schedule k c p → Aligned m formed valid can setup bytes schedule k c (holding_fibers others p)
+      → Aligned m formed valid unmarked setup bytes schedule k c p → Aligned m formed valid unmarked setup bytes schedule k c (holding_fibers others p)
   changed k c p others may a = by_states c a.between p may a.lows a.shows
     where
-      by_states : (c d : Fibers (List (Frame Poisoned)) World) (p : Fibers (List (Frame ℕ)) Shared) → MayHold (shadow_world c) others → LowAlike m formed valid can setup bytes schedule k c d → ShownAlike m formed valid can setup bytes schedule k d p
-          → Aligned m formed valid can setup bytes schedule k c (holding_fibers others p)
+      by_states : (c d : Fibers (List (Frame Poisoned)) World) (p : Fibers (List (Frame ℕ)) Shared) → MayHold (shadow_world c) others → LowAlike m formed valid unmarked setup bytes schedule k c d → ShownAlike m formed valid unmarked setup bytes schedule k d p
+          → Aligned m formed valid unmarked setup bytes schedule k c (holding_fibers others p)
       by_states (Goes f w a) (Goes g v b) (Goes r t o) may h s = record {
         between = Goes g (record v { bytes = others }) b;
         lows = (
@@ -138,21 +138,21 @@ module _ (m : Module) (formed : Formed m) (valid : Valid m) (can : CanInstrument
       by_states (Goes f w a) (Goes g v b) (Waits t o) may h s = absurd s
       by_states (Waits w a) (Waits v b) (Goes r t o) may h s = absurd s
 
-  walk : (n : ℕ) (k : Filling) (c : Fibers (List (Frame Poisoned)) World) (p : Fibers (List (Frame ℕ)) Shared) (z : Stepped (Fibers (List (Frame ℕ)) Shared)) → Aligned m formed valid can setup bytes schedule k c p
-      → UntoldFibers (steps step n c) → FibersComeTo step m setup schedule n c p z → (j : Filling) × AlignedSteps m formed valid can setup bytes schedule j (steps step n c) z
-  walk zero k c p z a told h = subst (λ x. (j : Filling) × AlignedSteps m formed valid can setup bytes schedule j (More c) x) (sym h) (k, a)
+  walk : (n : ℕ) (k : Filling) (c : Fibers (List (Frame Poisoned)) World) (p : Fibers (List (Frame ℕ)) Shared) (z : Stepped (Fibers (List (Frame ℕ)) Shared)) → Aligned m formed valid unmarked setup bytes schedule k c p
+      → UntoldFibers (steps step n c) → FibersComeTo step m setup schedule n c p z → (j : Filling) × AlignedSteps m formed valid unmarked setup bytes schedule j (steps step n c) z
+  walk zero k c p z a told h = subst (λ x. (j : Filling) × AlignedSteps m formed valid unmarked setup bytes schedule j (More c) x) (sym h) (k, a)
   walk (suc n) k c p z a told (others, may, fill, is, goes) =
       let j : Filling = record { fill = fill; is = is } in
       after (λ i c' p' b t h. walk n i c' p' z b t h) j (step c) (fibers_step (plain_fiber (setting_of m (refilled setup fill)) m) schedule (holding_fibers others p))
-      (λ t. one_step m formed valid can setup bytes schedule j c (holding_fibers others p)
-      (again m formed valid can setup bytes schedule k j c (holding_fibers others p) (changed k c p others may a)) t) told goes
+      (λ t. one_step m formed valid unmarked setup bytes schedule j c (holding_fibers others p)
+      (again m formed valid unmarked setup bytes schedule k j c (holding_fibers others p) (changed k c p others may a)) t) told goes
     where
-      after : ((i : Filling) (c' : Fibers (List (Frame Poisoned)) World) (p' : Fibers (List (Frame ℕ)) Shared) → Aligned m formed valid can setup bytes schedule i c' p' → UntoldFibers (steps step n c')
-          → FibersComeTo step m setup schedule n c' p' z → (l : Filling) × AlignedSteps m formed valid can setup bytes schedule l (steps step n c') z) → (j : Filling) (x : Stepped (Fibers (List (Frame Poisoned)) World)) (y : Stepped (Fibers (List (Frame ℕ)) Shared)) → (UntoldFibers x → AlignedSteps m formed valid can setup bytes schedule j x y)
+      after : ((i : Filling) (c' : Fibers (List (Frame Poisoned)) World) (p' : Fibers (List (Frame ℕ)) Shared) → Aligned m formed valid unmarked setup bytes schedule i c' p' → UntoldFibers (steps step n c')
+          → FibersComeTo step m setup schedule n c' p' z → (l : Filling) × AlignedSteps m formed valid unmarked setup bytes schedule l (steps step n c') z) → (j : Filling) (x : Stepped (Fibers (List (Frame Poisoned)) World)) (y : Stepped (Fibers (List (Frame ℕ)) Shared)) → (UntoldFibers x → AlignedSteps m formed valid unmarked setup bytes schedule j x y)
           → UntoldFibers (and_then x (steps step n)) → after_both_fibers (FibersComeTo step m setup schedule n) x y z
-          → (i : Filling) × AlignedSteps m formed valid can setup bytes schedule i (and_then x (steps step n)) z
+          → (i : Filling) × AlignedSteps m formed valid unmarked setup bytes schedule i (and_then x (steps step n)) z
       after later j (More c') (More p') now t h = later j c' p' (now (before_steps (setting_of m setup) m schedule n c' t)) t h
-      after later j (Stop e w) (Stop x v) now t h = (j, subst (AlignedSteps m formed valid can setup bytes schedule j (Stop e w)) (sym h) (now t))
+      after later j (Stop e w) (Stop x v) now t h = (j, subst (AlignedSteps m formed valid unmarked setup bytes schedule j (Stop e w)) (sym h) (now t))
       after later j (More c') (Stop x v) now t h = absurd (now (before_steps (setting_of m setup) m schedule n c' t))
       after later j (Stop e w) (More p') now t h = absurd (now t)
 
@@ -165,10 +165,10 @@ module _ (m : Module) (formed : Formed m) (valid : Valid m) (can : CanInstrument
       → CertainFiberSteps (steps (fibers_step (shadow_fiber by_completions (setting_of m setup) m) schedule) n (shadow_threads_start m setup)) z
   certain_changing n z told comes =
       let k : Filling = record { fill = one_zero; is = zeros } in
-      let a = walk n k (shadow_threads_start m setup) (plain_threads_start m setup) z (start_aligned m formed valid can setup bytes schedule k)
-      (subst UntoldFibers (computed m formed valid can setup bytes schedule n) told)
+      let a = walk n k (shadow_threads_start m setup) (plain_threads_start m setup) z (start_aligned m formed valid unmarked setup bytes schedule k)
+      (subst UntoldFibers (computed m formed valid unmarked setup bytes schedule n) told)
       (subst (λ f. FibersComeTo f m setup schedule n (shadow_threads_start m setup) (plain_threads_start m setup) z) same_step comes) in
-      subst (λ x. CertainFiberSteps x z) (sym (computed m formed valid can setup bytes schedule n)) (certain_steps m formed valid can setup bytes schedule a.0 _ _ a.1)
+      subst (λ x. CertainFiberSteps x z) (sym (computed m formed valid unmarked setup bytes schedule n)) (certain_steps m formed valid unmarked setup bytes schedule a.0 _ _ a.1)
 
   -- and a clean verdict holds
   pub clean_changing : verdict_of (shadow_threads m setup schedule) ≡ Clean → (z : Stepped (Fibers (List (Frame ℕ)) Shared))

@@ -1,6 +1,7 @@
 -- A shadow run of fibers up to its first report without a blind use is the same, whatever fill each step has.
 use Rattle.std.proofs.Common.{◌≡◌, ◌≤◌, ℕ, zero, suc, List, refl, sym, ap, ◌∙◌, arith}
 use Rattle.ms_ir.specs.declared.syntax.Module.{Module}
+use Rattle.ms_ir.specs.Instructions.{NoMarks}
 use Rattle.ms_runs.specs.declared.runs.End.TheVariants as «end»
 use Rattle.ms_runs.specs.declared.runs.RunResult.{RunResult}
 use Rattle.ms_runs.specs.declared.runs.Setup.{Setup}
@@ -12,7 +13,6 @@ use Rattle.ms_runs.specs.Masks.{by_formulas, by_completions}
 use Rattle.ms_runs.specs.Globals.{address_of}
 use Rattle.ms_runs_laws.proofs.ExactRules.{formulas_exact}
 use Rattle.ms_check_valid.specs.Formed.{Formed}
-use Rattle.ms_check_valid.specs.Uninstrumented.{CanInstrument}
 use Rattle.ms_check_valid.specs.Valid.{Valid}
 use Rattle.ms_runs_good_laws.specs.Fills.{IsFill, refilled, to_first_report}
 use Rattle.ms_runs_good_laws.specs.GoodWorlds.{GivesBytes}
@@ -28,7 +28,7 @@ use Rattle.ms_threads_laws.proofs.LowFibers as low
 use Rattle.ms_threads_runs_laws.specs.ChangingThreads.{shadow_world, shadow_threads_chosen}
 use Rattle.ms_threads_runs_laws.proofs.CertainRuns.{Filling, LowAlike, LowSteps, bytes_one, bytes_too, low_worlds, low_again, start_low}
 
-module _ (m : Module) (formed : Formed m) (valid : Valid m) (can : CanInstrument m) (setup : Setup) (bytes : GivesBytes setup) (schedule : List ℕ) (fills : ℕ → List ℕ) (are : (k : ℕ) → IsFill (fills k)) where
+module _ (m : Module) (formed : Formed m) (valid : Valid m) (unmarked : NoMarks m) (setup : Setup) (bytes : GivesBytes setup) (schedule : List ℕ) (fills : ℕ → List ℕ) (are : (k : ℕ) → IsFill (fills k)) where
   abbrev at : ℕ → Filling
   at k = record { fill = fills k; is = are k }
 
@@ -43,19 +43,19 @@ module _ (m : Module) (formed : Formed m) (valid : Valid m) (can : CanInstrument
   filled_step k = fibers_step (filled k) schedule
 
   abbrev Lows : (k : ℕ) → Relation (shadow_fiber by_formulas (setting_of m (to_first_report setup)) m) (shadow_fiber by_formulas (setting_of m (refilled (to_first_report setup) (fills k))) m)
-  Lows k = low.relation m formed valid can (to_first_report setup) refl (bytes_one m formed valid can setup bytes schedule) (fills k) (bytes_too m formed valid can setup bytes schedule (at k))
+  Lows k = low.relation m formed valid unmarked (to_first_report setup) refl (bytes_one m formed valid unmarked setup bytes schedule) (fills k) (bytes_too m formed valid unmarked setup bytes schedule (at k))
 
   laws : (k : ℕ) → Laws one (filled k) (Lows k)
-  laws k = low.laws m formed valid can (to_first_report setup) refl (bytes_one m formed valid can setup bytes schedule) (fills k) (bytes_too m formed valid can setup bytes schedule (at k))
+  laws k = low.laws m formed valid unmarked (to_first_report setup) refl (bytes_one m formed valid unmarked setup bytes schedule) (fills k) (bytes_too m formed valid unmarked setup bytes schedule (at k))
 
   counts : (k : ℕ) → Counts one (filled k) (Lows k)
-  counts k = low.counts m formed valid can (to_first_report setup) refl (bytes_one m formed valid can setup bytes schedule) (fills k) (bytes_too m formed valid can setup bytes schedule (at k))
+  counts k = low.counts m formed valid unmarked (to_first_report setup) refl (bytes_one m formed valid unmarked setup bytes schedule) (fills k) (bytes_too m formed valid unmarked setup bytes schedule (at k))
 
   late : (k : ℕ) → LateLaws one (filled k) (Lows k)
-  late k = low.late m formed valid can (to_first_report setup) refl (bytes_one m formed valid can setup bytes schedule) (fills k) (bytes_too m formed valid can setup bytes schedule (at k))
+  late k = low.late m formed valid unmarked (to_first_report setup) refl (bytes_one m formed valid unmarked setup bytes schedule) (fills k) (bytes_too m formed valid unmarked setup bytes schedule (at k))
 
   abbrev Low : ℕ → Fibers (List (Frame Poisoned)) World → Fibers (List (Frame Poisoned)) World → Type 0
-  Low k c d = LowAlike m formed valid can setup bytes schedule (at k) c d
+  Low k c d = LowAlike m formed valid unmarked setup bytes schedule (at k) c d
 
   abbrev answer : Stepped (Fibers (List (Frame Poisoned)) World) → RunResult
   answer x = go_on (λ c. result «end».Spent (shadow_world c)) x
@@ -65,7 +65,7 @@ module _ (m : Module) (formed : Formed m) (valid : Valid m) (can : CanInstrument
   world_is (Waits w rest) = refl
 
   spent_same : (k : ℕ) (c d : Fibers (List (Frame Poisoned)) World) → Low k c d → result «end».Spent (world_of one c) ≡ result «end».Spent (shadow_world d)
-  spent_same k c d h = ap (result «end».Spent) (world_is c) ∙ result_same «end».Spent (shadow_world c) (shadow_world d) (low_worlds m formed valid can setup bytes schedule (at k) c d h)
+  spent_same k c d h = ap (result «end».Spent) (world_is c) ∙ result_same «end».Spent (shadow_world c) (shadow_world d) (low_worlds m formed valid unmarked setup bytes schedule (at k) c d h)
 
   -- the blind uses of what a step comes to
   abbrev blinds : Stepped (Fibers (List (Frame Poisoned)) World) → ℕ
@@ -75,13 +75,13 @@ module _ (m : Module) (formed : Formed m) (valid : Valid m) (can : CanInstrument
       → result (ends_in one schedule n c).0 (ends_in one schedule n c).1 ≡ answer (steps_by filled_step n k d)
   chosen_alike zero k c d h quiet = spent_same k c d h
   chosen_alike (suc n) k c d h quiet =
-      by_step (λ c' d' g q. chosen_alike n (suc k) c' d' (low_again m formed valid can setup bytes schedule (at k) (at (suc k)) c' d' g) q) (fibers_step one schedule c) (filled_step k d)
+      by_step (λ c' d' g q. chosen_alike n (suc k) c' d' (low_again m formed valid unmarked setup bytes schedule (at k) (at (suc k)) c' d' g) q) (fibers_step one schedule c) (filled_step k d)
       (step_counted one (filled k) (Lows k) (laws k) (counts k) (late k) schedule c)
       (λ q. fibers_alike one (filled k) (Lows k) (laws k) (counts k) (late k) schedule c d h q) quiet
     where
       by_step : ((c' d' : Fibers (List (Frame Poisoned)) World) → Low k c' d' → (ends_in one schedule n c').1.blind ≡ (world_of one c').blind
           → result (ends_in one schedule n c').0 (ends_in one schedule n c').1 ≡ answer (steps_by filled_step n (suc k) d'))
-          → (x y : Stepped (Fibers (List (Frame Poisoned)) World)) → (world_of one c).blind ≤ blinds x → (blinds x ≡ (world_of one c).blind → LowSteps m formed valid can setup bytes schedule (at k) x y)
+          → (x y : Stepped (Fibers (List (Frame Poisoned)) World)) → (world_of one c).blind ≤ blinds x → (blinds x ≡ (world_of one c).blind → LowSteps m formed valid unmarked setup bytes schedule (at k) x y)
           → (finish one (ends_in one schedule n) x).1.blind ≡ (world_of one c).blind
           → result (finish one (ends_in one schedule n) x).0 (finish one (ends_in one schedule n) x).1 ≡ answer (and_then y (steps_by filled_step n (suc k)))
       by_step rest (More c') (More d') le g q =
@@ -103,6 +103,6 @@ module _ (m : Module) (formed : Formed m) (valid : Valid m) (can : CanInstrument
   chosen_same quiet =
       let c = shadow_threads_start m setup in
       let none : (start_world m setup).blind ≡ 0 = (globals_kept m.types (address_of m) m.globals _).blind in
-      let alike = chosen_alike setup.steps 0 c c (start_low m formed valid can setup bytes schedule (at 0)) (ap (λ (r : RunResult). r.blind) (sym (computed_threads m (to_first_report setup) schedule)) ∙ quiet ∙ sym none) in
+      let alike = chosen_alike setup.steps 0 c c (start_low m formed valid unmarked setup bytes schedule (at 0)) (ap (λ (r : RunResult). r.blind) (sym (computed_threads m (to_first_report setup) schedule)) ∙ quiet ∙ sym none) in
       ap (λ (step : ℕ → Fibers (List (Frame Poisoned)) World → Stepped (Fibers (List (Frame Poisoned)) World)). answer (steps_by step setup.steps 0 (shadow_threads_start m setup))) (λ i k. step_same k i)
       ∙ sym alike ∙ sym (computed_threads m (to_first_report setup) schedule)

@@ -1,9 +1,8 @@
 pub mod Halves
 pub mod Walked
-pub mod ThreadActs
+pub mod MadeFibers
 pub mod PlainStates
 pub mod PlainThreads
-pub mod ShadowCalls
 pub mod ShadowThreads
 pub mod ThreadOrigins
 pub mod ThreadTrails

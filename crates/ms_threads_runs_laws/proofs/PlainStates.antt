@@ -40,7 +40,7 @@ use Rattle.ms_threads_laws.proofs.OwnSteps.{back_keeps}
 use Rattle.ms_threads_laws.proofs.DueSame.{due_head}
 use Rattle.ms_runs_threads.specs.Fibers.{Due, Own, Asks, Returns}
 use Rattle.ms_runs_threads.specs.PlainFibers.{due_inst, due_of, due_at, frames_due, through_marked}
-use Rattle.ms_threads_runs_laws.proofs.ThreadActs.{Beside, beside_kept, act_beside, marked_beside, plain_creates}
+use Rattle.ms_threads_laws.proofs.ThreadActs.{Beside, beside_kept, act_beside, marked_beside, plain_creates}
 
 -- ---- which effects return
 

@@ -34,11 +34,12 @@ use Rattle.ms_runs_good_laws.proofs.Starts.{start_is_main}
 use Rattle.ms_runs_good_laws.proofs.WorldChanges.{range_keeps, given_back_good}
 use Rattle.ms_threads_laws.proofs.StartedFibers.{AllStart, answered_start, start_types, unary_good}
 use Rattle.ms_threads_laws.proofs.OwnSteps.{back_keeps}
-use Rattle.ms_threads_laws.proofs.KeptRuns.{globals_fibers}
+use Rattle.ms_threads_laws.proofs.KeptRuns.{globals_fibers, start_begun}
 use Rattle.ms_runs_threads.specs.Fibers.{Due, Own, Asks, Returns, Going, Meaning, Fibers, Goes, Waits, turned, ended, fibers_step, world_of, ends_in, finish}
 use Rattle.ms_runs_threads.specs.PlainFibers.{Shared, due_inst, frames_due, frames_site, frames_left, state_of, going_of, plain_going, through_marked, plain_reach, plain_answer, plain_fiber, plain_threads, plain_threads_start}
 use Rattle.ms_threads_runs_laws.specs.ThreadStates.{SoundFiber, StandsSound, SoundShared, SoundPlainFibers}
-use Rattle.ms_threads_runs_laws.proofs.ThreadActs.{Beside, start_all, each_starts}
+use Rattle.ms_threads_laws.proofs.ThreadActs.{Beside}
+use Rattle.ms_threads_runs_laws.proofs.MadeFibers.{start_all, each_starts}
 use Rattle.ms_threads_runs_laws.proofs.PlainStates.{DueIn, Well, Before, returns_alone_at, through_well, reach_well}
 use Rattle.ms_threads_runs_laws.proofs.Walked.{Predicates, Leading, GoesOn, StandsOn, Keeps, Holds, Stepping, run_keeps}
 
@@ -81,7 +82,7 @@ pub start_beside : (m : Module) (setup : Setup) → Beside m 0 (start_world m se
 start_beside m setup =
     let same = globals_fibers m.types (address_of m) m.globals (first_world setup.input) in record {
       turn = ap (λ (k : Beings). k.turn) same;
-      threads = subst (AllStart m) (sym (ap (λ (k : Beings). k.threads) same)) tt;
+      threads = start_begun m setup;
     }
 
 -- ---- plain runs

@@ -10,7 +10,7 @@ use Rattle.ms_ir.specs.Instructions.{NoMarks, HeadUnmarked, operands, func_index
 use Rattle.ms_runs.specs.declared.runs.End.TheVariants as «end»
 use Rattle.ms_runs.specs.declared.runs.Setup.{Setup}
 use Rattle.ms_runs.specs.World.{World, Thread, Effect, Gives, Does, Goes as Jumps, Enters, Leaves, Ends}
-use Rattle.ms_runs.specs.Threads.{Fibers as Beings, thread_at, with_answer}
+use Rattle.ms_runs.specs.Threads.{thread_at}
 use Rattle.ms_runs.specs.Control.{Frame, Outcome, On, Over, here, rest_of, read_all, entered}
 use Rattle.ms_runs.specs.Plain.{Stepped, More, Stop, steps, setting_of, start_world, start_frame}
 use Rattle.ms_runs.specs.Poisoned.{Poisoned}
@@ -29,49 +29,27 @@ use Rattle.ms_runs_good_laws.proofs.Bottoms.{StateBottom, shadow_bottom}
 use Rattle.ms_runs_good_laws.proofs.Readings.{shadow_unset}
 use Rattle.ms_runs_good_laws.proofs.Sound.{shadow_sound, shadow_keeps}
 use Rattle.ms_runs_good_laws.proofs.Starts.{start_is_main}
-use Rattle.ms_runs_good_laws.proofs.WorldChanges.{with_reports, given_back_good}
+use Rattle.ms_runs_good_laws.proofs.WorldChanges.{with_reports}
 use Rattle.ms_runs_clean_laws.specs.KeepClean.{KeepClean}
 use Rattle.ms_runs_clean_laws.specs.CleanStates.{HasCleanValues, AllCleanValues, ReadsClean}
 use Rattle.ms_runs_clean_laws.proofs.CleanRuns.{start_clean}
 use Rattle.ms_runs_clean_laws.proofs.CleanSteps.{each_clean, steps_clean}
 use Rattle.ms_threads_laws.specs.Due.{argument_word}
 use Rattle.ms_threads_laws.proofs.DueSame.{due_head}
-use Rattle.ms_threads_laws.proofs.OwnSteps.{Passes, uses_pass, own_keeps, back_keeps}
+use Rattle.ms_threads_laws.proofs.OwnSteps.{Passes, uses_pass, own_keeps}
 use Rattle.ms_threads_laws.proofs.SameShown.{threads_undisturbed}
-use Rattle.ms_threads_laws.proofs.StartedFibers.{AllStart, answered_start, start_types, unary_good, first_clean_values}
+use Rattle.ms_threads_laws.proofs.StartedFibers.{AllStart, start_types, unary_good, first_clean_values}
 use Rattle.ms_threads_laws.proofs.ThreadCalls.{ThreadCall, asks_call}
 use Rattle.ms_runs_threads.specs.Fibers.{Own, Asks, Returns, Going, Meaning, Fibers, Goes, Waits, turned, ended, fibers_step}
-use Rattle.ms_runs_threads.specs.PlainFibers.{due_inst, due_at, frames_due, frames_left, plain_threads}
-use Rattle.ms_runs_threads.specs.ShadowFibers.{shadow_state, shadow_going, checked, reach_first, shadow_reach, perform_first, shadow_perform, shadow_answer, shadow_fiber, shadow_threads_by, shadow_threads_start}
+use Rattle.ms_runs_threads.specs.PlainFibers.{due_inst, due_at, frames_due, plain_threads}
+use Rattle.ms_runs_threads.specs.ShadowFibers.{shadow_state, shadow_going, checked, reach_first, shadow_reach, perform_first, shadow_perform, shadow_fiber, shadow_threads_by, shadow_threads_start}
 use Rattle.ms_threads_runs_laws.specs.ThreadStates.{SoundFiber, StandsSound, SoundWorld, SoundShadowFibers, HasFiber, CleanFibers}
 use Rattle.ms_threads_runs_laws.proofs.PlainThreads.{returns_outside, start_beside, plain_sited}
-use Rattle.ms_threads_runs_laws.proofs.ShadowCalls.{Performed, performed}
-use Rattle.ms_threads_runs_laws.proofs.ThreadActs.{Beside, beside_kept, start_all, each_starts}
+use Rattle.ms_threads_laws.proofs.ShadowKept.{ended_kept, turned_kept}
+use Rattle.ms_threads_laws.proofs.ShadowCalls.{Performed, performed}
+use Rattle.ms_threads_laws.proofs.ThreadActs.{Beside, beside_kept}
+use Rattle.ms_threads_runs_laws.proofs.MadeFibers.{start_all, each_starts}
 use Rattle.ms_threads_runs_laws.proofs.Walked.{Predicates, Leading, GoesOn, StandsOn, Keeps, Holds, Stepping, run_keeps}
-
-turned_good : (k : ℕ) (w : World) → GoodWorld AnyOrigin w → GoodWorld AnyOrigin (turned k w)
-turned_good k w g = record {
-  bytes = g.bytes;
-  shadow = g.shadow;
-  origins = g.origins;
-  pairs = g.pairs;
-  input = g.input;
-  output = g.output;
-  sizes = g.sizes;
-  answers = λ n. tt;
-}
-
-answered_good : (p : Poisoned) (w : World) → GoodWorld AnyOrigin w → GoodWorld AnyOrigin (with_answer p w)
-answered_good p w g = record {
-  bytes = g.bytes;
-  shadow = g.shadow;
-  origins = g.origins;
-  pairs = g.pairs;
-  input = g.input;
-  output = g.output;
-  sizes = g.sizes;
-  answers = λ n. tt;
-}
 
 -- clean operands are read without a poisoned bit where values are clean
 pub reads_clean : (m : Module) (state : ShadowState) → AllCleanValues m state → ReadsClean m state
@@ -170,27 +148,15 @@ module _ (d : Rules) (keep : KeepWidths d) (m : Module) (formed : Formed m) (val
 
   -- ---- a return of a fiber's first function
 
-  left_good : (fs : List (Frame Poisoned)) (w : World) → GoodWorld AnyOrigin w → GoodWorld AnyOrigin (frames_left fs w)
-  left_good [] w g = g
-  left_good (f ∷ below) w g = given_back_good AnyOrigin f w g
-
-  left_begun : (fs : List (Frame Poisoned)) (w : World) → AllStart m w.threads → AllStart m (frames_left fs w).threads
-  left_begun [] w h = h
-  left_begun (f ∷ below) w h = subst (AllStart m) (sym (ap (λ (k : Beings). k.threads) (back_keeps f w))) h
-
-  ended_kept : (fs : List (Frame Poisoned)) (w : World) → GoodWorld AnyOrigin w → AllStart m w.threads → SoundWorld m (ended means fs w)
-  ended_kept fs w g h =
-      let p = shadow_answer (setting_of m setup) m fs w in record {
-        world = answered_good p (frames_left fs w) (left_good fs w g);
-        threads = each_starts m (ended means fs w).threads (answered_start m p (frames_left fs w) (left_begun fs w h));
-      }
+  ended_sound : (fs : List (Frame Poisoned)) (w : World) → GoodWorld AnyOrigin w → AllStart m w.threads → SoundWorld m (ended means fs w)
+  ended_sound fs w g h = let k = ended_kept m setup fs w (g, h) in record { world = k.0; threads = each_starts m (ended means fs w).threads k.1 }
 
   returns_kept : (fs : List (Frame Poisoned)) (w : World) → shadow_kept.Fiber w.turn fs → SoundWorld m w → frames_due (setting_of m setup) m fs ≡ Returns
       → (w.turn ≡ 0 → ⊥) × Leading means shadow_kept (λ g. SoundWorld m (ended means g.fiber g.shared)) (shadow_going (shadow_reach (setting_of m setup) m fs w))
   returns_kept [] w fiber shared due = absurd fiber.0.frames
   returns_kept (f ∷ below) w fiber shared due = (
     returns_outside (setting_of m setup) m refl w.turn (f ∷ below) fiber.0.began due,
-    reach_leads (λ g. SoundWorld m (ended means g.fiber g.shared)) f below w shared fiber.0.frames (λ z g h. ended_kept (f ∷ below) z g h.threads),
+    reach_leads (λ g. SoundWorld m (ended means g.fiber g.shared)) f below w shared fiber.0.frames (λ z g h. ended_sound (f ∷ below) z g h.threads),
   )
 
   -- ---- a thread call
@@ -247,7 +213,7 @@ module _ (d : Rules) (keep : KeepWidths d) (m : Module) (formed : Formed m) (val
     returns = returns_kept;
     perform = perform_kept;
     begun = begun_kept;
-    turned = λ w k shared. (record { world = turned_good k w shared.world; threads = shared.threads }, refl, refl);
+    turned = λ w k shared. (record { world = (turned_kept m k w (shared.world, start_all m w.threads shared.threads)).0; threads = shared.threads }, refl, refl);
     deadlock = λ f w stands shared. shared.world;
   }
 

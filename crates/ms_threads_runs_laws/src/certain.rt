@@ -1,9 +1,9 @@
 //! Bits outside masks are certain, in every fiber.
 ghost use Rattle.std.specs.Prelude.{◌≡◌, ℕ, List};
-ghost use Rattle.ms_ir.specs.declared.syntax.Module.{Module};
+ghost use Rattle.ms_ir.specs.{declared.syntax.Module.{Module}, Instructions.{NoMarks}};
 ghost use Rattle.ms_runs.specs.{declared.runs.Setup.{Setup}, Masks.{by_completions}, Plain.{Stepped, setting_of, steps}};
 ghost use Rattle.ms_runs.specs.{Control.{Frame}, Verdict.{Clean, verdict_of}};
-ghost use Rattle.ms_check_valid.specs.{Formed.{Formed}, Uninstrumented.{CanInstrument}, Valid.{Valid}};
+ghost use Rattle.ms_check_valid.specs.{Formed.{Formed}, Valid.{Valid}};
 ghost use Rattle.ms_runs_good_laws.specs.{Fills.{IsFill, to_first_report, SameShown}, GoodWorlds.{GivesBytes}};
 ghost use Rattle.ms_runs_fills_laws.specs.Chosen.{steps_by};
 ghost use Rattle.ms_runs_threads.specs.Fibers.{Fibers, fibers_step};
@@ -17,7 +17,7 @@ ghost use Rattle.ms_threads_runs_laws.specs.ChangingThreads.{FibersComeTo, fiber
 /// fiber, whatever fill was chosen for each step, and its words, its bytes and what its fibers answered are those of the
 /// shadow run outside their masks; or both ended alike.
 pub fn threads_masks_are_certain()
-    ensures { (m : Module) → Formed m → Valid m → CanInstrument m → (setup : Setup) → GivesBytes setup → (schedule : List ℕ) (n : ℕ)
+    ensures { (m : Module) → Formed m → Valid m → NoMarks m → (setup : Setup) → GivesBytes setup → (schedule : List ℕ) (n : ℕ)
         → UntoldFibers (steps (fibers_step (shadow_fiber by_completions (setting_of m setup) m) schedule) n (shadow_threads_start m setup))
         → (fills : ℕ → List ℕ) → ((k : ℕ) → IsFill (fills k))
         → CertainFiberSteps (steps (fibers_step (shadow_fiber by_completions (setting_of m setup) m) schedule) n (shadow_threads_start m setup))
@@ -28,20 +28,20 @@ pub fn threads_masks_are_certain()
 /// schedule, also where each step has a fill of its own. Where no blind use was counted, the run up to the first report is
 /// the same whatever fill each step has.
 pub fn clean_threads_under_choices()
-    ensures clean { (m : Module) → Formed m → Valid m → CanInstrument m → (setup : Setup) → GivesBytes setup → (schedule : List ℕ) → verdict_of (shadow_threads m setup schedule) ≡ Clean
+    ensures clean { (m : Module) → Formed m → Valid m → NoMarks m → (setup : Setup) → GivesBytes setup → (schedule : List ℕ) → verdict_of (shadow_threads m setup schedule) ≡ Clean
         → (fills : ℕ → List ℕ) → ((k : ℕ) → IsFill (fills k)) → SameShown (plain_threads_chosen m setup fills schedule) (shadow_threads m setup schedule) }
-    ensures same { (m : Module) → Formed m → Valid m → CanInstrument m → (setup : Setup) → GivesBytes setup → (schedule : List ℕ) → (shadow_threads m (to_first_report setup) schedule).blind ≡ 0
+    ensures same { (m : Module) → Formed m → Valid m → NoMarks m → (setup : Setup) → GivesBytes setup → (schedule : List ℕ) → (shadow_threads m (to_first_report setup) schedule).blind ≡ 0
         → (fills : ℕ → List ℕ) → ((k : ℕ) → IsFill (fills k)) → shadow_threads_chosen m (to_first_report setup) fills schedule ≡ shadow_threads m (to_first_report setup) schedule }
 {}
 
 /// Both hold too where uninitialised memory changes: before each step memory may hold any bytes that are those of the shadow run
 /// outside its shadow, and each step has a fill of its own.
 pub fn thread_memory_may_change()
-    ensures certain { (m : Module) → Formed m → Valid m → CanInstrument m → (setup : Setup) → GivesBytes setup → (schedule : List ℕ) (n : ℕ) (z : Stepped (Fibers (List (Frame ℕ)) Shared))
+    ensures certain { (m : Module) → Formed m → Valid m → NoMarks m → (setup : Setup) → GivesBytes setup → (schedule : List ℕ) (n : ℕ) (z : Stepped (Fibers (List (Frame ℕ)) Shared))
         → UntoldFibers (steps (fibers_step (shadow_fiber by_completions (setting_of m setup) m) schedule) n (shadow_threads_start m setup))
         → FibersComeTo (fibers_step (shadow_fiber by_completions (setting_of m setup) m) schedule) m setup schedule n (shadow_threads_start m setup) (plain_threads_start m setup) z
         → CertainFiberSteps (steps (fibers_step (shadow_fiber by_completions (setting_of m setup) m) schedule) n (shadow_threads_start m setup)) z }
-    ensures clean { (m : Module) → Formed m → Valid m → CanInstrument m → (setup : Setup) → GivesBytes setup → (schedule : List ℕ) → verdict_of (shadow_threads m setup schedule) ≡ Clean
+    ensures clean { (m : Module) → Formed m → Valid m → NoMarks m → (setup : Setup) → GivesBytes setup → (schedule : List ℕ) → verdict_of (shadow_threads m setup schedule) ≡ Clean
         → (z : Stepped (Fibers (List (Frame ℕ)) Shared))
         → FibersComeTo (fibers_step (shadow_fiber by_completions (setting_of m setup) m) schedule) m setup schedule setup.steps (shadow_threads_start m setup) (plain_threads_start m setup) z
         → SameShown (fibers_shown_by z) (shadow_threads m setup schedule) }

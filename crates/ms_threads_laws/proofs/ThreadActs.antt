@@ -1,5 +1,5 @@
 -- What instructions leave of whose turn it is and of the fibers that were made: those begin with functions that may.
-use Rattle.std.proofs.Common.{◌≡◌, ◌<◌, ◌+◌, ◌%◌, ◌^◌, ℕ, suc, Bool, true, false, List, [], ◌∷◌, map, length, leb, eqb, slice_get, Option, Some, None, is_some, if◌then◌else◌, refl, sym, ap, ◌∙◌, subst}
+use Rattle.std.proofs.Common.{◌≡◌, ◌<◌, ◌+◌, ◌%◌, ◌^◌, ℕ, Bool, true, false, List, [], ◌∷◌, map, length, leb, eqb, slice_get, Option, Some, None, is_some, if◌then◌else◌, refl, sym, ap, ◌∙◌, subst}
 use Rattle.ms_bits.specs.declared.traps.Trap.TheVariants as trap
 use Rattle.ms_ir.specs.declared.syntax.Name.{Name}
 use Rattle.ms_ir.specs.declared.syntax.Ty.{Ty, Ptr}
@@ -33,20 +33,7 @@ use Rattle.ms_runs_good_laws.specs.GoodStates.{IsStart}
 use Rattle.ms_runs_good_laws.specs.GoodWorlds.{GoodAfter}
 use Rattle.ms_runs_good_laws.proofs.FibersKept.{Kept, external_keeps, marked_keeps}
 use Rattle.ms_runs_good_laws.proofs.Readings.{plain_read, shadow_read}
-use Rattle.ms_threads_laws.proofs.StartedFibers.{StartsWell, AllStart, one_more, thread_starts, joined_start, named_place, creates}
-use Rattle.ms_threads_runs_laws.specs.ThreadStates.{SoundThreads}
-
--- ---- lists of fibers
-
-all_start : (m : Module) (ts : List Thread) → ((k : ℕ) (t : Thread) → slice_get ts k ≡ Some t → IsStart m t.func × (t.argument < 2 ^ 64)) → AllStart m ts
-all_start m [] h = tt
-all_start m (t ∷ ts) h = (record { func = (h 0 t refl).0; argument = (h 0 t refl).1 }, all_start m ts (λ k x e. h (suc k) x e))
-
-pub start_all : (m : Module) (ts : List Thread) → SoundThreads m ts → AllStart m ts
-start_all m ts h = all_start m ts (λ k t e. h (suc k) t e)
-
-pub each_starts : (m : Module) (ts : List Thread) → AllStart m ts → SoundThreads m ts
-each_starts m ts h = λ k t e. let g = thread_starts m k ts t h e in (g.func, g.argument)
+use Rattle.ms_threads_laws.proofs.StartedFibers.{StartsWell, AllStart, one_more, joined_start, named_place, creates}
 
 -- ---- effects
 

@@ -46,7 +46,7 @@ use Rattle.ms_runs_clean_laws.proofs.CleanSteps.{each_clean, clean_each}
 use Rattle.ms_pass_tasks.specs.InstructionLaw.{GoesOn}
 use Rattle.ms_threads_laws.proofs.OwnSteps.{planes_keep, back_keeps}
 use Rattle.ms_threads_laws.proofs.ThreadCalls.{ThreadCall, call_clean, never_goes_on}
-use Rattle.ms_threads_runs_laws.proofs.ThreadActs.{Beside, beside_kept, act_beside, shadow_creates}
+use Rattle.ms_threads_laws.proofs.ThreadActs.{Beside, beside_kept, act_beside, shadow_creates}
 
 -- the answer of a thread call is clean by any rules
 pub answer_clean : (d : Rules) (func : Name → Option ℕ) (o : Op) → ThreadCall func o → (ps : List Poisoned) (v : ℕ) (w : World) → (poisoned_result d o ps v w).mask ≡ 0
@@ -143,14 +143,12 @@ module _ (d : Rules) (keep : KeepWidths d) (m : Module) (formed : Formed m) (val
     pub last : OnBottom so o
     pub clean_values : ((x : Frame Poisoned) → Contains (f ∷ fs) x → HasCleanValues m x) → MovedClean m o
 
+  pub acted : (w : World) → GoodWorld AnyOrigin w → Beside m n w → Bottom so (f ∷ fs) → Performed (shadow_act d (setting_of m setup) m i at ps f fs w)
+  acted w g k last =
+      let a = acts_good w g in record { frames_good = a.0; world = a.1; beside = acts_beside w k; last = acts_bottom w last; clean_values = acts_clean w }
+
+  -- after its blind uses are counted
   pub performed : (w : World) → GoodWorld AnyOrigin w → Beside m n w → Bottom so (f ∷ fs) → Performed (after_checks d (setting_of m setup) m i at ps f fs (Does w))
   performed w g k last =
       let mask = union (map (λ p. p.mask) (blinded (func_index m.funcs) i.op ps)) in
-      let u = count_blind mask w in
-      let a = acts_good u (blind_good AnyOrigin (setting_of m setup) w g mask) in record {
-        frames_good = a.0;
-        world = a.1;
-        beside = acts_beside u (beside_kept m n w u (runtime_keeps (setting_of m setup) runtime.Blind (mask ∷ []) w).kept k);
-        last = acts_bottom u last;
-        clean_values = acts_clean u;
-      }
+      acted (count_blind mask w) (blind_good AnyOrigin (setting_of m setup) w g mask) (beside_kept m n w (count_blind mask w) (runtime_keeps (setting_of m setup) runtime.Blind (mask ∷ []) w).kept k) last
