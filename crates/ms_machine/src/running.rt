@@ -1,4 +1,4 @@
-//! Runs of checked modules, from pause to pause.
+//! The public calls that take a run on: to its next pause, and over it with an answer.
 ghost use Rattle.std.specs.Prelude.{◌≡◌, ◌≤◌, ◌<◌, ◌+◌, ◌*◌, ◌^◌, ◌∷◌, ℕ, List, IfOk};
 ghost use Rattle.ms_runs.specs.{declared.runs.Setup.{Setup}, Control.{Frame as FrameOf}};
 ghost use Rattle.ms_runs.specs.Plain.{PlainState, setting_of};
