@@ -1,4 +1,4 @@
-//! One allocation.
+//! One allocation: its bytes, its area, whether it is live; and its place in the table.
 ghost use Rattle.std.specs.Prelude.{◌≡◌, ◌≤◌};
 ghost use Rattle.ms_alloc.specs.Allocations.{covers};
 

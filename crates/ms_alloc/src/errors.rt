@@ -1,4 +1,4 @@
-//! Why a call of the table refuses.
+//! Why the table of allocations refuses to make or end one.
 ghost use Rattle.std.specs.Prelude.{◌≡◌};
 ghost use Rattle.ms_alloc.specs.declared.errors.AllocError.TheVariants.{NoMemory};
 

@@ -1,4 +1,4 @@
-//! The table of allocations, by area.
+//! The table of all allocations: one list for each area.
 ghost use Rattle.std.specs.Prelude.{◌≡◌, ◌≤◌, ◌<◌, ◌+◌, find, is_some, IfOk, OnOk, OnErr, IsErr, IsErrOf, IsTrue, ◌↔◌, Some, None, option_map, IsNone, MatchOption, false, length};
 ghost use Rattle.ms_alloc.specs.declared.kinds.AllocKind.TheVariants.{Fixed, Heap, Stack};
 ghost use Rattle.ms_alloc.specs.Layout.{room, area_base, area_limit, IsReached};

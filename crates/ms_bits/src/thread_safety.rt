@@ -1,4 +1,4 @@
-//! What may be sent to another thread, and shared with one.
+//! Laws: the types of this crate may be sent to another thread, and shared with one, where what they hold may.
 
 use crate::boxes::Boxed;
 use crate::lists::{Bytes, List};

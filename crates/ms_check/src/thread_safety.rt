@@ -1,4 +1,4 @@
-//! What may be sent to another thread, and shared with one.
+//! A law: a checked module, and why there is none, may be sent to another thread, and shared with one.
 
 use crate::checked::CheckedModule;
 use crate::errors::CheckError;

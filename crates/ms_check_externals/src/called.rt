@@ -1,4 +1,4 @@
-//! The names that the calls of a module name.
+//! The names of all functions that the calls of a module name.
 ghost use Rattle.std.specs.Prelude.{◌≡◌, ◌++◌, flat_map, filter_map, slice_get, IfOk};
 ghost use Rattle.ms_check_valid.specs.ExternalsFit.{callees, called_names};
 

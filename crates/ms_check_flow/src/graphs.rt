@@ -1,4 +1,4 @@
-//! A function as a graph of numbers.
+//! A function as a graph of numbers, for `ms_flow`: to which blocks each block may go, and which values it defines.
 ghost use Rattle.std.specs.Prelude.{◌≡◌, ◌++◌, [], ◌∷◌, map, flat_map, IfOk, OnOk};
 ghost use Rattle.ms_check_valid.specs.FlowGraph.{name_place, graph_of};
 ghost use Rattle.ms_ir.specs.{Locals.{results}, Written.{targets}};

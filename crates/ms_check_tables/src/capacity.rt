@@ -1,4 +1,4 @@
-//! Room for one more item in lists.
+//! The room that a list of names gets with its first name.
 ghost use Rattle.std.specs.Prelude.{◌≡◌};
 
 use ms_bits::NoMemory;

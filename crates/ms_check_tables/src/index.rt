@@ -1,4 +1,5 @@
-//! The places of names, by number and by text.
+//! The search structure under `NameTable` and `Names`: a place for each name, whether it is a number or a text, found without a
+//! walk over the names.
 ghost use Rattle.std.specs.Prelude.{◌≡◌, ◌≤◌, ◌+◌, ◌-◌, ℕ, None, Some, IsTrue, if◌then◌else◌, length, slice_get, IfErr, IfNone, IfOk, IfSome, OnErr, OnOk};
 ghost use Rattle.ms_ir.specs.{declared.syntax.Name.{Name}, declared.syntax.Name.TheVariants.{Number, Text}};
 ghost use Rattle.ms_ir.specs.Names.{name_eq};

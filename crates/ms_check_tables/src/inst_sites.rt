@@ -1,4 +1,4 @@
-//! Where an instruction stands.
+//! Where an instruction stands: its function, its block, its place there, and its site, by which faults are told.
 
 use ms_ir::Func;
 

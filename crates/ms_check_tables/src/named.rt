@@ -1,4 +1,4 @@
-//! What gives names in a module.
+//! The trait of what has a name in a module: a function, a parameter, a type.
 ghost use Rattle.std.specs.{Prelude.{◌≡◌, Some, Option}, Option.{option_copied}};
 ghost use Rattle.ms_ir.specs.declared.syntax.Name.{Name};
 

@@ -1,4 +1,4 @@
-//! Names in order, with places of 32 bits.
+//! `Names`: a `NameTable` whose places fit into 32 bits, for what is numbered so.
 ghost use Rattle.std.specs.Prelude.{◌≡◌, ◌++◌, [], ◌∷◌, ◌<◌, ◌-◌, ◌^◌, length, IfOk, OnErr};
 ghost use Rattle.ms_ir.specs.Equal.{has_name};
 ghost use Rattle.ms_check_tables.specs.FirstPlace.{first_place};

@@ -1,4 +1,4 @@
-//! Names in order, without a limit on how many.
+//! `NameTable`: names in order, each found by its place and by its name, without a limit on how many.
 ghost use Rattle.std.specs.Prelude.{◌≡◌, ◌++◌, [], ◌∷◌, length, IfOk, OnErr};
 ghost use Rattle.ms_ir.specs.Equal.{has_name};
 ghost use Rattle.ms_check_tables.specs.FirstPlace.{first_place};

@@ -1,4 +1,4 @@
-//! What the check of a function looks at.
+//! A function with what its names stand for: what every check of its types is given.
 
 use crate::locals::Locals;
 use crate::symbols::Symbols;

@@ -1,4 +1,4 @@
-//! Calls (LLVM Language Reference, "'call' Instruction"; C library, `printf`).
+//! Checks the types of calls (LLVM Language Reference, "'call' Instruction"; C library, `printf`).
 ghost use Rattle.std.specs.Prelude.{◌≡◌, ◌&&◌, nat_eq, slice_get, if◌then◌else◌};
 ghost use Rattle.ms_ir.specs.declared.syntax.Op.TheVariants as operation;
 ghost use Rattle.ms_ir.specs.Signatures.{signature_of};

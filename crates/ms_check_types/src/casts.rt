@@ -1,4 +1,4 @@
-//! Casts (LLVM Language Reference, "Conversion Operations").
+//! Checks the types of casts (LLVM Language Reference, "Conversion Operations").
 ghost use Rattle.std.specs.Prelude.{◌≡◌};
 ghost use Rattle.ms_bits.specs.declared.operations.CastOp.TheVariants as cast;
 ghost use Rattle.ms_check_valid.specs.TypesAgree.{cast_allows};

@@ -1,4 +1,4 @@
-//! Constants with their types (LLVM Language Reference, "Constants", "Constant Expressions").
+//! Checks constants against the types in front of them (LLVM Language Reference, "Constants", "Constant Expressions").
 ghost use Rattle.std.specs.{Prelude.{◌≡◌, None, ◌&&◌}, List.{list_all}};
 ghost use Rattle.ms_ir.specs.declared.syntax.Ty as type;
 ghost use Rattle.ms_ir.specs.{Equal.{type_eq}, ValueTypes.{type_of}};

@@ -1,4 +1,4 @@
-//! The first type, global or function that is or has a type without a size.
+//! Looks for the first type, global or function that has a type without a size.
 ghost use Rattle.std.specs.Prelude.{◌≡◌, [], ◌∷◌, ◌++◌, flat_map, slice_get, IfOk};
 ghost use Rattle.ms_ir.specs.declared.syntax.Ty.{Named};
 ghost use Rattle.ms_check_valid.specs.SizesFit.{sized, unsized, unsized_globals};

@@ -1,4 +1,4 @@
-//! Instructions that step through a type (LLVM Language Reference, "'getelementptr' Instruction").
+//! Checks the types of instructions that step through a type (LLVM Language Reference, "'getelementptr' Instruction").
 ghost use Rattle.std.specs.{Prelude.{◌≡◌, length, take, drop, ◌∷◌}, Option.{option_or}};
 ghost use Rattle.ms_ir.specs.declared.syntax.Ty as type;
 ghost use Rattle.ms_check_valid.specs.TypesAgree.{first_misfit, first_misstep};

@@ -1,4 +1,4 @@
-//! Initialisers of globals (LLVM Language Reference, "Global Variables", "Complex Constants").
+//! Checks the types of initialisers of globals (LLVM Language Reference, "Global Variables", "Complex Constants").
 ghost use Rattle.std.specs.{Prelude.{◌≡◌, ◌||◌, None, length}, List.{list_all}};
 ghost use Rattle.ms_ir.specs.Equal.{is_undefined};
 ghost use Rattle.ms_check_valid.specs.Initialisers.{is_text_type, item_types, field_types, init_fits};

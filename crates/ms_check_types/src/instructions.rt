@@ -1,4 +1,4 @@
-//! The operands of an instruction (LLVM Language Reference, "Instruction Reference").
+//! Checks the types of the operands of each instruction (LLVM Language Reference, "Instruction Reference").
 ghost use Rattle.std.specs.{Prelude.{◌≡◌, ◌&&◌, IfOk}, List.{list_all}, Option.{option_or}};
 ghost use Rattle.ms_ir.specs.{Instructions.{operands as operands_of}, Equal.{has_name}, Locals.{block_names}};
 ghost use Rattle.ms_ir.specs.Written.{targets};

@@ -1,4 +1,4 @@
-//! Terminators (LLVM Language Reference, "'switch' Instruction", "'br' Instruction", "'ret' Instruction").
+//! Checks the types of terminators (LLVM Language Reference, "'switch' Instruction", "'br' Instruction", "'ret' Instruction").
 ghost use Rattle.std.specs.{Prelude.{◌≡◌, ◌&&◌, IfOk, slice_get}, List.{list_all}};
 ghost use Rattle.ms_ir.specs.{Equal.{has_name}, Locals.{block_names}, Written.{targets}};
 ghost use Rattle.ms_check_valid.specs.TypesAgree.{differ, returns_fit};

@@ -1,4 +1,4 @@
-//! The first mismatch of a module, in the order of its text.
+//! Looks for the first fault in types: in the initialisers of globals, then in the instructions, in the order of the text.
 ghost use Rattle.std.specs.Prelude.{◌≡◌, ◌<◌, ◌^◌, [], IfOk, length, option_map, slice_get};
 ghost use Rattle.ms_ir.specs.Instructions.{over_funcs};
 ghost use Rattle.ms_check_valid.specs.{Formed.{count_written}, TypesAgree.{mismatches}};

@@ -1,4 +1,4 @@
-//! The first fault in types of a module.
+//! Where a fault in types is: the site, and the operand.
 
 /// An operand that doesn't have the type that is asked for, or another fault in types that is counted as one.
 #[derive(Clone, Copy, Debug, PartialEq, Eq)]

@@ -1,4 +1,4 @@
-//! What stands beside a name in a list.
+//! The row of a list that stands at the place of a name: a type's definition, a global, a function.
 ghost use Rattle.std.specs.{Prelude.{◌≡◌}, Option.{option_copied}};
 ghost use Rattle.ms_check_tables.specs.FirstPlace.{first_place, at_place};
 

@@ -1,4 +1,4 @@
-//! Names with the types that stand beside them.
+//! Names with their types, each found by its name.
 ghost use Rattle.std.specs.Prelude.{◌≡◌, ◌++◌, [], ◌∷◌, IfOk, OnErr, option_map};
 ghost use Rattle.ms_ir.specs.{Names.{lookup}, ValueTypes.{type_of}};
 

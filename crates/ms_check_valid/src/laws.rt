@@ -1,4 +1,4 @@
-//! Laws about the definitions, beside those that `examples` computes.
+//! Laws about validity: how paths are tested, which clauses make a module valid or refuse it, what is set where it is used.
 ghost use Rattle.std.specs.Prelude.{◌≡◌, ◌↔◌, ◌⊎◌, ◌++◌, ℕ, List, [], ◌∷◌, false, Some, Contains, length, slice_get};
 ghost use Rattle.ms_flow.specs.Paths as flow;
 ghost use Rattle.ms_ir.specs.{declared.syntax.Func.{Func}, declared.syntax.Inst.{Inst}};

@@ -1,4 +1,4 @@
-//! What a valid module is: definitions, and examples that the check computes.
+//! What formed and valid modules are: definitions, and laws about them.
 #![tactic(auto)]
 
 pub mod laws;

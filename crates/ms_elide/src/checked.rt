@@ -1,4 +1,4 @@
-//! The clean values of a module that is known to be valid.
+//! The public call: the clean values of a checked module.
 ghost use Rattle.std.specs.Prelude.{◌≡◌, length, IfOk};
 ghost use Rattle.ms_elide.specs.CleanSets.{IsExact};
 

@@ -1,4 +1,4 @@
-//! What is looked up in a function.
+//! The names by which `needs.rt` numbers the values of a function.
 
 use ms_check_tables::NameTable;
 

@@ -1,4 +1,4 @@
-//! The clean values of a module.
+//! The clean values of a whole module, function by function, as names.
 ghost use Rattle.std.specs.Prelude.{◌≡◌, ◌<◌, [], length, IfOk, OnOk, slice_index_or};
 ghost use Rattle.ms_ir.specs.Locals.{function_names, locals};
 ghost use Rattle.ms_check_valid.specs.{NamesOnce.{repeats}, Valid.{Valid}};

@@ -1,4 +1,4 @@
-//! What may be sent to another thread, and shared with one.
+//! A law: the clean values of a module may be sent to another thread, and shared with one.
 
 use crate::sets::CleanSet;
 use ms_bits::thread_safety::law_shared;

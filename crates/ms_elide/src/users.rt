@@ -1,4 +1,4 @@
-//! For each item, the items that need it.
+//! For each item the items that need it, by which removal finds what falls with it.
 ghost use Rattle.std.specs.Prelude.{◌≡◌, ◌++◌, ◌<◌, ◌↔◌, ◌⊎◌, ℕ, [], ◌∷◌, All, Contains, IfOk, OnOk, length, slice_index_or, slice_set};
 ghost use Rattle.ms_elide.specs.SelfSupport.{listed, Needs, StaysWithin};
 

@@ -1,4 +1,4 @@
-//! The clean values of a function.
+//! The clean values of one function: its premises, and what removal leaves.
 ghost use Rattle.std.specs.Prelude.{◌≡◌, ◌++◌, ◌↔◌, ℕ, [], false, IfOk, IsTrue, OnOk, filter, map, option_to_list, slice_index_or};
 ghost use Rattle.ms_ir.specs.{declared.syntax.Name.{Name as NameOf}, declared.syntax.Module.{Module}, Equal.{has_name}};
 ghost use Rattle.ms_ir.specs.Locals.{locals, results, func_insts, function_names};

@@ -1,4 +1,4 @@
-//! Generated functions.
+//! One generated function: its parameter stored and loaded, operations that are drawn, and a call of the one before.
 ghost use Rattle.std.specs.Prelude.{◌≡◌, ◌<◌, ◌*◌, ◌++◌, [], ◌∷◌, OnOk, IfOk};
 ghost use Rattle.ms_ir.specs.Builders.{block, i32};
 ghost use Rattle.ms_ir.specs.declared.syntax.Name.TheVariants as number;

@@ -1,4 +1,4 @@
-//! Generated modules.
+//! A whole generated module: functions that are drawn, and a `main` that calls the last of them.
 ghost use Rattle.std.specs.Prelude.{◌≡◌, ◌<◌, ◌≤◌, ◌-◌, ◌++◌, [], ◌∷◌, OnOk, IfOk};
 ghost use Rattle.ms_ir.specs.{Builders.{local, int, sets, calls}, Declarations.{putchar as putchar_decl}};
 ghost use Rattle.ms_check_valid.specs.{Formed.{Formed}, Valid.{Valid}, Uninstrumented.{CanInstrument}};

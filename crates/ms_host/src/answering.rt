@@ -1,4 +1,5 @@
-//! The answers to calls of externals.
+//! Which external a call is of: takes the words of its arguments apart, has the method of `externals.rt` do it that is its own,
+//! and answers the externals that touch no memory.
 ghost use Rattle.std.specs.Prelude.{false, List, ◌≡◌, ◌≤◌, ◌<◌, ◌+◌, ◌%◌, ◌^◌, get_or, IfOk};
 ghost use Rattle.ms_bits.specs.declared.word_functions.WordFn.{WordFn as WordFnOf};
 ghost use Rattle.ms_bits.specs.declared.word_functions.WordWidth.{WordWidth as WordWidthOf};

@@ -1,4 +1,4 @@
-//! Calls that a run asks for, and their answers.
+//! The types of a call that a run asks for: what is called, with which words and at which site, and what an answer to it is.
 ghost use Rattle.std.specs.Prelude.{◌≡◌};
 
 use ms_bits::{List, Trap};

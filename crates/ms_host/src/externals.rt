@@ -1,4 +1,5 @@
-//! What calls of externals do to the world.
+//! The externals that reach memory or the streams, one method of the world each: heap blocks, ranges of bytes, strings, input
+//! and output (C library). `answering.rt` tells which one a call is of.
 ghost use Rattle.std.specs.Prelude.{◌≡◌, ◌≤◌, ◌<◌, ◌+◌, ◌*◌, ◌^◌, [], ◌∷◌, IfOk};
 ghost use Rattle.ms_bits.specs.Maps.{bytes_at};
 ghost use Rattle.ms_runs.specs.{World.{World as Meant, Gives, Does}, Memory.{copy_bytes, set_bytes, make_bytes}};

@@ -1,4 +1,4 @@
-//! Initialisers of globals.
+//! The globals at the start of a run: makes each, and writes what its initialiser says.
 ghost use Rattle.std.specs.Prelude.{◌≡◌, ◌∷◌, true, false, ℕ, List, IfOk, OnOk, IsErrOf};
 ghost use Rattle.ms_ir.specs.Layout.{stored_size};
 ghost use Rattle.ms_runs.specs.{Memory.{store_number}, World.{World as Meant}};

@@ -1,4 +1,4 @@
-//! The bytes of initialisers.
+//! The bytes of one constant or text of an initialiser, written into memory. `globals.rt` goes over whole initialisers.
 ghost use Rattle.std.specs.Prelude.{◌≡◌, ◌+◌, length, get_or};
 ghost use Rattle.ms_bits.specs.Maps.{byte_of};
 ghost use Rattle.ms_runs.specs.{World.{World as Meant}, Memory.{store_number, set_bytes}};

@@ -1,4 +1,4 @@
-//! Numbers that are kept only below 2 to the 64.
+//! Sums and round-ups of sizes of 64 bits; none where they pass that.
 ghost use Rattle.std.specs.Prelude.{◌≤◌, ◌+◌, ℕ};
 ghost use Rattle.ms_ir.specs.Layout.{round_up};
 ghost use Rattle.ms_host.specs.Initial.{Reaches};

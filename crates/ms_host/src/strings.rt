@@ -1,4 +1,4 @@
-//! Strings, and bytes that are compared.
+//! Strings in memory: where they end, and how two ranges of bytes compare.
 ghost use Rattle.std.specs.Prelude.{◌≡◌, ◌≤◌, ◌<◌, ◌+◌, ◌^◌, Some, None, MatchOption, IsTrue};
 ghost use Rattle.ms_alloc.specs.Allocations.{is_good as is_live};
 ghost use Rattle.ms_bits.specs.Maps.{bytes_at};

@@ -1,4 +1,4 @@
-//! Undefined words.
+//! The word that an undefined operand reads, from the fill of the run.
 ghost use Rattle.std.specs.Prelude.{◌≡◌, ◌≤◌, ◌<◌, ◌^◌};
 ghost use Rattle.ms_bits.specs.Fill.{undef_word_of};
 

@@ -1,4 +1,4 @@
-//! Bytes that are written one after the other.
+//! Loops that write memory byte by byte: the fill of uninitialised bytes, one byte again and again, a list of bytes.
 ghost use Rattle.std.specs.Prelude.{◌≡◌, ◌≤◌, ◌<◌, ◌+◌, ◌^◌, length, get_or, min, IsTrue};
 ghost use Rattle.ms_alloc.specs.Allocations.{is_good, IsLaidOut};
 ghost use Rattle.ms_bits.specs.{Maps.{with_range}, Fill.{made_byte}};

@@ -1,4 +1,4 @@
-//! What holds of every grammar.
+//! Laws of grammars as data, whatever the grammar is.
 
 ghost use Rattle.std.specs.Prelude.{◌≡◌, ◌⊎◌, ◌↔◌, List};
 ghost use Rattle.ms_lex.specs.Grammar.{Reads, Stops, done, fails, run};

@@ -1,4 +1,4 @@
-//! Where a fiber stands, how many calls stand, and what the values of the innermost are.
+//! What a fiber shows at a pause: where it stands, how many calls stand, and the values of the innermost.
 ghost use Rattle.std.specs.Prelude.{◌≡◌, ◌-◌, ◌^◌, ℕ, List, length, min};
 ghost use Rattle.ms_ir.specs.declared.syntax.Module.{Module};
 ghost use Rattle.ms_runs.specs.{declared.runs.Setup.{Setup}, Control.{Frame as FrameOf}, Plain.{PlainState}};

@@ -1,4 +1,4 @@
-//! Runs of checked modules, from pause to pause.
+//! The public calls at a pause: on to the next one, over it with an answer, and the types of what a call of `printf` is given.
 ghost use Rattle.std.specs.Prelude.{◌≡◌, ◌≤◌, ◌<◌, ◌+◌, ◌*◌, ◌^◌, ◌∷◌, ℕ, List, IfOk};
 ghost use Rattle.ms_runs.specs.{declared.runs.Setup.{Setup}, Control.{Frame as FrameOf}};
 ghost use Rattle.ms_runs.specs.Plain.{PlainState, setting_of};

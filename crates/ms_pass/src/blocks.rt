@@ -1,4 +1,4 @@
-//! The blocks of a function.
+//! The instrumented form of blocks, one after the other, with the number of the next inserted result.
 ghost use Rattle.std.specs.Prelude.{◌≡◌, ◌+◌, ◌++◌, [], ◌∷◌, ◌<◌, ◌≤◌, ◌^◌, All, length, IfOk, OnOk};
 ghost use Rattle.ms_ir.specs.Instructions.{over_blocks};
 ghost use Rattle.ms_check_valid.specs.Formed.{count_written};

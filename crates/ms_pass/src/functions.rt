@@ -1,4 +1,4 @@
-//! The functions of a module.
+//! The instrumented form of functions, made in pieces by several threads.
 ghost use Rattle.std.specs.{Prelude.{◌≡◌, ◌≤◌, ◌^◌, All, length, map, IfOk}, List.{range_with_len}};
 ghost use Rattle.ms_ir.specs.Names.{name_eq, main_name};
 ghost use Rattle.ms_check_tables.specs.FirstPlace.{first_place};

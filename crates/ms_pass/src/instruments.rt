@@ -1,4 +1,4 @@
-//! The instrumented form of a module.
+//! The public calls of the pass, with what they promise: the instrumented module as data, and checked.
 ghost use Rattle.std.specs.Prelude.{◌≡◌, false, IfOk};
 ghost use Rattle.ms_ir.specs.{ThreadCalls.{is_threaded}, Instructions.{strip}};
 ghost use Rattle.ms_runs.specs.{declared.runs.Setup.{Setup as SetupOf}, Faithful.{Fair, Faithful, Undisturbed}};

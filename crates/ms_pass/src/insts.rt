@@ -1,4 +1,4 @@
-//! The instructions of a block.
+//! The instrumented form of a block's instructions: each stands between its two lists.
 ghost use Rattle.std.specs.Prelude.{◌≡◌, ◌<◌, ◌≤◌, ◌^◌, All, length, OnOk};
 ghost use Rattle.ms_rules.specs.{Placed.{with_inst}, Scopes.{env_of, given_of}, Taken.{IsTaken}};
 ghost use Rattle.ms_pass.specs.{Counted.{here_of, past_inst, past_insts, AreSmall}, Passed.{with_insts}};

@@ -1,4 +1,5 @@
-//! The instrumented form of a module, from its parts.
+//! Puts the instrumented module together: its types, its globals with the slots, the declarations of the runtime, its
+//! functions.
 ghost use Rattle.std.specs.{Prelude.{◌≡◌, ◌++◌, All, length, map, IfOk}, List.{range_with_len}};
 ghost use Rattle.ms_ir.specs.{Locals.{function_names}, Signatures.{slot_globals, runtime_declarations}};
 ghost use Rattle.ms_check_tables.specs.FirstPlace.{first_place};

@@ -1,4 +1,4 @@
-//! The calls with which a reader of modules reads the parts of a text.
+//! What the readers of a body offer to the reader of modules: parts of a text, each by one call, and errors with their place.
 
 ghost use Rattle.std.specs.Prelude.{◌≡◌, ◌≤◌, ◌<◌, ◌^◌, length};
 ghost use Rattle.ms_text_grammar.specs.Skipped.{attributes as attributes_piece};

@@ -1,4 +1,4 @@
-//! Functions and declarations (LLVM Language Reference, "Functions").
+//! Reads functions and declarations (LLVM Language Reference, "Functions").
 
 ghost use Rattle.std.specs.Prelude.{◌≡◌, IfOk, map};
 ghost use Rattle.ms_text_grammar.specs.Functions as spec;

@@ -1,4 +1,4 @@
-//! Instructions after their first word (LLVM Language Reference, "Instruction Reference").
+//! Reads instructions after their first word (LLVM Language Reference, "Instruction Reference").
 
 ghost use Rattle.std.specs.Prelude.{◌≡◌, ◌<◌, ◌+◌, ◌^◌};
 ghost use Rattle.ms_text_grammar.specs.Insts.{alloca_rule as alloca_piece, gep_rule as gep_piece};

@@ -1,4 +1,4 @@
-//! The lines of a body: labels, debug records and instructions (LLVM Language Reference, "Functions").
+//! Reads the lines of a body: labels, debug records and instructions (LLVM Language Reference, "Functions").
 
 ghost use Rattle.std.specs.Prelude.{◌≡◌, ◌<◌, ◌+◌, ◌^◌, IfOk, None, Some};
 ghost use Rattle.ms_text_grammar.specs.Bodies as bodies;

@@ -1,4 +1,4 @@
-//! Blocks that begin (LLVM Language Reference, "Functions").
+//! Begins the next block of a body, by its label or without one (LLVM Language Reference, "Functions").
 
 ghost use Rattle.std.specs.Prelude.{◌≡◌, ◌<◌, ◌≤◌, ◌+◌, ◌^◌};
 ghost use Rattle.ms_text_grammar.specs.Bodies as spec;

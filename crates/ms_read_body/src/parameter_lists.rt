@@ -1,4 +1,4 @@
-//! The parameters of functions, whose unnamed ones have successive numbers (LLVM Language Reference, "Functions" and
+//! Reads the parameters of functions, whose unnamed ones have successive numbers (LLVM Language Reference, "Functions" and
 //! "Identifiers").
 
 ghost use Rattle.std.specs.Prelude.{◌≡◌, ◌<◌, IfOk, OnOk};

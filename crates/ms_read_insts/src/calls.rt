@@ -1,4 +1,4 @@
-//! Calls (LLVM Language Reference, "'call' Instruction").
+//! Reads calls (LLVM Language Reference, "'call' Instruction").
 
 ghost use Rattle.std.specs.{Prelude.{◌≡◌, IfOk, codes, length}, Str.{bytes_eq}};
 ghost use Rattle.ms_ir.specs.declared.syntax.Op.TheVariants as operation;

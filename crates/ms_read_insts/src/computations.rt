@@ -1,5 +1,5 @@
-//! Operations on words (LLVM Language Reference, "Binary Operations", "Bitwise Binary Operations", "Conversion Operations",
-//! "Other Operations").
+//! Reads operations on words (LLVM Language Reference, "Binary Operations", "Bitwise Binary Operations", "Conversion
+//! Operations", "Other Operations").
 
 ghost use Rattle.std.specs.Prelude.{◌≡◌, IfOk};
 ghost use Rattle.ms_ir.specs.declared.syntax.Ty.TheVariants as ty;

@@ -1,4 +1,4 @@
-//! Phis and terminators (LLVM Language Reference, "'phi' Instruction", "Terminator Instructions").
+//! Reads phis and terminators (LLVM Language Reference, "'phi' Instruction", "Terminator Instructions").
 
 ghost use Rattle.std.specs.Prelude.{◌≡◌, ◌∷◌, ◌++◌, [], IfOk, Some, false};
 ghost use Rattle.ms_ir.specs.declared.syntax.Op.TheVariants as operation;

@@ -1,4 +1,4 @@
-//! Flags between the word of an operation and its types.
+//! Reads flags between the word of an operation and its types.
 
 ghost use Rattle.std.specs.Prelude.{◌≡◌};
 ghost use Rattle.ms_text_grammar.specs.Insts as spec;

@@ -1,4 +1,5 @@
-//! Memory and addresses (LLVM Language Reference, "Memory Access and Addressing Operations").
+//! Reads instructions that reach memory or compute addresses (LLVM Language Reference, "Memory Access and Addressing
+//! Operations").
 
 ghost use Rattle.std.specs.Prelude.{◌≡◌, ◌∷◌, ◌++◌, [], IfOk, false};
 ghost use Rattle.ms_ir.specs.declared.syntax.Op.TheVariants as operation;

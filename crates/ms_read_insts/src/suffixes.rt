@@ -1,4 +1,4 @@
-//! What is attached to an operation.
+//! Reads what is attached to an operation.
 
 ghost use Rattle.std.specs.Prelude.{◌≡◌, false};
 ghost use Rattle.ms_lex.specs.Grammar.{give, seq};

@@ -1,11 +1,12 @@
-//! What a reader of a whole text answers.
+//! From the tokens of a text to its module, or to the error at the token where reading stopped.
 
 ghost use Rattle.std.specs.Prelude.{◌≡◌, ◌≤◌, ◌<◌, ◌-◌, ◌^◌, length};
-ghost use Rattle.ms_text_grammar.specs.Texts.{HasTokens, max_bytes, max_tokens as most_tokens, place_in};
+ghost use Rattle.ms_text_grammar.specs.Texts.{HasTokens, max_bytes, place_in};
 ghost use Rattle.ms_lex.specs.Tokens.{InOrder};
 ghost use Rattle.ms_read_body.specs.Calls as spec;
 ghost use Rattle.ms_read_top.specs.Reading.{IsReading, of_lexer};
 
+use crate::limits::max_tokens;
 use crate::modules::whole_module;
 use ms_ir::{Form, Module};
 use ms_lex::{LexError, Token, tokens};
@@ -13,17 +14,6 @@ use ms_read_body::{ReadError, error_at, place_of};
 use ms_read_cursor::Tokens;
 use ms_text_grammar::Cause;
 use std::alloc::Global;
-
-/// How many tokens a text may have.
-#[tactic(auto, unfolding(ms_text_grammar::specs::Texts::max_tokens))]
-pub fn max_tokens(form: Form) -> u32
-    ensures { result ≡ most_tokens form }
-{
-    match form {
-        Form::Plain => 1 << 20,
-        Form::Instrumented => 1 << 25,
-    }
-}
 
 /// The error for a cause at the first of so many tokens that are left of a text.
 fn error_for(text: &[u8], tokens: &[Token], cause: Cause, left: usize) -> ReadError

@@ -1,4 +1,4 @@
-//! Entities of a module.
+//! Reads one entity of a module: the token that begins it says which kind it is.
 
 ghost use Rattle.std.specs.Prelude.{◌≡◌, ◌≤◌, IfOk, Ok, true};
 ghost use Rattle.ms_lex.specs.Grammar.{tail};

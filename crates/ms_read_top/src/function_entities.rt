@@ -1,4 +1,4 @@
-//! Functions and declarations as entities of a module.
+//! Reads functions and declarations, as entities of a module.
 
 ghost use Rattle.std.specs.Prelude.{◌≡◌, ◌≤◌, ◌+◌, ◌^◌, IfOk};
 ghost use Rattle.ms_lex.specs.Grammar.{give, seq};

@@ -1,4 +1,4 @@
-//! Global variables (LLVM Language Reference, "Global Variables").
+//! Reads global variables (LLVM Language Reference, "Global Variables").
 
 ghost use Rattle.std.specs.Prelude.{◌≡◌, IfOk, true};
 ghost use Rattle.ms_lex.specs.Grammar.{give, loop};

@@ -7,6 +7,7 @@ mod entity_starts;
 mod function_entities;
 mod global_variables;
 mod left_out;
+mod limits;
 mod metadata_nodes;
 mod module_state;
 mod modules;
@@ -14,8 +15,8 @@ mod named_types;
 mod other_entities;
 mod reading;
 
-pub use answers::max_tokens;
 pub use entities::entity;
 pub use entity_starts::entity_begins;
+pub use limits::max_tokens;
 pub use modules::no_parts;
 pub use reading::read;

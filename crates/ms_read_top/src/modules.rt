@@ -1,4 +1,4 @@
-//! Modules (LLVM Language Reference, "Module Structure").
+//! Reads entities to the end of the text (LLVM Language Reference, "Module Structure").
 
 ghost use Rattle.std.specs.Prelude.{◌≡◌, ◌≤◌};
 ghost use Rattle.ms_lex.specs.Grammar.{loop};

@@ -1,4 +1,4 @@
-//! Named types (LLVM Language Reference, "Structure Type").
+//! Reads named types (LLVM Language Reference, "Structure Type").
 
 ghost use Rattle.ms_text_grammar.specs.Modules as spec;
 ghost use Rattle.ms_read_cursor.specs.Reading.{Gives, run};

@@ -1,4 +1,4 @@
-//! Entities that are neither functions nor declarations.
+//! Reads the entities that are neither functions nor declarations.
 
 ghost use Rattle.std.specs.Prelude.{◌≡◌, ◌≢◌, IfOk, Ok, true};
 ghost use Rattle.ms_lex.specs.Grammar.{give, seq};

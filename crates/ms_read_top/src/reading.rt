@@ -1,4 +1,4 @@
-//! The reader of whole texts.
+//! The public call that reads a whole text, and its contract.
 
 ghost use Rattle.std.specs.Prelude.{◌≡◌, ◌≢◌, ◌≤◌, ℕ, length};
 ghost use Rattle.ms_lex.specs.{declared.errors.LexError.{LexError as Cause}, Tokens.{tokens_of}};

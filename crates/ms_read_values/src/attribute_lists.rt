@@ -1,4 +1,4 @@
-//! Attributes (LLVM Language Reference, "Parameter Attributes" and "Function Attributes").
+//! Reads attributes (LLVM Language Reference, "Parameter Attributes" and "Function Attributes").
 
 ghost use Rattle.ms_text_grammar.specs.Functions as functions;
 ghost use Rattle.ms_text_grammar.specs.Skipped as spec;

@@ -1,4 +1,4 @@
-//! Tokens in which brackets match.
+//! Reads over tokens in which brackets match.
 
 ghost use Rattle.ms_text_grammar.specs.Skipped as spec;
 ghost use Rattle.ms_read_cursor.specs.Reading.{Gives, Judges, run};

@@ -1,4 +1,4 @@
-//! Initialisers (LLVM Language Reference, "Complex Constants").
+//! Reads initialisers (LLVM Language Reference, "Complex Constants").
 
 ghost use Rattle.std.specs.Prelude.{◌≡◌, false};
 ghost use Rattle.ms_text_grammar.specs.{Lexemes.{is}, Steps.{items, refuse}};

@@ -1,4 +1,4 @@
-//! Names of metadata (LLVM Language Reference, "Metadata").
+//! Reads names of metadata (LLVM Language Reference, "Metadata").
 
 ghost use Rattle.ms_text_grammar.specs.Skipped as spec;
 ghost use Rattle.ms_read_cursor.specs.Reading.{Gives, Judges, run};

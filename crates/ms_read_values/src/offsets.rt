@@ -1,4 +1,4 @@
-//! Constant `getelementptr` (LLVM Language Reference, "Constant Expressions").
+//! Reads constant `getelementptr` (LLVM Language Reference, "Constant Expressions").
 
 ghost use Rattle.std.specs.Prelude.{◌≡◌, ◌∷◌, IfOk, length, true};
 ghost use Rattle.ms_lex.specs.Grammar.{give};

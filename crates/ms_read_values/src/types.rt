@@ -1,4 +1,4 @@
-//! Types (LLVM Language Reference, "Type System").
+//! Reads types (LLVM Language Reference, "Type System").
 
 ghost use Rattle.std.specs.Prelude.{◌≡◌, IfOk, false};
 ghost use Rattle.ms_text_grammar.specs.{declared.symbols.Symbol.TheVariants.{CloseBrace}, Lexemes.{is}, Steps.{items}};

@@ -1,4 +1,4 @@
-//! The types of values (LLVM Language Reference, "Type System").
+//! `ScalarType`: the types that values have, `iN` and `ptr`, as readers hand them on (LLVM Language Reference, "Type System").
 
 ghost use Rattle.std.specs.Prelude.{◌≡◌, IfSome, IfNone};
 

@@ -1,4 +1,4 @@
-//! Values by the type in front of them (LLVM Language Reference, "Constants").
+//! Reads values by the type in front of them (LLVM Language Reference, "Constants").
 
 ghost use Rattle.std.specs.Prelude.{◌≡◌, ◌≢◌, Some};
 ghost use Rattle.ms_text_grammar.specs.Types as types;

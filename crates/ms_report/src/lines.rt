@@ -1,4 +1,4 @@
-//! How each line of a refusal begins.
+//! How the lines of refusals begin: with the word `refused`, and a number.
 ghost use Rattle.std.specs.Prelude.{◌≡◌, ◌++◌, IfOk, codes, decimal};
 ghost use Rattle.ms_report.specs.FaultTexts.{refused_line};
 

@@ -1,4 +1,4 @@
-//! The printed names.
+//! The printed names of traps, constructs, limits, causes, kinds of uses and roots.
 ghost use Rattle.std.specs.Prelude.{◌≡◌, ◌++◌, None, IfSome, codes, decimal};
 ghost use Rattle.ms_report.specs.{RefusalTexts.{outside_name, limit_name, cause_name}, ReportTexts.{kind_text, root_name}, RunTexts.{trap_name}};
 

@@ -1,4 +1,4 @@
-//! Where a site is.
+//! How a line names a site: its number, and the function that has it.
 ghost use Rattle.std.specs.{Prelude.{◌≡◌, ◌++◌, IfOk}, Option.{option_copied}};
 ghost use Rattle.ms_ir.specs.Places.{HasSmallNumbers};
 ghost use Rattle.ms_report.specs.RunTexts.{function_of, function_text, site_text};

@@ -1,4 +1,4 @@
-//! What is inserted after an instruction that is no phi.
+//! The list after an instruction that is no phi: shadow and origins of memory, or what a call hands back.
 ghost use Rattle.std.specs.Prelude.{◌≡◌, ◌<◌, ◌≤◌, ◌^◌, length, OnOk};
 ghost use Rattle.ms_pass_tasks.specs.{Emit.{after_tasks}, SlotTasks.{result_mask_slot, result_origin_slot, take_value}};
 ghost use Rattle.ms_rules_tables.specs.Sizes.{element_size};

@@ -1,4 +1,4 @@
-//! What is inserted around an instruction, in its module.
+//! Puts an instruction of a module with its two lists into the list that grows: what the pass calls.
 ghost use Rattle.std.specs.Prelude.{◌≡◌, ◌+◌, ◌<◌, ◌≤◌, ◌^◌, false, All, length, IfOk, OnOk};
 ghost use Rattle.ms_ir.specs.Instructions.{is_phi, operands, roots_in};
 ghost use Rattle.ms_rules_tables.specs.Widths.{HasWidths};

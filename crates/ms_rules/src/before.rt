@@ -1,4 +1,4 @@
-//! What stands before an instruction that is no phi.
+//! The list before an instruction that is no phi: what a callee is handed, checks, blind uses, mask and origin of the result.
 ghost use Rattle.std.specs.Prelude.{◌≡◌, ◌≤◌, ◌^◌, length, map, OnOk};
 ghost use Rattle.ms_pass_tasks.specs.{Emit.{before_tasks}, ResultTasks.{result_tasks}, SlotTasks.{hand_tasks}};
 ghost use Rattle.ms_rules_builder.specs.{Made.{with_tasks}, Steps.{tracked_of}};

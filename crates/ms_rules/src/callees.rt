@@ -1,4 +1,4 @@
-//! What operations call.
+//! What an operation calls: a function of the module, an external, or nothing.
 ghost use Rattle.std.specs.Prelude.{◌≡◌, is_some, true, if◌then◌else◌};
 ghost use Rattle.ms_ir.specs.Instructions.{external_named, is_root, makes_unset};
 ghost use Rattle.ms_rules.specs.Callees.{IsCallee};

@@ -1,4 +1,4 @@
-//! The values that are known to be clean.
+//! Which values are said to be clean where `emit` is asked: those whose mask and origin are given as the constant 0.
 ghost use Rattle.std.specs.Prelude.{◌≡◌, ◌++◌, is_some, IfOk};
 ghost use Rattle.ms_ir.specs.declared.syntax.Name.{Name as NameOf};
 ghost use Rattle.ms_check_tables.specs.FirstPlace.{first_place};

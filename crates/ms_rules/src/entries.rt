@@ -1,4 +1,4 @@
-//! What a function does first.
+//! What a function begins with: it takes over the masks and origins of its parameters.
 ghost use Rattle.std.specs.Prelude.{◌≡◌, ◌≤◌, ◌^◌, length, OnOk};
 ghost use Rattle.ms_pass_tasks.specs.SlotTasks.{param_mask, param_origin, take_value, take_parameters};
 ghost use Rattle.ms_rules_builder.specs.Made.{with_tasks};

@@ -1,4 +1,4 @@
-//! What is looked up where an instruction is instrumented.
+//! What the rules look up: sizes of types, functions, the numbers of a function's values, which of them are clean.
 ghost use Rattle.std.specs.Prelude.{◌≡◌, ◌≤◌, ◌^◌, length};
 
 use ms_check_tables::{Extents, NameTable};

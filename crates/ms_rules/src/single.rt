@@ -1,4 +1,4 @@
-//! What `emit` gives for one instruction alone.
+//! The two lists of one instruction alone, without its module's other code: what `emit` gives.
 ghost use Rattle.std.specs.Prelude.{◌≡◌, ◌+◌, ◌*◌, ◌<◌, ◌≤◌, ◌^◌, false, length, IfOk};
 ghost use Rattle.ms_ir.specs.{Instructions.{is_phi, operands}, Names.{name_eq, main_name}};
 ghost use Rattle.ms_check_tables.specs.FirstPlace.{first_place};

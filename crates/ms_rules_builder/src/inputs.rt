@@ -1,4 +1,4 @@
-//! What a rule works on.
+//! What a rule is given: the operands of an instruction, the width on which it works, the name of the result.
 ghost use Rattle.std.specs.Prelude.{◌≡◌, ◌-◌, ◌≤◌, ◌^◌, map};
 ghost use Rattle.ms_rules_builder.specs.Steps.{inputs_of, tracked_of};
 

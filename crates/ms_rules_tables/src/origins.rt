@@ -1,4 +1,4 @@
-//! The rules of origins.
+//! The rules of origins: tables of steps, as `masks.rt` has those of masks.
 ghost use Rattle.std.specs.Prelude.{◌≡◌, ◌-◌, true, [], ◌∷◌, ◌++◌, length, map, IfOk, OnOk};
 ghost use Rattle.ms_ir.specs.declared.syntax.Ty.{Int};
 ghost use Rattle.ms_pass_tasks.specs.{Tasks.{Sets, origin_name as origin_name_of}, ResultMasks.{first_last}};

@@ -1,4 +1,4 @@
-//! The code that defines the mask and the origin of a result.
+//! Which rule defines the mask and which the origin of a result, by the operation.
 ghost use Rattle.std.specs.Prelude.{◌≡◌, ℕ, ◌≤◌, true, List, [], ◌∷◌, map, take, reverse, OnOk, Option, Some};
 ghost use Rattle.ms_bits.specs.declared.operations.Flags.{Flags as FlagsOf};
 ghost use Rattle.ms_bits.specs.WordFunctions.{move_of, bits_of as width_bits};

@@ -1,4 +1,4 @@
-//! What holds of every text.
+//! Laws of the grammar: each text has one reading or one stop, within the limits; a plain text is an instrumented one.
 
 ghost use Rattle.std.specs.Prelude.{◌≡◌, ◌≤◌, ◌↔◌, ◌⊎◌, ℕ, ◌+◌, List, length};
 ghost use Rattle.ms_lex.specs.{declared.kinds.Token.{Token}, Tokens.{Text}};

@@ -1,4 +1,4 @@
-//! What holds of all pieces.
+//! Laws of the layout's bytes: cut into tokens again they are the pieces that were written.
 
 ghost use Rattle.std.specs.Prelude.{◌≡◌, ◌≤◌, ◌++◌, ℕ, List, IsTrue, length, Ok};
 ghost use Rattle.ms_lex.specs.{Names.{decoded}, Tokens.{Text, tokens_of}};

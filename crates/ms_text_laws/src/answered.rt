@@ -1,4 +1,4 @@
-//! What holds of every text.
+//! A law: every text is read, or stops at a token, or has no tokens.
 
 ghost use Rattle.std.specs.Prelude.{◌≡◌, ◌≤◌, ◌⊎◌, ℕ, length, Err, is_some, IsTrue};
 ghost use Rattle.ms_lex.specs.{declared.errors.LexError.{LexError}, declared.errors.LexError.TheVariants.{NoMemory}};

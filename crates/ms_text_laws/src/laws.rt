@@ -1,4 +1,4 @@
-//! What holds of everything that is written.
+//! Laws of the layout: a module's text is read as that module, and no two modules have one text.
 
 ghost use Rattle.std.specs.Prelude.{◌≡◌, ◌<◌, ◌≤◌, ◌^◌, ℕ, [], Err, decimal};
 ghost use Rattle.ms_bits.specs.Signed.{signed, wrap};

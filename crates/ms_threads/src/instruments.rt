@@ -1,4 +1,4 @@
-//! The instrumented form of a module with threads.
+//! The public call of the pass for modules with threads, with what it promises under each schedule.
 ghost use Rattle.std.specs.Prelude.{◌≡◌, ℕ, List, IfOk};
 ghost use Rattle.ms_ir.specs.Instructions.{strip};
 ghost use Rattle.ms_runs.specs.{declared.runs.Setup.{Setup as SetupOf}, Faithful.{Fair, Faithful, Undisturbed}};

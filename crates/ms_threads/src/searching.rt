@@ -1,4 +1,4 @@
-//! Whether a module has threads.
+//! Whether a module has a thread call, and so needs a schedule.
 ghost use Rattle.std.specs.{Prelude.{◌≡◌}, List.{list_any}};
 ghost use Rattle.ms_ir.specs.{Names.{lookup, externals, name_eq}, Instructions.{func_index}};
 ghost use Rattle.ms_ir.specs.ThreadCalls.{is_asked, calls_thread, is_block_threaded, is_func_threaded, is_threaded};

@@ -1,4 +1,5 @@
-//! What is said of words and files.
+//! From a command to what is said: the files are read, in their order, and what can't be read is told; so are words that are no
+//! command.
 ghost use Rattle.std.specs.Prelude.{◌≡◌, ◌≤◌, ◌++◌, false, length, IfErr, IfOk};
 ghost use Rattle.ms_report.specs.{RunTexts.{line}, WordsTexts.{words_text}};
 ghost use Rattle.ms_words.specs.{Limits.{IsWithinLimits}, Words.{name_of, place_of}};

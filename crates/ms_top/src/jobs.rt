@@ -1,4 +1,4 @@
-//! What a command does, from its module's text on.
+//! A command on the text of a module: reads, checks, and has `modules.rt` do the rest.
 ghost use Rattle.std.specs.Prelude.{◌≡◌, ◌≤◌, length, IfErr, IfOk, IfSome, OnOk, Ok};
 ghost use Rattle.ms_check_valid.specs.{Formed.{Formed}, Refusals.{IsRefused}, Valid.{Valid}};
 ghost use Rattle.ms_check.specs.Faults.{fault_of};

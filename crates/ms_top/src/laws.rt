@@ -1,4 +1,4 @@
-//! What holds of answers.
+//! Laws about what the top call says, each a public function with an empty body, whose promise is the law.
 
 ghost use Rattle.std.specs.Prelude.{◌≡◌, ◌≢◌, ◌⊎◌, ℕ, true, false, ◌^◌, ◌<◌, ◌≤◌, Bool, List, [], ◌∷◌, ◌++◌, All, length, map, Some, None, Ok, codes, find};
 ghost use Rattle.ms_io.specs.{Counts.{Rose}, Reading.{Holdings}};

@@ -1,4 +1,4 @@
-//! What a command does with a valid module.
+//! A command on a valid module: runs it, checks it, explains it, or writes it, and what is then said.
 ghost use Rattle.std.specs.Prelude.{◌≡◌, ◌≤◌, length, false, IfOk};
 ghost use Rattle.ms_ir.specs.ThreadCalls.{is_threaded};
 ghost use Rattle.ms_runs.specs.Limits.{WithinLimits};

@@ -1,4 +1,4 @@
-//! The top calls.
+//! The public calls: of words, and of a command with a pass and a gate.
 ghost use Rattle.std.specs.Prelude.{◌≡◌, ◌≢◌, ◌≤◌, ◌⊎◌, Err, IfOk};
 ghost use Rattle.ms_io.specs.Counts.{Rose};
 ghost use Rattle.ms_words.specs.{declared.commands.WordsError.{WordsError}, Limits.{IsWithinLimits}};

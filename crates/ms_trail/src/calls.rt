@@ -1,4 +1,4 @@
-//! Calls and returns.
+//! Calls and returns of a traced run: the masks that a callee is handed and hands back, and their moves.
 ghost use Rattle.std.specs.Prelude.{◌≡◌, ◌≤◌, ◌<◌, ◌+◌, ◌-◌, ◌^◌, ◌++◌, List, length, replicate, slice_get, Some, All, IfOk, OnOk};
 ghost use Rattle.ms_ir.specs.Instructions.{operands, count_undefs};
 ghost use Rattle.ms_runs.specs.declared.runs.Setup.{Setup};

@@ -1,4 +1,4 @@
-//! What a traced run finds.
+//! What following a run comes to: no report, too many moves, or the moves with what the report's use reads.
 
 use ms_bits::List;
 use ms_trail_moves::moves::{Move, Source};

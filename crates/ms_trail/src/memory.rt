@@ -1,4 +1,4 @@
-//! Instructions that write memory.
+//! Stores and `alloca`s of a traced run: the shadow that they set, and the moves of its bytes.
 ghost use Rattle.std.specs.Prelude.{◌≡◌, ◌<◌, length, get_or, IfOk};
 ghost use Rattle.ms_runs.specs.declared.runs.Setup.{Setup};
 ghost use Rattle.ms_trail_moves.specs.Traces.{Traced};

@@ -1,4 +1,4 @@
-//! Instructions that set a value.
+//! Loads and operations of a traced run: the mask of the result, and the move that tells it.
 ghost use Rattle.std.specs.Prelude.{◌≡◌, ◌≢◌, ◌<◌, length, IfOk, Some, set};
 ghost use Rattle.ms_runs.specs.declared.runs.Setup.{Setup};
 ghost use Rattle.ms_trail_moves.specs.Traces.{Traced};

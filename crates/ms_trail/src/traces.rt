@@ -1,4 +1,4 @@
-//! The moves of a run up to its first report.
+//! The public call that follows a run up to its first report.
 ghost use Rattle.std.specs.Prelude.{◌≡◌, List, IfOk, false};
 ghost use Rattle.ms_ir.specs.ThreadCalls.{is_threaded};
 ghost use Rattle.ms_runs.specs.Limits.{WithinLimits};

@@ -1,4 +1,4 @@
-//! Bytes that are made uninitialised, and bytes that are stored, with their moves.
+//! Shadow that is set or copied in memory, each with its moves, where the bytes are known to be good.
 ghost use Rattle.std.specs.Prelude.{◌≡◌, ◌≤◌, ◌<◌, ◌+◌, ◌^◌, ◌≢◌, ◌++◌, [], ◌∷◌, ℕ, List, true, IsTrue, OnOk, if◌then◌else◌};
 ghost use Rattle.ms_alloc.specs.Allocations.{is_good as is_live};
 ghost use Rattle.ms_bits.specs.Maps.{byte_of};

@@ -1,4 +1,4 @@
-//! Bytes that are filled with one byte.
+//! `memset` followed: bytes whose shadow gets the mask of one byte, with their moves.
 ghost use Rattle.std.specs.Prelude.{◌≡◌, ◌≤◌, ◌<◌, ◌+◌, ◌^◌, ◌++◌, ◌||◌, ℕ, List, true, eqb, OnOk};
 ghost use Rattle.ms_runs.specs.{World.{World as Meant}, Memory.{is_good}};
 ghost use Rattle.ms_runs_good_laws.specs.GoodWorlds.{GoodWorld, FitsCell};

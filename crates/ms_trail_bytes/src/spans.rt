@@ -143,10 +143,12 @@ fn run_source(alloc: Global, from: &Source, copied: bool, k: u64) -> Result<Sour
     }
 }
 
-/// When and where bytes are written.
+/// When and where poisoned bits are written, which each move of a step has.
 #[derive(Clone, Copy)]
 pub struct Stamp {
+    /// The number of the step, from 0.
     pub event: u64,
+    /// The site of the step's instruction.
     pub site: u32,
 }
 

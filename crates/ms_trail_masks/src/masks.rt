@@ -1,4 +1,4 @@
-//! The masks of results.
+//! The mask of a binary operation and of a cast: which formula of `mask_formulas.rt` it takes.
 ghost use Rattle.std.specs.Prelude.{◌≡◌, ◌≤◌, ◌<◌, ◌^◌};
 ghost use Rattle.ms_bits.specs.{Conversions.{Allows, cast_of}, NoFlags.{no_flags}};
 ghost use Rattle.ms_runs.specs.Masks.{by_formulas, binary_mask as binary_mask_of, shift_mask as shift_mask_of, value_or_zero as or_zero_of};

@@ -1,4 +1,4 @@
-//! Masks of results of code that looks at words alone.
+//! The mask of the result of code that looks at words alone, whichever code it is.
 ghost use Rattle.std.specs.Prelude.{length};
 ghost use Rattle.ms_trail_masks.specs.{Views.{IsView}, Results.{IsComputed, IsMask}};
 

@@ -1,4 +1,4 @@
-//! What operands are read from.
+//! What each operand of an instruction is read from.
 ghost use Rattle.std.specs.Prelude.{◌≡◌, ◌<◌, ◌+◌, ◌^◌, take, IfOk};
 ghost use Rattle.ms_ir.specs.Instructions.{operands, one_undef, count_undefs};
 ghost use Rattle.ms_trail_moves.specs.Sources.{operand_source as source_of_operand, sources, source_at as source_in};

@@ -1,4 +1,4 @@
-//! The first use of an instruction that is poisoned.
+//! The first checked use of an instruction that is poisoned: its uses are asked in their order.
 ghost use Rattle.std.specs.Prelude.{◌≡◌, ◌<◌, false, length, get_or, drop, map, All, Some, None};
 ghost use Rattle.ms_runs.specs.{World.{World as Meant}, Uses.{value_uses, string_uses}};
 ghost use Rattle.ms_runs_uses.specs.Uses.{use_of};

@@ -1,4 +1,4 @@
-//! Single steps of the machine.
+//! Has the interpreter take one step, where it asks for no call.
 ghost use Rattle.std.specs.Prelude.{◌≡◌, ◌≤◌, ◌<◌, ◌+◌, ◌^◌, IfOk};
 ghost use Rattle.ms_ir.specs.Instructions.{NoMarks};
 ghost use Rattle.ms_runs.specs.{declared.runs.Setup.{Setup}, Plain.{PlainState}};

@@ -1,4 +1,4 @@
-//! What one use that is checked reads.
+//! Whether one checked use is poisoned, and what it then reads: an operand, or a byte.
 ghost use Rattle.std.specs.Prelude.{◌≡◌, length, get_or, All};
 ghost use Rattle.ms_runs.specs.{World.{World as Meant}, Masks.{word_at}};
 ghost use Rattle.ms_machine_code.specs.Fits.{IsSource};

@@ -1,4 +1,4 @@
-//! The numbers of lines.
+//! How many lines end before each token.
 
 ghost use Rattle.std.specs.Prelude.{◌≡◌, ◌≤◌, IfOk, length, count_by};
 ghost use Rattle.ms_lex.specs.Tokens.{InOrder, is_newline};

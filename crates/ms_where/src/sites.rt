@@ -1,4 +1,4 @@
-//! The marks of the instructions that have sites.
+//! The mark of each site: which of a text's marks are instructions that have one.
 
 ghost use Rattle.std.specs.{Prelude.{◌≡◌, ◌++◌, IfOk, map, filter, flat_map}, List.{zip}};
 ghost use Rattle.ms_ir.specs.Instructions.{is_unmarked};

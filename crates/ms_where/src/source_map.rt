@@ -1,4 +1,4 @@
-//! The lines of each site.
+//! `SourceMap`: the lines that `--where` shows of a site.
 
 ghost use Rattle.std.specs.Prelude.{◌≡◌, ◌++◌, IfOk, length};
 ghost use Rattle.ms_lex.specs.Tokens.{InOrder};

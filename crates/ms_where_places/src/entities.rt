@@ -1,4 +1,4 @@
-//! The marks of a whole text.
+//! Marks the functions, nodes of metadata and lines of a whole text.
 
 ghost use Rattle.std.specs.Prelude.{◌≡◌, ◌≤◌, ◌<◌, ◌^◌, IfErr, IfOk, IsErr, Ok, true, length};
 ghost use Rattle.ms_lex.specs.{Grammar.{Ends, done, loop, tail}, Tokens.{InOrder}};

@@ -1,4 +1,4 @@
-//! The marks in the functions of a text.
+//! Marks the instructions and debug records of one function's text.
 
 ghost use Rattle.std.specs.Prelude.{◌≡◌, ◌++◌, ◌<◌, ◌^◌, IfErr, IfOk, Ok, true};
 ghost use Rattle.ms_lex.specs.Grammar.{Ends, done, loop, tail};

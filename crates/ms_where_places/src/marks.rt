@@ -1,4 +1,4 @@
-//! Marks, which say what stands at which tokens of a text.
+//! What a mark is: what stands at which tokens of a text.
 
 ghost use Rattle.std.specs.Prelude.{◌≡◌, ◌++◌, ◌<◌, ◌-◌, ◌^◌, IfOk, length};
 ghost use Rattle.ms_where_places.specs.Marks as spec;

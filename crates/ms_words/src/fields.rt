@@ -1,4 +1,4 @@
-//! The fields of a command, from what `clap` found.
+//! The fields of a command, made of the values that `clap` found for its options.
 ghost use Rattle.std.specs.{Prelude.{◌≡◌, ◌-◌, ◌^◌, IfOk, unwrap_or, [], codes, map, drop}, Option.{option_map_or}};
 ghost use Rattle.clap.specs.Words.{found_of, first_value};
 ghost use Rattle.ms_words.specs.{Table.{option_word}, Values.{hex_bytes as hex_bytes_of}};

@@ -1,4 +1,4 @@
-//! Texts of words.
+//! Copies of words, which take memory.
 ghost use Rattle.std.specs.Prelude.{◌≡◌, IfOk, map};
 
 use ms_bits::{NoMemory, Text};

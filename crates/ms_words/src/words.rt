@@ -1,4 +1,4 @@
-//! The words of the command line.
+//! The public call that reads the words of the command line: a command, or the first fault.
 ghost use Rattle.std.specs.Prelude.{◌≡◌, IfOk};
 ghost use Rattle.ms_words.specs.{Words.{IsAnswer, command_given}, Limits.{IsWithinLimits}, Accepted.{Whole}};
 

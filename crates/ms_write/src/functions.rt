@@ -1,4 +1,4 @@
-//! Functions with their blocks (LLVM Language Reference, "Functions").
+//! Writes functions with their blocks (LLVM Language Reference, "Functions").
 ghost use Rattle.std.specs.Prelude.{◌≡◌, [], ◌∷◌, ◌++◌, IfOk, codes, flat_map, map};
 ghost use Rattle.ms_text_grammar.specs.LayoutModules.{parameter_tokens, head_line, entry_label, body_lines, block_lines, blocks_lines, function_lines};
 ghost use Rattle.ms_text_grammar.specs.LayoutNames.{global_token};

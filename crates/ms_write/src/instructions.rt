@@ -1,4 +1,4 @@
-//! Instructions with their results and marks, a line each.
+//! Writes instructions with their results and marks, a line each.
 ghost use Rattle.std.specs.Prelude.{◌≡◌, IfOk, map};
 ghost use Rattle.ms_text_grammar.specs.LayoutInsts.{named_tokens, mark_tokens, inst_tokens, inst_line};
 ghost use Rattle.ms_write_values.specs.Sheets.{put, put_line, put_lines};

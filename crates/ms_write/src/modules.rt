@@ -1,5 +1,5 @@
-//! Modules, in the order of their kinds: named types, globals, declarations, functions, and the last line of a module with
-//! marks (LLVM Language Reference, "Module Structure"; own: the order).
+//! Writes modules, in the order of their kinds: named types, globals, declarations, functions, and the last line of a module
+//! with marks (LLVM Language Reference, "Module Structure"; own: the order).
 ghost use Rattle.std.specs.{Prelude.{◌≡◌, ◌++◌, [], ◌∷◌, IfOk, codes, flat_map, map}, List.{list_any}};
 ghost use Rattle.ms_text_grammar.specs.LayoutModules.{global_word as global_word_of, type_line, global_line, is_one_pointer as is_one_pointer_of, is_dotted as is_dotted_of, declaration_line, function_lines, has_dots as has_dots_of, has_mark_in as has_mark_in_of, has_mark as has_mark_of, module_lines, mark_pieces, written, dots};
 ghost use Rattle.ms_text_grammar.specs.{LayoutNames.{global_token}, LayoutPieces.{enclosed, render, sign, word}};

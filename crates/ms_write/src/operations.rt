@@ -1,4 +1,4 @@
-//! What instructions do (LLVM Language Reference, "Instruction Reference").
+//! Writes what instructions do (LLVM Language Reference, "Instruction Reference").
 ghost use Rattle.std.specs.Prelude.{◌≡◌, ◌&&◌, Bool, [], ◌∷◌, ◌++◌, IfOk, codes, flat_map, map};
 ghost use Rattle.ms_text_grammar.specs.Types.{int_width, is_width};
 ghost use Rattle.ms_text_grammar.specs.Insts.{is_i32 as is_i32_result, names_printf as names_printf_of};

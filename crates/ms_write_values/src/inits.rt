@@ -1,4 +1,4 @@
-//! Initialisers (LLVM Language Reference, "Complex Constants").
+//! Writes initialisers (LLVM Language Reference, "Complex Constants").
 ghost use Rattle.std.specs.Prelude.{◌≡◌, [], ◌∷◌, IfOk, codes, map};
 ghost use Rattle.ms_text_grammar.specs.{LayoutPieces.{after_commas, enclosed, with_commas}, LayoutTypes.{struct_tokens}};
 ghost use Rattle.ms_text_grammar.specs.LayoutValues.{init_tokens};

@@ -1,4 +1,4 @@
-//! Names and strings (LLVM Language Reference, "Identifiers" and "Simple Constants").
+//! Writes names and strings (LLVM Language Reference, "Identifiers" and "Simple Constants").
 ghost use Rattle.std.specs.Prelude.{◌≡◌, [], ◌∷◌, IfOk};
 ghost use Rattle.ms_text_grammar.specs.LayoutModules.{label_line as label_line_of};
 ghost use Rattle.ms_text_grammar.specs.LayoutNames.{bytes_token, local_token, global_token};

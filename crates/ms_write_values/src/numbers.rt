@@ -1,4 +1,4 @@
-//! Numbers, and integers of a type ("Simple Constants" of the LLVM Language Reference).
+//! Writes numbers, and integers of a type ("Simple Constants" of the LLVM Language Reference).
 ghost use Rattle.std.specs.Prelude.{◌≡◌, [], ◌∷◌, IfOk};
 ghost use Rattle.ms_bits.specs.Signed.{signed};
 ghost use Rattle.ms_text_grammar.specs.{LayoutNames.{signed_text, number_token, count_token}, LayoutValues.{integer_token}};

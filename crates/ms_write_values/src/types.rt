@@ -1,4 +1,4 @@
-//! Types (LLVM Language Reference, "Type System").
+//! Writes types (LLVM Language Reference, "Type System").
 ghost use Rattle.std.specs.Prelude.{◌≡◌, [], ◌∷◌, IfOk, decimal, map};
 ghost use Rattle.ms_text_grammar.specs.LayoutPieces.{word, after_commas, with_commas};
 ghost use Rattle.ms_text_grammar.specs.LayoutTypes.{array_tokens, struct_tokens, type_tokens, result_tokens};

@@ -1,4 +1,4 @@
-//! Values after their types (LLVM Language Reference, "Constants").
+//! Writes values after their types (LLVM Language Reference, "Constants").
 ghost use Rattle.std.specs.Prelude.{◌≡◌, ◌∷◌, IfOk, codes, map};
 ghost use Rattle.ms_text_grammar.specs.{LayoutNames.{global_token}, LayoutPieces.{after_commas, with_commas, word}};
 ghost use Rattle.ms_text_grammar.specs.LayoutTypes.{type_tokens};

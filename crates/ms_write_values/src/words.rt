@@ -1,4 +1,4 @@
-//! The words of operations, and those of their flags.
+//! Writes the words of operations, and those of their flags.
 ghost use Rattle.std.specs.Prelude.{◌≡◌, IfOk, codes};
 ghost use Rattle.ms_text_grammar.specs.LayoutInsts.{binary_word as binary_word_of, cast_word as cast_word_of, predicate_text, flag_token, flag_tokens};
 ghost use Rattle.ms_write_values.specs.Sheets.{put};
