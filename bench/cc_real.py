@@ -219,7 +219,7 @@ def configured(tree, folder):
     shutil.copytree(tree, folder)
     llvm = lambda name: cc_run.clang.replace('clang', name)
     words = ['--host=x86_64-linux-gnu', '--disable-shared', f'CC={cc_run.msan_cc}', f'AR={llvm("llvm-ar")}', f'RANLIB={llvm("llvm-ranlib")}']
-    for command in ['./configure'] + words, ['make', 'check_csv']:
+    for command in ['./configure'] + words, ['make'], ['make', 'check_csv']:
         ended = cc_run.run(command, folder=folder, seconds=1200)
         if ended.status:
             return [f'{command[0]}: {ended.out.decode("latin1")[-400:]}{ended.said[-400:]}']
