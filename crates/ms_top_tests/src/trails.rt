@@ -3,7 +3,6 @@ ghost use Rattle.std.specs.Prelude.{◌≡◌, ◌<◌, ◌^◌, length, IfOk, f
 ghost use Rattle.ms_ir.specs.ThreadCalls.{is_threaded};
 ghost use Rattle.ms_runs.specs.Limits.{WithinLimits};
 ghost use Rattle.ms_check_valid.specs.{Formed.{Formed}, Uninstrumented.{CanInstrument}};
-ghost use Rattle.ms_trail_moves.specs.Scanned.{Ascending};
 ghost use Rattle.ms_top.specs.Explained.{CanLead};
 
 use ms_bits::Bytes;
@@ -15,9 +14,7 @@ use ms_threads::threaded;
 use ms_top_rows::failing::fails;
 use ms_trail::found::Trace;
 use ms_trail::traces::trace;
-use ms_trail_moves::back::trail;
-use ms_trail_moves::checks::check_trail;
-use ms_trail_moves::moves::{Hop, Move, Source};
+use ms_trail::{Hop, Move, Source, Target, check_trail, trail};
 use std::alloc::{AllocError, Global};
 use std::test::Fail;
 
@@ -104,8 +101,7 @@ static WAYS: [Way; 3] = [
 ];
 
 fn is_found(alloc: Global, moves: &[Move], at: &Source, hops: &[Hop]) -> bool
-    requires ascending { Ascending moves.now }
-    requires few { length moves.now < 2 ^ 32 }
+    requires { length moves.now < 2 ^ 32 }
 {
     match trail(alloc, moves, at) {
         Ok(Some(found)) => found.as_slice() == hops,
@@ -115,8 +111,7 @@ fn is_found(alloc: Global, moves: &[Move], at: &Source, hops: &[Hop]) -> bool
 
 /// Whether there is no way to the byte at address 0, which no run comes to.
 fn has_no_way(alloc: Global, moves: &[Move]) -> bool
-    requires ascending { Ascending moves.now }
-    requires few { length moves.now < 2 ^ 32 }
+    requires { length moves.now < 2 ^ 32 }
 {
     match trail(alloc, moves, &Source::Byte { addr: 0 }) {
         Ok(None) => true,
@@ -124,9 +119,7 @@ fn has_no_way(alloc: Global, moves: &[Move]) -> bool
     }
 }
 
-fn are_refused(moves: &[Move], at: &Source, others: &[&[Hop]]) -> bool
-    requires { Ascending moves.now }
-{
+fn are_refused(moves: &[Move], at: &Source, others: &[&[Hop]]) -> bool {
     for hops in others {
         if check_trail(moves, at, hops) {
             return false;
@@ -137,8 +130,7 @@ fn are_refused(moves: &[Move], at: &Source, others: &[&[Hop]]) -> bool
 
 /// Whether over these moves a row's way is the one to what a use reads.
 fn is_the_way(alloc: Global, moves: &[Move], at: &Source, way: &Way) -> bool
-    requires ascending { Ascending moves.now }
-    requires few { length moves.now < 2 ^ 32 }
+    requires { length moves.now < 2 ^ 32 }
 {
     is_found(alloc, moves, at, way.1)
         && has_no_way(alloc, moves)
@@ -218,6 +210,81 @@ fn all_agree<R: Eprint>(rt: &R, alloc: Global, ways: &[Way]) -> bool {
         }
     }
     true
+}
+
+/// Moves in any order, what is read, and the way there, if there is one.
+struct AnyOrder(&'static [Move], Source, Option<&'static [Hop]>);
+
+/// The first move copies four bytes in the last step; the others write what it reads, in steps before it.
+static COPIED: [Move; 3] = [
+    Move {
+        event: 2,
+        site: 9,
+        from: Source::Byte { addr: 8 },
+        to: Target::Bytes { addr: 16, len: 4 },
+    },
+    Move {
+        event: 0,
+        site: 3,
+        from: Source::Root { number: 1 },
+        to: Target::Bytes { addr: 8, len: 3 },
+    },
+    Move {
+        event: 1,
+        site: 5,
+        from: Source::Root { number: 2 },
+        to: Target::Bytes { addr: 8, len: 1 },
+    },
+];
+
+static ORDERS: [AnyOrder; 5] = [
+    AnyOrder(
+        &COPIED,
+        Source::Byte { addr: 16 },
+        Some(&[Hop { index: 2, byte: 0 }, Hop { index: 0, byte: 0 }]),
+    ),
+    AnyOrder(
+        &COPIED,
+        Source::Byte { addr: 18 },
+        Some(&[Hop { index: 1, byte: 2 }, Hop { index: 0, byte: 2 }]),
+    ),
+    // Nothing wrote what was copied there.
+    AnyOrder(&COPIED, Source::Byte { addr: 19 }, None),
+    AnyOrder(
+        &COPIED,
+        Source::Byte { addr: 9 },
+        Some(&[Hop { index: 1, byte: 1 }]),
+    ),
+    AnyOrder(&COPIED, Source::Root { number: 7 }, Some(&[])),
+];
+
+/// Whether a row's way, if there is one, is found and checked.
+fn is_ordered(alloc: Global, row: &AnyOrder) -> bool {
+    if row.0.len() > 100 {
+        return false;
+    }
+    match (trail(alloc, row.0, &row.1), row.2) {
+        (Ok(Some(found)), Some(hops)) => {
+            found.as_slice() == hops && check_trail(row.0, &row.1, hops)
+        }
+        (Ok(None), None) => !check_trail(row.0, &row.1, &[]),
+        _ => false,
+    }
+}
+
+fn all_are_ordered<R: Eprint>(rt: &R, alloc: Global, rows: &[AnyOrder]) -> bool {
+    for (number, row) in rows.iter().enumerate() {
+        if !is_ordered(alloc, row) {
+            return fails(rt, "row", number);
+        }
+    }
+    true
+}
+
+#[test]
+fn ways_are_found_in_any_order(rt: HostRuntime) -> Result<(), Fail> {
+    assert!(rt; all_are_ordered(&rt, rt.alloc(), &ORDERS));
+    Ok(())
 }
 
 #[test]

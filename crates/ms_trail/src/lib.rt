@@ -14,3 +14,7 @@ mod steps;
 mod traced_run;
 pub mod traces;
 pub mod words;
+
+pub use ms_trail_moves::checks::check_trail;
+pub use ms_trail_moves::moves::{Hop, Move, Source, Target};
+pub use ms_trail_moves::searching::trail;

@@ -14,11 +14,11 @@ use Rattle.ms_trail_moves.specs.declared.moves.Target.TheVariants as target
 use Rattle.ms_trail_moves.specs.declared.moves.Move.{Move}
 use Rattle.ms_trail_moves.specs.declared.moves.Hop.{Hop}
 use Rattle.ms_trail_moves.specs.Leads.{reached, came_from, IsBefore, IsLast, LeadsBack, Leads}
-use Rattle.ms_trail_moves.specs.Scanned.{Ascending, is_before}
-use Rattle.ms_trail_moves.specs.Checked.{after, distance_in, is_reached, is_written, counts_there, NoneBetween, IsNext, is_root_at}
+use Rattle.ms_trail_moves.specs.Scanned.{is_before}
+use Rattle.ms_trail_moves.specs.Checked.{after, distance_in, is_reached, is_written, counts_there, IsNext, is_root_at}
 use Rattle.ms_trail_moves.proofs.Names.{name_same}
 use Rattle.ms_trail_moves.proofs.Chains.{some_if}
-use Rattle.ms_trail_moves.proofs.Scans.{AnyRoot, Below, below_hop, before_sound, before_found}
+use Rattle.ms_trail_moves.proofs.Scans.{AnyRoot, before_sound, before_found}
 
 pub false_true : false ≡ true → ⊥
 false_true e = grind arith
@@ -110,24 +110,23 @@ counts_sound : (event : Option ℕ) (s : Source) (d : ℕ) (m : Move) → counts
 counts_sound event s d m e =
     let parts = and_parts (is_before event m) (is_written m.to s d) e in (before_sound event m parts.0, written_sound m.to s d parts.1)
 
-module _ (moves : List Move) (bound : ℕ) (event : Option ℕ) (s : Source) (d : ℕ) (below : Below moves bound event (after s d)) (hop : Hop) where
-  next_is_last : (n : IsNext moves bound event s d hop) → IsLast moves event (after s d) hop n.move
+module _ (moves : List Move) (event : Option ℕ) (s : Source) (d : ℕ) (hop : Hop) where
+  next_is_last : (n : IsNext moves event s d hop) → IsLast moves event (after s d) hop n.move
   next_is_last n = record {
     stands = n.stands;
     counts = before_sound event n.move n.earlier;
     reaches = reached_sound n.move.to hop.byte s d n.reaches;
-    last = λ j k o f before r. by_order j o (leb j hop.index) refl f (below j k o f before r) (counts_found event s d o k before r);
+    last = λ j k o f before r. by_order j o (leb j hop.index) refl f (slice_get_within moves j o f) (counts_found event s d o k before r);
   }
     where
-      by_order : (j : ℕ) (o : Move) (c : Bool) → leb j hop.index ≡ c → slice_get moves j ≡ Some o → j < bound → counts_there event s d o ≡ true → j ≤ hop.index
+      by_order : (j : ℕ) (o : Move) (c : Bool) → leb j hop.index ≡ c → slice_get moves j ≡ Some o → j < length moves → counts_there event s d o ≡ true → j ≤ hop.index
       by_order j o true g f within counts = leb-true j hop.index g
       by_order j o false g f within counts = absurd (false_true (sym (n.last j o (omega (arith, leb-false j hop.index g)) within f) ∙ counts))
 
-  last_is_next : (m : Move) → IsLast moves event (after s d) hop m → IsNext moves bound event s d hop
+  last_is_next : (m : Move) → IsLast moves event (after s d) hop m → IsNext moves event s d hop
   last_is_next m l = record {
     move = m;
     stands = l.stands;
-    below = below hop.index hop.byte m l.stands l.counts l.reaches;
     earlier = before_found event m l.counts;
     reaches = reached_found m.to hop.byte s d l.reaches;
     last = λ j o first within f. by_test j o first f (counts_there event s d o) refl;
@@ -139,10 +138,8 @@ module _ (moves : List Move) (bound : ℕ) (event : Option ℕ) (s : Source) (d 
 
 -- ---- the hops that are left
 
-pub record Going (moves : List Move) (at : Source) (hops : List Hop) (left bound : ℕ) (event : Option ℕ) (s : Source) (d : ℕ) : Type 0 where
-  pub within : bound ≤ length moves
+pub record Going (moves : List Move) (at : Source) (hops : List Hop) (left : ℕ) (event : Option ℕ) (s : Source) (d : ℕ) : Type 0 where
   pub few : left ≤ length hops
-  pub below : Below moves bound event (after s d)
   pub there : Leads moves at hops → LeadsBack AnyRoot moves event (after s d) (reverse (take left hops))
   pub back : LeadsBack AnyRoot moves event (after s d) (reverse (take left hops)) → Leads moves at hops
 
@@ -155,31 +152,27 @@ taken_one hops l h e = ap reverse (one_more hops l e) ∙ reverse-append (take l
     one_more (x ∷ xs) zero f = ap (λ y. y ∷ []) (same_Some x h f)
     one_more (x ∷ xs) (suc n) f = ap (λ ys. x ∷ ys) (one_more xs n f)
 
-module _ (moves : List Move) (ascending : Ascending moves) (at : Source) (hops : List Hop) where
-  pub starts : Going moves at hops (length hops) (length moves) None at 0
+module _ (moves : List Move) (at : Source) (hops : List Hop) where
+  pub starts : Going moves at hops (length hops) None at 0
   starts =
       let all : take (length hops) hops ≡ hops = take_all (length hops) hops (omega arith) in
       record {
-        within = omega arith;
         few = omega arith;
-        below = λ j k o f before r. slice_get_within moves j o f;
         there = λ h. subst (λ s. LeadsBack AnyRoot moves None s (reverse (take (length hops) hops))) (sym (after_none at)) (subst (λ hs. LeadsBack AnyRoot moves None at (reverse hs)) (sym all) h);
         back = λ h. subst (λ hs. LeadsBack AnyRoot moves None at (reverse hs)) all (subst (λ s. LeadsBack AnyRoot moves None s (reverse (take (length hops) hops))) (after_none at) h);
       }
 
-  module _ (l bound : ℕ) (event : Option ℕ) (s : Source) (d : ℕ) (g : Going moves at hops (suc l) bound event s d) (hop : Hop) (there : slice_get hops l ≡ Some hop) where
+  module _ (l : ℕ) (event : Option ℕ) (s : Source) (d : ℕ) (g : Going moves at hops (suc l) event s d) (hop : Hop) (there : slice_get hops l ≡ Some hop) where
     -- where the hop is another one
-    pub refused : (IsNext moves bound event s d hop → ⊥) → Leads moves at hops → ⊥
+    pub refused : (IsNext moves event s d hop → ⊥) → Leads moves at hops → ⊥
     refused other h =
         let back : LeadsBack AnyRoot moves event (after s d) (hop ∷ reverse (take l hops)) = subst (LeadsBack AnyRoot moves event (after s d)) (taken_one hops l hop there) (g.there h) in
-        other (last_is_next moves bound event s d g.below hop back.0 back.1)
+        other (last_is_next moves event s d hop back.0 back.1)
 
     -- the hops before it are left
-    pub goes_on : (m : Move) → slice_get moves hop.index ≡ Some m → IsNext moves bound event s d hop → Going moves at hops l hop.index (Some m.event) m.from (distance_in m.to hop.byte)
+    pub goes_on : (m : Move) → slice_get moves hop.index ≡ Some m → IsNext moves event s d hop → Going moves at hops l (Some m.event) m.from (distance_in m.to hop.byte)
     goes_on m stands n = record {
-      within = omega (arith, n.below, g.within);
       few = omega (arith, g.few);
-      below = below_hop moves ascending hop.index m (after m.from (distance_in m.to hop.byte)) stands;
       there = λ h. onward (subst (LeadsBack AnyRoot moves event (after s d)) (taken_one hops l hop there) (g.there h));
       back = λ h. g.back (subst (LeadsBack AnyRoot moves event (after s d)) (sym (taken_one hops l hop there)) (before h));
     }
@@ -194,13 +187,13 @@ module _ (moves : List Move) (ascending : Ascending moves) (at : Source) (hops :
         before h =
             let same : n.move ≡ m = same_Some n.move m (sym n.stands ∙ stands) in (
               m,
-              subst (IsLast moves event (after s d) hop) same (next_is_last moves bound event s d g.below hop n),
+              subst (IsLast moves event (after s d) hop) same (next_is_last moves event s d hop n),
               subst (λ r. LeadsBack AnyRoot moves (Some m.event) r (reverse (take l hops))) (after_is m.from m.to hop.byte) h,
             )
 
   -- no hop is left
-  pub ends : (left bound : ℕ) (event : Option ℕ) (s : Source) (d : ℕ) → Going moves at hops left bound event s d → left ≡ 0 → MatchBool (is_root_at s) (Leads moves at hops) (Leads moves at hops → ⊥)
-  ends left bound event s d g none = by_source s (λ h. subst (λ n. LeadsBack AnyRoot moves event (after s d) (reverse (take n hops))) none (g.there h)) (λ h. g.back (subst (λ n. LeadsBack AnyRoot moves event (after s d) (reverse (take n hops))) (sym none) h))
+  pub ends : (left : ℕ) (event : Option ℕ) (s : Source) (d : ℕ) → Going moves at hops left event s d → left ≡ 0 → MatchBool (is_root_at s) (Leads moves at hops) (Leads moves at hops → ⊥)
+  ends left event s d g none = by_source s (λ h. subst (λ n. LeadsBack AnyRoot moves event (after s d) (reverse (take n hops))) none (g.there h)) (λ h. g.back (subst (λ n. LeadsBack AnyRoot moves event (after s d) (reverse (take n hops))) (sym none) h))
     where
       by_source : (r : Source) → (Leads moves at hops → LeadsBack AnyRoot moves event (after r d) (reverse (take 0 hops))) → (LeadsBack AnyRoot moves event (after r d) (reverse (take 0 hops)) → Leads moves at hops)
           → MatchBool (is_root_at r) (Leads moves at hops) (Leads moves at hops → ⊥)

@@ -3,5 +3,6 @@ pub mod Chains
 pub mod Scans
 mod Backwards
 pub mod Checking
+mod WaySearch
 mod Operands
 pub mod EdgeWalks

@@ -79,12 +79,12 @@ counted_found b s m k h r = ap (λ c. if c then byte_in m.to s else None) (befor
 
 -- ---- the scan
 
-root_is : (s : Source) → is_root s ≡ true → IsRoot AnyRoot s
+pub root_is : (s : Source) → is_root s ≡ true → IsRoot AnyRoot s
 root_is (Root n) e = tt
 root_is (Value f x) e = absurd (false_true e)
 root_is (Byte a) e = absurd (false_true e)
 
-is_root_if : (s : Source) → IsRoot AnyRoot s → is_root s ≡ true
+pub is_root_if : (s : Source) → IsRoot AnyRoot s → is_root s ≡ true
 is_root_if (Root n) h = refl
 is_root_if (Value f x) h = absurd h
 is_root_if (Byte a) h = absurd h
@@ -92,6 +92,23 @@ is_root_if (Byte a) h = absurd h
 -- no move from place n on counts and reaches the source
 abbrev pub Below : List Move → ℕ → Option ℕ → Source → Type 0
 Below moves n b s = (j k : ℕ) (o : Move) → slice_get moves j ≡ Some o → IsBefore b o → reached o.to k ≡ Some s → j < n
+
+module _ (moves : List Move) where
+  -- one that doesn't count or reach the source is passed over
+  pub below_next : (n : ℕ) (b : Option ℕ) (s : Source) → Below moves (suc n) b s → ((m : Move) → slice_get moves n ≡ Some m → counted_byte b s m ≡ None) → Below moves n b s
+  below_next n b s below none j k o f before r = by_test (eqb j n) refl
+    where
+      by_test : (c : Bool) → eqb j n ≡ c → j < n
+      by_test true g = absurd (none-some k (sym (none o (subst (λ i. slice_get moves i ≡ Some o) (eqb-true j n g) f)) ∙ counted_found b s o k before r))
+      by_test false g = omega (arith, below j k o f before r, eqb-false j n g)
+
+  pub last_at : (n k : ℕ) (m : Move) (b : Option ℕ) (s : Source) → slice_get moves n ≡ Some m → Below moves (suc n) b s → counted_byte b s m ≡ Some k → IsLast moves b s (record { index = n; byte = k }) m
+  last_at n k m b s f below g =
+      let h = counted_sound b s m k g in
+      record { stands = f; counts = h.0; reaches = h.1; last = λ j i o e before r. omega (arith, below j i o e before r) }
+
+  pub all_below : (b : Option ℕ) (s : Source) → Below moves (length moves) b s
+  all_below b s j k o e before r = slice_get_within moves j o e
 
 module _ (moves : List Move) (ascending : Ascending moves) where
   -- after a hop: moves of earlier steps stand before it
@@ -101,14 +118,6 @@ module _ (moves : List Move) (ascending : Ascending moves) where
       by_order : (c : Bool) → leb n j ≡ c → j < n
       by_order true g = absurd (omega (arith, ascending n j m o (leb-true n j g) e f, before))
       by_order false g = omega (arith, leb-false n j g)
-
-  -- one that doesn't count or reach the source is passed over
-  below_next : (n : ℕ) (b : Option ℕ) (s : Source) → Below moves (suc n) b s → ((m : Move) → slice_get moves n ≡ Some m → counted_byte b s m ≡ None) → Below moves n b s
-  below_next n b s below none j k o f before r = by_test (eqb j n) refl
-    where
-      by_test : (c : Bool) → eqb j n ≡ c → j < n
-      by_test true g = absurd (none-some k (sym (none o (subst (λ i. slice_get moves i ≡ Some o) (eqb-true j n g) f)) ∙ counted_found b s o k before r))
-      by_test false g = omega (arith, below j k o f before r, eqb-false j n g)
 
   some_list : {A : Type 0} (x y : A) → Some x ≡ Some y → x ≡ y
   some_list x y e = same_Some x y e
@@ -149,11 +158,6 @@ module _ (moves : List Move) (ascending : Ascending moves) where
       by_place (Some m) = by_count m (counted_byte b s m)
       by_place None = refl
 
-  last_at : (n k : ℕ) (m : Move) (b : Option ℕ) (s : Source) → slice_get moves n ≡ Some m → Below moves (suc n) b s → counted_byte b s m ≡ Some k → IsLast moves b s (record { index = n; byte = k }) m
-  last_at n k m b s f below g =
-      let h = counted_sound b s m k g in
-      record { stands = f; counts = h.0; reaches = h.1; last = λ j i o e before r. omega (arith, below j i o e before r) }
-
   scan_sound : (n : ℕ) (b : Option ℕ) (s : Source) (hops : List Hop) → Below moves n b s → scan moves n b s ≡ Some hops → LeadsBack AnyRoot moves b s hops
   scan_sound zero b s hops below e = by_root (is_root s) refl e
     where
@@ -168,16 +172,16 @@ module _ (moves : List Move) (ascending : Ascending moves) where
       by_rest m k f g None q h go = absurd (none-some hops h)
       by_rest m k f g (Some hs) q h go =
           subst (LeadsBack AnyRoot moves b s) (same_Some (record { index = n; byte = k } ∷ hs) hops h)
-          (m, last_at n k m b s f below g, go (Some m.event) (came_from m.from m.to k) hs (below_hop n m (came_from m.from m.to k) f) q)
+          (m, last_at moves n k m b s f below g, go (Some m.event) (came_from m.from m.to k) hs (below_hop n m (came_from m.from m.to k) f) q)
 
       by_count : (m : Move) → slice_get moves n ≡ Some m → (o : Option ℕ) → counted_byte b s m ≡ o → at_count n b s m o ≡ Some hops
           → ((c : Option ℕ) (r : Source) (hs : List Hop) → Below moves n c r → scan moves n c r ≡ Some hs → LeadsBack AnyRoot moves c r hs) → LeadsBack AnyRoot moves b s hops
-      by_count m f None g h go = go b s hops (below_next n b s below (λ o i. ap (counted_byte b s) (same_Some o m (sym i ∙ f)) ∙ g)) h
+      by_count m f None g h go = go b s hops (below_next moves n b s below (λ o i. ap (counted_byte b s) (same_Some o m (sym i ∙ f)) ∙ g)) h
       by_count m f (Some k) g h go = by_rest m k f g (scan moves n (Some m.event) (came_from m.from m.to k)) refl h go
 
       by_place : (o : Option Move) → slice_get moves n ≡ o → at_place n b s o ≡ Some hops
           → ((c : Option ℕ) (r : Source) (hs : List Hop) → Below moves n c r → scan moves n c r ≡ Some hs → LeadsBack AnyRoot moves c r hs) → LeadsBack AnyRoot moves b s hops
-      by_place None f h go = go b s hops (below_next n b s below (λ o i. absurd (none-some o (sym f ∙ i)))) h
+      by_place None f h go = go b s hops (below_next moves n b s below (λ o i. absurd (none-some o (sym f ∙ i)))) h
       by_place (Some m) f h go = by_count m f (counted_byte b s m) refl h go
 
       by_root : (c : Bool) → is_root s ≡ c → (if c then Some [] else at_place n b s (slice_get moves n)) ≡ Some hops
@@ -218,16 +222,13 @@ module _ (moves : List Move) (ascending : Ascending moves) where
           ap (at_place n b s) stands ∙ ap (at_count n b s h.0) (counted_found b s h.0 hop.byte h.1.counts h.1.reaches)
           ∙ ap (option_map (λ hs. record { index = n; byte = hop.byte } ∷ hs)) (go (Some h.0.event) (came_from h.0.from h.0.to hop.byte) rest (below_hop n h.0 (came_from h.0.from h.0.to hop.byte) stands) h.2)
           ∙ ap (λ j. Some (record { index = j; byte = hop.byte } ∷ rest)) (sym here)
-      by_place false e go = passed e (slice_get moves n) refl (go b s (hop ∷ rest) (below_next n b s below (uncounted e)) h)
-
-  all_below : (b : Option ℕ) (s : Source) → Below moves (length moves) b s
-  all_below b s j k o e before r = slice_get_within moves j o e
+      by_place false e go = passed e (slice_get moves n) refl (go b s (hop ∷ rest) (below_next moves n b s below (uncounted e)) h)
 
   pub scan_leads : (at : Source) (hops : List Hop) → scan moves (length moves) None at ≡ Some (reverse hops) → Leads moves at hops
-  scan_leads at hops e = scan_sound (length moves) None at (reverse hops) (all_below None at) e
+  scan_leads at hops e = scan_sound (length moves) None at (reverse hops) (all_below moves None at) e
 
   pub leads_scan : (at : Source) (hops : List Hop) → Leads moves at hops → scan moves (length moves) None at ≡ Some (reverse hops)
-  leads_scan at hops h = scan_complete (length moves) None at (reverse hops) (all_below None at) h
+  leads_scan at hops h = scan_complete (length moves) None at (reverse hops) (all_below moves None at) h
 
   pub trail_leads : (at : Source) (hops : List Hop) → trail_of moves at ≡ Some hops → Leads moves at hops
   trail_leads at hops e = by_scan (scan moves (length moves) None at) refl e
@@ -236,7 +237,7 @@ module _ (moves : List Move) (ascending : Ascending moves) where
       by_scan None f g = absurd (none-some hops g)
       by_scan (Some hs) f g =
           subst (Leads moves at) (same_Some (reverse hs) hops g)
-          (subst (LeadsBack AnyRoot moves None at) (sym (reverse-reverse hs)) (scan_sound (length moves) None at hs (all_below None at) f))
+          (subst (LeadsBack AnyRoot moves None at) (sym (reverse-reverse hs)) (scan_sound (length moves) None at hs (all_below moves None at) f))
 
   pub leads_trail : (at : Source) (hops : List Hop) → Leads moves at hops → trail_of moves at ≡ Some hops
-  leads_trail at hops h = ap (option_map reverse) (scan_complete (length moves) None at (reverse hops) (all_below None at) h) ∙ ap Some (reverse-reverse hops)
+  leads_trail at hops h = ap (option_map reverse) (scan_complete (length moves) None at (reverse hops) (all_below moves None at) h) ∙ ap Some (reverse-reverse hops)

@@ -1,5 +1,5 @@
 -- What is looked at where hops are checked (own).
-use Rattle.std.specs.Prelude.{◌≡◌, ◌≤◌, ◌<◌, ℕ, ◌+◌, Bool, true, false, ◌&&◌, eqb, leb, ltb, List, Option, Some, slice_get}
+use Rattle.std.specs.Prelude.{◌≡◌, ◌≤◌, ◌<◌, ℕ, ◌+◌, Bool, true, false, ◌&&◌, eqb, leb, ltb, List, length, Option, Some, slice_get}
 use Rattle.ms_ir.specs.Names.{name_eq}
 use Rattle.ms_trail_moves.specs.declared.moves.Source.{Source}
 use Rattle.ms_trail_moves.specs.declared.moves.Source.TheVariants.{Root, Value, Byte}
@@ -39,14 +39,17 @@ counts_there event s d move = is_before event move && is_written move.to s d
 abbrev pub NoneBetween : List Move → (first bound : ℕ) → Option ℕ → Source → (distance : ℕ) → Type 0
 NoneBetween moves first bound event s d = (j : ℕ) (other : Move) → first ≤ j → j < bound → slice_get moves j ≡ Some other → counts_there event s d other ≡ false
 
--- a hop's move is the last one before a number that does
-pub record IsNext (moves : List Move) (bound : ℕ) (event : Option ℕ) (s : Source) (d : ℕ) (hop : Hop) : Type 0 where
+-- nor of those from a number on
+abbrev pub NoneAfter : List Move → (first : ℕ) → Option ℕ → Source → (distance : ℕ) → Type 0
+NoneAfter moves first event s d = NoneBetween moves first (length moves) event s d
+
+-- a hop's move is the last one that does
+pub record IsNext (moves : List Move) (event : Option ℕ) (s : Source) (d : ℕ) (hop : Hop) : Type 0 where
   pub move : Move
   pub stands : slice_get moves hop.index ≡ Some move
-  pub below : hop.index < bound
   pub earlier : is_before event move ≡ true
   pub reaches : is_reached move.to hop.byte s d ≡ true
-  pub last : NoneBetween moves (hop.index + 1) bound event s d
+  pub last : NoneAfter moves (hop.index + 1) event s d
 
 abbrev pub is_root_at : Source → Bool
 is_root_at (Root n) = true

@@ -8,3 +8,4 @@ pub mod Moving
 pub mod Scanned
 pub mod Readings
 pub mod Checked
+pub mod Searched

@@ -19,7 +19,7 @@ pub enum Reading<'m> {
 }
 
 /// A source as a place that is read.
-fn place_of(source: &Source) -> Reading<'_>
+pub(crate) fn place_of(source: &Source) -> Reading<'_>
     ensures { source_of result ≡ source.now }
 {
     match source {
@@ -71,7 +71,7 @@ fn byte_in(target: &Target, reading: Reading<'_>) -> Option<u64>
 }
 
 /// What a byte of a move's target comes from.
-fn came_from(m: &Move, k: u64) -> Reading<'_>
+pub(crate) fn came_from(m: &Move, k: u64) -> Reading<'_>
     ensures { source_of result ≡ source_after m.now.from m.now.to k }
 {
     match (&m.from, &m.to) {
@@ -83,14 +83,14 @@ fn came_from(m: &Move, k: u64) -> Reading<'_>
 }
 
 /// Whether a place is a root.
-fn is_root(reading: Reading<'_>) -> bool
+pub(crate) fn is_root(reading: Reading<'_>) -> bool
     ensures { result ≡ is_root_source (source_of reading.entry) }
 {
     matches!(reading, Reading::Root { .. })
 }
 
 /// Which byte of a move that is of an earlier step is read.
-fn counted_byte(m: &Move, event: Option<u64>, reading: Reading<'_>) -> Option<u64>
+pub(crate) fn counted_byte(m: &Move, event: Option<u64>, reading: Reading<'_>) -> Option<u64>
     ensures { result ≡ counted event (source_of reading.entry) m.now }
 {
     let is_before = match event {

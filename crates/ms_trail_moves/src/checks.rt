@@ -1,8 +1,8 @@
 //! Whether hops are a way over moves, told from what a way is: nothing but the types is shared with how one is found.
 ghost use Rattle.std.specs.Prelude.{◌≡◌, ◌≤◌, ◌&&◌, MatchBool, eqb, length, slice_get, Some as Held};
 ghost use Rattle.ms_ir.specs.Names.{name_eq};
-ghost use Rattle.ms_trail_moves.specs.{Leads.{Leads}, Scanned.{Ascending, is_before}};
-ghost use Rattle.ms_trail_moves.specs.Checked.{distance_in, is_reached, is_written, counts_there, NoneBetween, IsNext, is_root_at};
+ghost use Rattle.ms_trail_moves.specs.{Leads.{Leads}, Scanned.{is_before}};
+ghost use Rattle.ms_trail_moves.specs.Checked.{distance_in, is_reached, is_written, counts_there, NoneAfter, IsNext, is_root_at};
 
 use crate::moves::{Hop, Move, Source, Target};
 use ms_ir::Name;
@@ -71,19 +71,17 @@ fn writes(made: &Move, event: Option<u64>, read: &Source, distance: u64) -> bool
     is_earlier(made, event) && covers(&made.to, read, distance)
 }
 
-/// Whether none of the moves from one number to another does.
+/// Whether none of the moves from a number on does.
 fn none_writes(
     moves: &[Move],
     first: usize,
-    bound: usize,
     event: Option<u64>,
     read: &Source,
     distance: u64,
 ) -> bool
-    requires { bound ≤ length moves.now }
-    ensures { MatchBool result (NoneBetween moves.now first bound event read.now distance) (NoneBetween moves.now first bound event read.now distance → ⊥) }
+    ensures { MatchBool result (NoneAfter moves.now first event read.now distance) (NoneAfter moves.now first event read.now distance → ⊥) }
 {
-    for number in first..bound {
+    for number in first..moves.len() {
         if writes(&moves[number], event, read, distance) {
             return false;
         }
@@ -91,26 +89,24 @@ fn none_writes(
     true
 }
 
-/// Whether a hop's move is the last one, of the moves before a number and of the steps before one, that writes what is read.
+/// Whether a hop's move is the last one, of the steps before one, that writes what is read.
 fn is_next(
     moves: &[Move],
-    bound: usize,
     event: Option<u64>,
     read: &Source,
     distance: u64,
     hop: Hop,
 ) -> bool
-    requires { bound ≤ length moves.now }
-    ensures { MatchBool result (IsNext moves.now bound event read.now distance hop) (IsNext moves.now bound event read.now distance hop → ⊥) }
+    ensures { MatchBool result (IsNext moves.now event read.now distance hop) (IsNext moves.now event read.now distance hop → ⊥) }
 {
     let index = hop.index as usize;
-    if bound <= index {
+    if moves.len() <= index {
         return false;
     }
     let made = &moves[index];
     is_earlier(made, event)
         && reaches(&made.to, hop.byte, read, distance)
-        && none_writes(moves, index + 1, bound, event, read, distance)
+        && none_writes(moves, index + 1, event, read, distance)
 }
 
 /// The distance of what a byte of a target comes from.
@@ -129,25 +125,23 @@ fn is_root(source: &Source) -> bool
     matches!(source, Source::Root { .. })
 }
 
-/// Whether hops lead to what a use reads: each is the last move that wrote what the next one reads, and the first one reads a root.
-/// Linear in the number of moves. It takes no memory.
+/// Whether hops lead to what a use reads: each is the last move, of the steps before the next one's, that wrote what the next one
+/// reads, and the first one reads a root. The moves may stand in any order. It takes no memory; each hop takes a pass over the moves
+/// after its own.
 pub fn check_trail(moves: &[Move], at: &Source, hops: &[Hop]) -> bool
-    requires { Ascending moves.now }
     ensures { MatchBool result (Leads moves.now at.now hops.now) (Leads moves.now at.now hops.now → ⊥) }
 {
     let mut read = at;
     let mut distance = 0;
     let mut event = None;
-    let mut bound = moves.len();
     let mut left = hops.len();
     while 0 < left {
         left -= 1;
         let hop = hops[left];
-        if !is_next(moves, bound, event, read, distance, hop) {
+        if !is_next(moves, event, read, distance, hop) {
             return false;
         }
-        bound = hop.index as usize;
-        let made = &moves[bound];
+        let made = &moves[hop.index as usize];
         event = Some(made.event);
         distance = distance_of(&made.to, hop.byte);
         read = &made.from;

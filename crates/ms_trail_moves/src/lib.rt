@@ -6,5 +6,6 @@ pub mod back;
 pub mod checks;
 pub mod edges;
 pub mod moves;
+pub mod searching;
 pub mod sources;
 pub mod ways;
