@@ -42,6 +42,7 @@ pub enum Takes {
     Number { least: u64, most: u64 },
 }
 
+/// The commands, in the order of the usage.
 pub static COMMANDS: [CommandName; 6] = [
     CommandName::Instrument,
     CommandName::Run,
@@ -65,8 +66,10 @@ pub static OPTIONS: [OptionName; 10] = [
     OptionName::Where,
 ];
 
+/// The options of `instrument`, and those that most commands must have: none.
 static NO_OPTIONS: [OptionName; 0] = [];
 
+/// The options of `run` and `check`.
 static RUN_OPTIONS: [OptionName; 6] = [
     OptionName::Input,
     OptionName::Fill,
@@ -76,6 +79,7 @@ static RUN_OPTIONS: [OptionName; 6] = [
     OptionName::Where,
 ];
 
+/// Those of `explain`.
 static EXPLAIN_OPTIONS: [OptionName; 4] = [
     OptionName::Input,
     OptionName::Fill,
@@ -83,6 +87,7 @@ static EXPLAIN_OPTIONS: [OptionName; 4] = [
     OptionName::Where,
 ];
 
+/// Those of `corpus`.
 static CORPUS_OPTIONS: [OptionName; 5] = [
     OptionName::Workers,
     OptionName::Fill,
@@ -91,8 +96,10 @@ static CORPUS_OPTIONS: [OptionName; 5] = [
     OptionName::Where,
 ];
 
+/// Those of `gen`.
 static GEN_OPTIONS: [OptionName; 3] = [OptionName::Seed, OptionName::Functions, OptionName::Run];
 
+/// The ones that `gen` must have.
 static GEN_WANTED: [OptionName; 2] = [OptionName::Seed, OptionName::Functions];
 
 impl CommandName {
