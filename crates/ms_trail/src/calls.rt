@@ -45,7 +45,7 @@ pub(crate) fn argument_masks(
     Ok(masks)
 }
 
-/// The masks of a call's values: those of its arguments, and none after.
+/// Makes the masks of a call's arguments those of all its values: the others are clean.
 fn clean_after(masks: &mut Vec<u64>, values: usize) -> Result<(), NoMemory>
     requires { length masks.old.items ≤ values }
     ensures { OnOk result (masks.new.items ≡ masks.old.items ++ replicate (values - length masks.old.items) 0) }
@@ -88,7 +88,7 @@ fn tell_params(
     Ok(())
 }
 
-/// The last of kept frames.
+/// The caller's frame, the last of those below.
 fn last_kept(below: &[Frame]) -> &Frame
     requires { 0 < length below.now }
     ensures { slice_get below.now (length below.now - 1) ≡ Some result.now }

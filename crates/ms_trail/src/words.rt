@@ -1,4 +1,5 @@
-//! Moves of words, as they are told: one where the word is poisoned.
+//! Moves of words, each told to the log where the word is poisoned: its mask isn't 0. `frame` is the number of the call in which the
+//! word is set.
 ghost use Rattle.std.specs.Prelude.{◌≡◌, ◌≤◌, ◌<◌, ◌+◌, ◌^◌, ◌++◌, [], ◌∷◌, List, OnOk, unwrap_or};
 ghost use Rattle.ms_ir.specs.{declared.syntax.Name.{Name as NameOf}, declared.syntax.Ty.{Ty as TyOf}};
 ghost use Rattle.ms_ir.specs.{declared.syntax.Operand.{Operand as OperandOf}, Instructions.{operands, count_undefs}};
@@ -19,7 +20,7 @@ use ms_trail_moves::sources::source_at;
 use ms_trail_uses::tables::InstRow;
 use std::alloc::Global;
 
-/// A word moves from a source to a place.
+/// Logs a move from a source to a place, in the step of a stamp.
 fn tell(log: &mut Log, stamp: Stamp, from: Source, to: Target) -> Result<(), NoMemory>
     requires { log.old.count + 1 < 2 ^ 64 }
     ensures told { (moves : List MoveOf) → IsLog log.old moves → OnOk result (IsLog log.new (moves ++ record { event = stamp.event; site = stamp.site; from = from; to = to } ∷ [])) }
