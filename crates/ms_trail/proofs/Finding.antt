@@ -223,7 +223,7 @@ module _ (m : Module) (u : Setup) (t : Traced) (f : TracedRun) (o : IsFollowed m
   passes_clean one clean =
       found_none listed.row row_there one None
       (λ w shows. sym (
-        ap (λ (j : Inst). code_read f.fill.now f.fiber.frame.values.items f.shade.masks.items w j.op k) listed.is.inst_is
-        ∙ clean_unused f.fill.now f.fiber.frame.values.items f.shade.masks.items (where_is m due_here.frame.func due_here.coded.func due_here.frame.block) w k i due_here.coded.encodes clean
+      ap (λ (j : Inst). code_read f.fill.now f.fiber.frame.values.items f.shade.masks.items w j.op k) listed.is.inst_is
+      ∙ clean_unused f.fill.now f.fiber.frame.values.items f.shade.masks.items (where_is m due_here.frame.func due_here.coded.func due_here.frame.block) w k i due_here.coded.encodes clean
       ))
       refl
