@@ -14,8 +14,8 @@ returns-then-mask-eq0-clause-told c = λ moves is.
     let a = c.args in
     returned_none a.log.now moves a.stamp.event a.stamp.site a.frame a.inst.now.result a.mask (source_at a.from (sources a.inner (operands a.row.inst.now.op) a.row.roots)) c.if-mask-eq0.true is
 
-pub returns-in-Some-clause-told : goal.returns-in-Some-clause-told
-returns-in-Some-clause-told c = λ moves is.
+pub returns-in_ok-to-in-Some-clause-told : goal.returns-in_ok-to-in-Some-clause-told
+returns-in_ok-to-in-Some-clause-told c = λ moves is.
     let a = c.args in
     on_ok_weaker c.tell.result
     (returned_one c.tell.new.log moves a.stamp.event a.stamp.site a.frame a.inst.now.result _ a.mask (source_at a.from (sources a.inner (operands a.row.inst.now.op) a.row.roots)) c.in_ok-moved-in-Some.moved c.in_ok-to-in-Some.to c.in-Some.is c.if-mask-eq0.false
