@@ -1,7 +1,9 @@
 -- What is left beside a run that went on with zeros after a beginning, pick by pick.
-use Rattle.std.proofs.Common.{◌≡◌, ◌+◌, ◌-◌, ℕ, zero, suc, List, [], ◌∷◌, ◌++◌, length, map, drop, refl, sym, ap, ◌∙◌, arith}
+use Rattle.std.proofs.Common.{◌≡◌, ◌<◌, ◌≤◌, ◌+◌, ◌-◌, ℕ, zero, suc, List, [], ◌∷◌, ◌++◌, length, map, drop, get_or, refl, sym, ap, ◌∙◌, arith}
 use Rattle.ms_threads_schedules_laws.specs.Picks.{Pick}
-use Rattle.ms_threads_schedules_laws.specs.Trees.{Begins, above, below, others, branches}
+use Rattle.ms_threads_schedules_laws.specs.Trees.{Begins, Chosen, above, below, others, branches}
+use Rattle.ms_threads.specs.declared.recorder.Pick.{Pick as Kept}
+use Rattle.ms_threads.specs.Recording.{pick_of}
 use Rattle.ms_threads_schedules_laws.specs.Exploration.{zeros}
 use Rattle.ms_threads_explore.specs.Beginnings.{longer_by, AllZero, rows}
 
@@ -64,3 +66,33 @@ pub branches_after : (told : List ℕ) (ps : List Pick) → Begins told ps → A
 branches_after told ps h zero_after =
     branches_in told ps h ∙ zero_rows told 0 (drop (length told) ps) zero_after
     ∙ ap (λ k. rows told k (drop (length told) ps)) (let e : length told + 0 ≡ length told = omega arith in e)
+
+-- ---- pick by pick
+
+pub start_rows : (told : List ℕ) (ps : List Pick) (place : ℕ) (before : List (List ℕ)) → place ≡ length told → Begins told ps → AllZero (drop (length told) ps)
+    → before ++ rows told place (drop place ps) ≡ before ++ branches told ps
+start_rows told ps place before e h zero_after =
+    ap (λ k. before ++ rows told k (drop k ps)) e ∙ ap (λ l. before ++ l) (sym (branches_after told ps h zero_after))
+
+pub chosen_some : (ps : List Kept) (k : ℕ) (d : Kept) → Chosen (map pick_of ps) → k < length ps → 1 ≤ (get_or ps k d).among
+chosen_some [] k d h lt = absurd (omega (arith, lt))
+chosen_some (p ∷ ps) zero d h lt = let few = h.0 in omega (arith, few)
+chosen_some (p ∷ ps) (suc k) d h lt = chosen_some ps k d h.1 (omega (arith, lt))
+
+drop_suc : (ps : List Kept) (k : ℕ) (d : Kept) → k < length ps → drop k (map pick_of ps) ≡ pick_of (get_or ps k d) ∷ drop (suc k) (map pick_of ps)
+drop_suc [] k d lt = absurd (omega (arith, lt))
+drop_suc (p ∷ ps) zero d lt = refl
+drop_suc (p ∷ ps) (suc k) d lt = drop_suc ps k d (omega (arith, lt))
+
+lists_assoc : {X : Type 0} (xs ys zs : List X) → (xs ++ ys) ++ zs ≡ xs ++ (ys ++ zs)
+lists_assoc [] ys zs = refl
+lists_assoc (x ∷ xs) ys zs = ap (λ l. x ∷ l) (lists_assoc xs ys zs)
+
+pub next_rows : (told : List ℕ) (place : ℕ) (picks : List Kept) (d : Kept) (before after whole : List (List ℕ)) → place < length picks
+    → after ≡ before ++ map (longer_by told place) (above 0 ((get_or picks place d).among - 1)) → before ++ rows told place (drop place (map pick_of picks)) ≡ whole
+    → after ++ rows told (place + 1) (drop (place + 1) (map pick_of picks)) ≡ whole
+next_rows told place picks d before after whole lt e so =
+    ap (λ l. l ++ rows told (place + 1) (drop (place + 1) (map pick_of picks))) e
+    ∙ lists_assoc before (map (longer_by told place) (above 0 ((get_or picks place d).among - 1))) (rows told (place + 1) (drop (place + 1) (map pick_of picks)))
+    ∙ ap (λ n. before ++ (map (longer_by told place) (above 0 ((get_or picks place d).among - 1)) ++ rows told (place + 1) (drop n (map pick_of picks)))) (let z : place + 1 ≡ suc place = omega arith in z)
+    ∙ sym (ap (λ l. before ++ rows told place l) (drop_suc picks place d lt)) ∙ so

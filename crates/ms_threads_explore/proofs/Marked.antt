@@ -165,3 +165,20 @@ push_told told place among n before queue b some le is so =
 
 pub push_is : (queue : List Beginning) (b : Beginning) → Everywhere IsBeginning queue → IsBeginning b → Everywhere IsBeginning (queue ++ b ∷ [])
 push_is queue b h is = every_more IsBeginning queue b h is
+
+-- how many numbers there are up to a mark
+pub next_count : (ms : List Mark) (k : ℕ) (x : Mark) → x ≡ get_or ms k x → InOrder 0 ms → k < length ms → x.place + 1 ≡ length (told_from 0 (take (k + 1) ms))
+next_count ms k x is h lt =
+    let m : Mark = get_or ms k x in
+    let p = place_after 0 ms k x h lt in
+    let le = p.0 in
+    let told : List ℕ = told_from 0 (take k ms) in
+    let all : told_from 0 (take (k + 1) ms) ≡ told ++ (zeros (m.place - length told) ++ m.number ∷ []) =
+    ap (λ n. told_from 0 (take n ms)) (let e : k + 1 ≡ suc k = omega arith in e) ∙ ap (told_from 0) (take_more ms k x lt) ∙ longer_told (take k ms) m (first_order 0 ms k h) in
+    let whole : length (told ++ (zeros (m.place - length told) ++ m.number ∷ [])) ≡ length told + length (zeros (m.place - length told) ++ m.number ∷ []) = length-append told (zeros (m.place - length told) ++ m.number ∷ []) in
+    let inner : length (zeros (m.place - length told) ++ m.number ∷ []) ≡ length (zeros (m.place - length told)) + length (m.number ∷ []) = length-append (zeros (m.place - length told)) (m.number ∷ []) in
+    let z = length_zeros (m.place - length told) in
+    let one : length (m.number ∷ []) ≡ 1 = omega arith in
+    let same : x.place ≡ m.place = ap (λ (y : Mark). y.place) is in
+    let count : length (told_from 0 (take (k + 1) ms)) ≡ length (told ++ (zeros (m.place - length told) ++ m.number ∷ [])) = ap length all in
+    omega (arith, count, whole, inner, z, one, same, le)

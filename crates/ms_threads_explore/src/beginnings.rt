@@ -1,10 +1,12 @@
 //! Beginnings of picks, each kept as its few numbers other than 0.
-ghost use Rattle.std.specs.Prelude.{◌≡◌, ◌<◌, ◌≤◌, ◌-◌, [], ◌++◌, length, map, IfOk, OnOk};
+ghost use Rattle.std.specs.Prelude.{◌≡◌, ◌<◌, ◌≤◌, ◌-◌, [], ◌++◌, length, drop, map, IfOk, OnOk};
 ghost use Rattle.ms_threads_schedules_laws.specs.Exploration.{schedule_limit, padded};
-ghost use Rattle.ms_threads_schedules_laws.specs.Trees.{above, Everywhere};
-ghost use Rattle.ms_threads_explore.specs.Beginnings.{IsBeginning, told_of, longer_by};
+ghost use Rattle.ms_threads_schedules_laws.specs.Trees.{Begins, Chosen, above, branches, Everywhere};
+ghost use Rattle.ms_threads.specs.Recording.{pick_of};
+ghost use Rattle.ms_threads_explore.specs.Beginnings.{IsBeginning, AllZero, told_of, longer_by};
 
 use ms_bits::NoMemory;
+use ms_threads::Pick;
 use std::alloc::Global;
 
 /// How many numbers a schedule may have, and how many picks are varied.
@@ -48,6 +50,18 @@ impl Beginning {
         Ok(Beginning { marks })
     }
 
+    /// How many numbers it has.
+    fn count(&self) -> usize
+        requires { IsBeginning self.now }
+        ensures { result ≡ length (told_of self.now) }
+    {
+        let mut count = 0;
+        for k in 0..self.marks.len() {
+            count = self.marks[k].place as usize + 1;
+        }
+        count
+    }
+
     /// The beginning as a schedule: zeros come after it. Linear in the limit.
     pub fn schedule(&self) -> [u8; 2048]
         requires { IsBeginning self.now }
@@ -82,6 +96,28 @@ pub fn push_others(
     while number > 1 {
         number -= 1;
         queue.push(told.longer(alloc, place, number)?)?;
+    }
+    Ok(())
+}
+
+/// Puts behind a queue what a run leaves that began as told and went on with zeros: for each later pick the beginnings with another
+/// number for it, in order of picks.
+pub fn push_branches(
+    alloc: Global,
+    queue: &mut Vec<Beginning>,
+    told: &Beginning,
+    picks: &[Pick],
+) -> Result<(), NoMemory>
+    requires is { IsBeginning told.now }
+    requires few { length picks.now ≤ schedule_limit }
+    requires begins { Begins (told_of told.now) (map pick_of picks.now) }
+    requires zeros { AllZero (drop (length (told_of told.now)) (map pick_of picks.now)) }
+    requires chosen { Chosen (map pick_of picks.now) }
+    ensures told { OnOk result (map told_of queue.new.items ≡ map told_of queue.old.items ++ branches (told_of told.now) (map pick_of picks.now)) }
+    ensures are { OnOk result (Everywhere IsBeginning queue.old.items → Everywhere IsBeginning queue.new.items) }
+{
+    for place in told.count()..picks.len() {
+        push_others(alloc, queue, told, place as u16, picks[place].among)?;
     }
     Ok(())
 }
