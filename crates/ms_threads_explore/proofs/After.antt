@@ -2,7 +2,7 @@
 use Rattle.std.proofs.Common.{◌≡◌, ◌<◌, ◌≤◌, ◌+◌, ◌-◌, ℕ, zero, suc, List, [], ◌∷◌, ◌++◌, length, map, drop, get_or, refl, sym, ap, ◌∙◌, arith}
 use Rattle.ms_threads_schedules_laws.specs.Picks.{Pick}
 use Rattle.ms_threads_schedules_laws.specs.Trees.{Begins, Chosen, above, below, others, branches}
-use Rattle.ms_threads.specs.declared.recorder.Pick.{Pick as Kept}
+use Rattle.ms_threads.specs.declared.recorder.Choice.{Choice as Kept}
 use Rattle.ms_threads.specs.Recording.{pick_of}
 use Rattle.ms_threads_schedules_laws.specs.Exploration.{zeros}
 use Rattle.ms_threads_explore.specs.Beginnings.{longer_by, AllZero, rows}

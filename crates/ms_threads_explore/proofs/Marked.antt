@@ -2,7 +2,7 @@
 use Rattle.std.proofs.Common.{◌≡◌, ◌<◌, ◌≤◌, ◌+◌, ◌-◌, ℕ, zero, suc, List, [], ◌∷◌, ◌++◌, length, map, take, get_or, set, refl, sym, ap, ◌∙◌, subst, arith}
 use Rattle.std.proofs.lemmas.List.{length-append}
 use Rattle.ms_threads_schedules_laws.specs.Exploration.{schedule_limit, zeros, padded}
-use Rattle.ms_threads_explore.specs.declared.beginnings.Mark.{Mark}
+use Rattle.ms_threads_explore.specs.declared.beginnings.NumberAt.{NumberAt}
 use Rattle.ms_threads_schedules_laws.specs.Trees.{above, Everywhere}
 use Rattle.ms_threads_explore.specs.declared.beginnings.Beginning.{Beginning}
 use Rattle.ms_threads_explore.specs.Beginnings.{told_from, told_of, InOrder, IsBeginning, longer_by}
@@ -16,14 +16,14 @@ length_zeros zero = refl
 length_zeros (suc n) = ap suc (length_zeros n)
 
 -- how far the first numbers reach
-reach : (f : ℕ) (m : Mark) (l : List ℕ) → f ≤ m.place → f + length (zeros (m.place - f) ++ m.number ∷ l) ≡ m.place + 1 + length l
+reach : (f : ℕ) (m : NumberAt) (l : List ℕ) → f ≤ m.place → f + length (zeros (m.place - f) ++ m.number ∷ l) ≡ m.place + 1 + length l
 reach f m l le =
     let e : length (zeros (m.place - f) ++ m.number ∷ l) ≡ length (zeros (m.place - f)) + length (m.number ∷ l) = length-append (zeros (m.place - f)) (m.number ∷ l) in
     let z = length_zeros (m.place - f) in
     let s : length (m.number ∷ l) ≡ length l + 1 = omega arith in
     omega (arith, e, z, s, le)
 
-told_more : (f : ℕ) (xs : List Mark) (m : Mark) → InOrder f xs → told_from f (xs ++ m ∷ []) ≡ told_from f xs ++ (zeros (m.place - (f + length (told_from f xs))) ++ m.number ∷ [])
+told_more : (f : ℕ) (xs : List NumberAt) (m : NumberAt) → InOrder f xs → told_from f (xs ++ m ∷ []) ≡ told_from f xs ++ (zeros (m.place - (f + length (told_from f xs))) ++ m.number ∷ [])
 told_more f [] m h = ap (λ n. zeros (m.place - n) ++ m.number ∷ []) (let e : f ≡ f + 0 = omega arith in e)
 told_more f (x ∷ xs) m h =
     ap (λ l. zeros (x.place - f) ++ x.number ∷ l) (told_more (x.place + 1) xs m h.2)
@@ -56,7 +56,7 @@ put_padded told place v le lt =
     ap (λ k. set (told ++ zeros n) k v) at ∙ put_after told n d v few ∙ ap (λ k. (told ++ (zeros d ++ v ∷ [])) ++ zeros k) rest
 
 -- where the next mark stands
-place_after : (f : ℕ) (ms : List Mark) (k : ℕ) (x : Mark) → InOrder f ms → k < length ms
+place_after : (f : ℕ) (ms : List NumberAt) (k : ℕ) (x : NumberAt) → InOrder f ms → k < length ms
     → (f + length (told_from f (take k ms)) ≤ (get_or ms k x).place) × ((get_or ms k x).place < schedule_limit)
 place_after f [] k x h lt = absurd (omega (arith, lt))
 place_after f (m ∷ ms) zero x h lt = (let le = h.0 in omega (arith, le), h.1)
@@ -71,15 +71,15 @@ take_more [] k x lt = absurd (omega (arith, lt))
 take_more (m ∷ ms) zero x lt = refl
 take_more (m ∷ ms) (suc k) x lt = ap (λ l. m ∷ l) (take_more ms k x (omega (arith, lt)))
 
-first_order : (f : ℕ) (ms : List Mark) (k : ℕ) → InOrder f ms → InOrder f (take k ms)
+first_order : (f : ℕ) (ms : List NumberAt) (k : ℕ) → InOrder f ms → InOrder f (take k ms)
 first_order f ms zero h = tt
 first_order f [] (suc k) h = tt
 first_order f (m ∷ ms) (suc k) h = (h.0, h.1, first_order (m.place + 1) ms k h.2)
 
-pub next_within : (ms : List Mark) (k : ℕ) (x : Mark) → x ≡ get_or ms k x → InOrder 0 ms → k < length ms → x.place < schedule_limit
-next_within ms k x is h lt = subst (λ (m : Mark). m.place < schedule_limit) (sym is) (place_after 0 ms k x h lt).1
+pub next_within : (ms : List NumberAt) (k : ℕ) (x : NumberAt) → x ≡ get_or ms k x → InOrder 0 ms → k < length ms → x.place < schedule_limit
+next_within ms k x is h lt = subst (λ (m : NumberAt). m.place < schedule_limit) (sym is) (place_after 0 ms k x h lt).1
 
-put_so : (ms : List Mark) (k : ℕ) (x : Mark) → InOrder 0 ms → k < length ms → set (padded (told_from 0 (take k ms))) (get_or ms k x).place (get_or ms k x).number ≡ padded (told_from 0 (take (suc k) ms))
+put_so : (ms : List NumberAt) (k : ℕ) (x : NumberAt) → InOrder 0 ms → k < length ms → set (padded (told_from 0 (take k ms))) (get_or ms k x).place (get_or ms k x).number ≡ padded (told_from 0 (take (suc k) ms))
 put_so ms k x h lt =
     let p = place_after 0 ms k x h lt in
     let le = p.0 in
@@ -87,24 +87,24 @@ put_so ms k x h lt =
     ∙ ap padded (ap (λ n. told_from 0 (take k ms) ++ (zeros ((get_or ms k x).place - n) ++ (get_or ms k x).number ∷ [])) (let e : length (told_from 0 (take k ms)) ≡ 0 + length (told_from 0 (take k ms)) = omega arith in e)
     ∙ sym (told_more 0 (take k ms) (get_or ms k x) (first_order 0 ms k h)) ∙ ap (told_from 0) (sym (take_more ms k x lt)))
 
-pub next_put : (ms : List Mark) (k : ℕ) (x : Mark) (schedule : List ℕ) → x ≡ get_or ms k x → InOrder 0 ms → k < length ms → schedule ≡ padded (told_from 0 (take k ms))
+pub next_put : (ms : List NumberAt) (k : ℕ) (x : NumberAt) (schedule : List ℕ) → x ≡ get_or ms k x → InOrder 0 ms → k < length ms → schedule ≡ padded (told_from 0 (take k ms))
     → set schedule x.place x.number ≡ padded (told_from 0 (take (k + 1) ms))
 next_put ms k x schedule is h lt so =
-    ap (λ l. set l x.place x.number) so ∙ ap (λ (m : Mark). set (padded (told_from 0 (take k ms))) m.place m.number) is ∙ put_so ms k x h lt
+    ap (λ l. set l x.place x.number) so ∙ ap (λ (m : NumberAt). set (padded (told_from 0 (take k ms))) m.place m.number) is ∙ put_so ms k x h lt
     ∙ ap (λ n. padded (told_from 0 (take n ms))) (let e : suc k ≡ k + 1 = omega arith in e)
 
 -- ---- one mark more
 
-order_more : (f : ℕ) (xs : List Mark) (m : Mark) → InOrder f xs → f + length (told_from f xs) ≤ m.place → m.place < schedule_limit → InOrder f (xs ++ m ∷ [])
+order_more : (f : ℕ) (xs : List NumberAt) (m : NumberAt) → InOrder f xs → f + length (told_from f xs) ≤ m.place → m.place < schedule_limit → InOrder f (xs ++ m ∷ [])
 order_more f [] m h le lt = (omega (arith, le), lt, tt)
 order_more f (x ∷ xs) m h le lt =
     let e = reach f x (told_from (x.place + 1) xs) h.0 in
     (h.0, h.1, order_more (x.place + 1) xs m h.2 (omega (arith, e, le)) lt)
 
-pub longer_order : (xs : List Mark) (m : Mark) → InOrder 0 xs → length (told_from 0 xs) ≤ m.place → m.place < schedule_limit → InOrder 0 (xs ++ m ∷ [])
+pub longer_order : (xs : List NumberAt) (m : NumberAt) → InOrder 0 xs → length (told_from 0 xs) ≤ m.place → m.place < schedule_limit → InOrder 0 (xs ++ m ∷ [])
 longer_order xs m h le lt = order_more 0 xs m h (omega (arith, le)) lt
 
-pub longer_told : (xs : List Mark) (m : Mark) → InOrder 0 xs → told_from 0 (xs ++ m ∷ []) ≡ told_from 0 xs ++ (zeros (m.place - length (told_from 0 xs)) ++ m.number ∷ [])
+pub longer_told : (xs : List NumberAt) (m : NumberAt) → InOrder 0 xs → told_from 0 (xs ++ m ∷ []) ≡ told_from 0 xs ++ (zeros (m.place - length (told_from 0 xs)) ++ m.number ∷ [])
 longer_told xs m h =
     told_more 0 xs m h
     ∙ ap (λ n. told_from 0 xs ++ (zeros (m.place - n) ++ m.number ∷ [])) (let e : 0 + length (told_from 0 xs) ≡ length (told_from 0 xs) = omega arith in e)
@@ -167,9 +167,9 @@ pub push_is : (queue : List Beginning) (b : Beginning) → Everywhere IsBeginnin
 push_is queue b h is = every_more IsBeginning queue b h is
 
 -- how many numbers there are up to a mark
-pub next_count : (ms : List Mark) (k : ℕ) (x : Mark) → x ≡ get_or ms k x → InOrder 0 ms → k < length ms → x.place + 1 ≡ length (told_from 0 (take (k + 1) ms))
+pub next_count : (ms : List NumberAt) (k : ℕ) (x : NumberAt) → x ≡ get_or ms k x → InOrder 0 ms → k < length ms → x.place + 1 ≡ length (told_from 0 (take (k + 1) ms))
 next_count ms k x is h lt =
-    let m : Mark = get_or ms k x in
+    let m : NumberAt = get_or ms k x in
     let p = place_after 0 ms k x h lt in
     let le = p.0 in
     let told : List ℕ = told_from 0 (take k ms) in
@@ -179,6 +179,6 @@ next_count ms k x is h lt =
     let inner : length (zeros (m.place - length told) ++ m.number ∷ []) ≡ length (zeros (m.place - length told)) + length (m.number ∷ []) = length-append (zeros (m.place - length told)) (m.number ∷ []) in
     let z = length_zeros (m.place - length told) in
     let one : length (m.number ∷ []) ≡ 1 = omega arith in
-    let same : x.place ≡ m.place = ap (λ (y : Mark). y.place) is in
+    let same : x.place ≡ m.place = ap (λ (y : NumberAt). y.place) is in
     let count : length (told_from 0 (take (k + 1) ms)) ≡ length (told ++ (zeros (m.place - length told) ++ m.number ∷ [])) = ap length all in
     omega (arith, count, whole, inner, z, one, same, le)

@@ -3,16 +3,16 @@ use Rattle.std.specs.Prelude.{◌≡◌, ◌<◌, ◌≤◌, ◌+◌, ◌-◌, �
 use Rattle.ms_threads_schedules_laws.specs.Picks.{Pick}
 use Rattle.ms_threads_schedules_laws.specs.Trees.{above}
 use Rattle.ms_threads_schedules_laws.specs.Exploration.{schedule_limit, zeros}
-use Rattle.ms_threads_explore.specs.declared.beginnings.Mark.{Mark}
+use Rattle.ms_threads_explore.specs.declared.beginnings.NumberAt.{NumberAt}
 use Rattle.ms_threads_explore.specs.declared.beginnings.Beginning.{Beginning}
 
 -- the numbers from a place on
-abbrev pub told_from : ℕ → List Mark → List ℕ
+abbrev pub told_from : ℕ → List NumberAt → List ℕ
 told_from from [] = []
 told_from from (m ∷ ms) = zeros (m.place - from) ++ m.number ∷ told_from (m.place + 1) ms
 
 -- marks stand one after the other from a place on, within a schedule
-abbrev pub InOrder : ℕ → List Mark → Type 0
+abbrev pub InOrder : ℕ → List NumberAt → Type 0
 InOrder from [] = Unit {0}
 InOrder from (m ∷ ms) = (from ≤ m.place) × (m.place < schedule_limit) × InOrder (m.place + 1) ms
 

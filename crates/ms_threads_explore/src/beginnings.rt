@@ -6,7 +6,7 @@ ghost use Rattle.ms_threads.specs.Recording.{pick_of};
 ghost use Rattle.ms_threads_explore.specs.Beginnings.{IsBeginning, AllZero, told_of, longer_by};
 
 use ms_bits::NoMemory;
-use ms_threads::Pick;
+use ms_threads::Choice;
 use std::alloc::Global;
 
 /// How many numbers a schedule may have, and how many picks are varied.
@@ -14,7 +14,7 @@ const LIMIT: usize = 2048;
 
 /// A number of a beginning other than 0, and the pick that it is for, counted from 0.
 #[derive(Clone, Copy, Debug, PartialEq, Eq)]
-pub struct Mark {
+pub struct NumberAt {
     pub place: u16,
     pub number: u8,
 }
@@ -22,7 +22,7 @@ pub struct Mark {
 /// A beginning of picks: its numbers up to the last that isn't 0.
 #[derive(Drop)]
 pub struct Beginning {
-    pub marks: Vec<Mark>,
+    pub marks: Vec<NumberAt>,
 }
 
 impl Beginning {
@@ -46,7 +46,7 @@ impl Beginning {
     {
         let mut marks = Vec::new(alloc);
         marks.extend_from_slice(self.marks.as_slice())?;
-        marks.push(Mark { place, number })?;
+        marks.push(NumberAt { place, number })?;
         Ok(Beginning { marks })
     }
 
@@ -106,7 +106,7 @@ pub fn push_branches(
     alloc: Global,
     queue: &mut Vec<Beginning>,
     told: &Beginning,
-    picks: &[Pick],
+    picks: &[Choice],
 ) -> Result<(), NoMemory>
     requires is { IsBeginning told.now }
     requires few { length picks.now ≤ schedule_limit }

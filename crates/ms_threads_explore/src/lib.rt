@@ -3,4 +3,4 @@
 
 mod beginnings;
 
-pub use beginnings::{Beginning, Mark};
+pub use beginnings::{Beginning, NumberAt};
