@@ -8,7 +8,7 @@ use Rattle.ms_threads_schedules_laws.specs.Exploration.{schedule_limit, padded, 
 use Rattle.ms_threads_schedules_laws.specs.Promise.{last_or}
 use Rattle.ms_threads.specs.declared.recorder.Choice.{Choice}
 use Rattle.ms_threads_explore.specs.Beginnings.{IsBeginning, AllZero, told_of}
-use Rattle.ms_threads_explore.specs.Explorations.{is_short, runs_clean, told_length, IsExplored}
+use Rattle.ms_threads_explore.specs.Explorations.{is_short, runs_clean, told_length}
 use Rattle.ms_threads_explore.specs.Outcomes.{shown, with_shown, all_shown, kept_by}
 use Rattle.ms_threads_explore.specs.declared.beginnings.Beginning.{Beginning}
 use Rattle.ms_threads_explore.specs.declared.trials.Trial.{Trial}
@@ -80,11 +80,6 @@ module _ (picks : List ℕ → List Pick) (run : List ℕ → RunResult) where
     pub going : IsGoing new
     pub next : old.next < new.next
     pub most : new.most ≡ old.most
-
-  -- what is told of at most so many runs, and that its schedule repeats its run
-  pub record ToldOf (count : ℕ) (e : Explored) : Type 0 where
-    pub explored : IsExplored picks run count e
-    pub repeats : run e.schedule ≡ e.result
 
   -- trials are the runs of the first beginnings of a queue
   abbrev pub AreTrials : List Trial → (queue : List (List ℕ)) → Type 0

@@ -7,7 +7,7 @@ ghost use Rattle.ms_threads_schedules_laws.specs.Picks.{Pick, plain_picks};
 ghost use Rattle.ms_threads_schedules_laws.specs.Exploration.{schedule_limit, padded};
 ghost use Rattle.ms_threads_schedules_laws.specs.{Promise.{is_clean as is_clean_of}, Trees.{Everywhere, branches}};
 ghost use Rattle.ms_threads_explore.specs.Beginnings.{IsBeginning, told_of};
-ghost use Rattle.ms_threads_explore.specs.{Explorations.{told_length}, Trials.{GoesOn, Registered, Tells, IsGoing, GoesFurther, ToldOf, told_at}};
+ghost use Rattle.ms_threads_explore.specs.{Explorations.{told_length, IsExplored}, Trials.{GoesOn, Registered, Tells, IsGoing, GoesFurther, told_at}};
 
 use crate::beginnings::{Beginning, push_branches};
 use crate::explorer::Explored;
@@ -196,7 +196,7 @@ impl Exploration {
         requires limits { WithinLimits setup.now }
         requires some { 1 ≤ workers }
         requires going { IsGoing (plain_picks m.now setup.now) (plain_threads m.now setup.now) self.old }
-        ensures { IfOk result (λ told. MatchOption told (GoesFurther (plain_picks m.now setup.now) (plain_threads m.now setup.now) self.old self.new) (ToldOf (plain_picks m.now setup.now) (plain_threads m.now setup.now) (self.old.most - 1))) }
+        ensures { IfOk result (λ told. MatchOption told (GoesFurther (plain_picks m.now setup.now) (plain_threads m.now setup.now) self.old self.new) (IsExplored (plain_picks m.now setup.now) (plain_threads m.now setup.now) (self.old.most - 1))) }
     {
         let count = self.share(workers);
         let queue = &self.beginnings[self.next..self.next + count];

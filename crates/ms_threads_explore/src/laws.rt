@@ -1,5 +1,5 @@
 //! Laws of what exploring tells. Each is a public function with an empty body, and what it promises is the law.
-ghost use Rattle.std.specs.Prelude.{◌≡◌, ℕ, true, List};
+ghost use Rattle.std.specs.Prelude.{◌≡◌, ◌≤◌, ℕ, true, List};
 ghost use Rattle.ms_ir.specs.declared.syntax.Module.{Module};
 ghost use Rattle.ms_runs.specs.{declared.runs.Setup.{Setup}, declared.runs.RunResult.{RunResult}, Verdict.{Clean, verdict_of}};
 ghost use Rattle.ms_runs.specs.declared.runs.End.{End};
@@ -23,9 +23,8 @@ pub fn outcomes_are_counted()
 
 /// Where the picks and the results under each schedule that isn't empty are the same, what is told is the same.
 pub fn explored_alike()
-    ensures { (picks other : List ℕ → List Pick) → ((schedule : List ℕ) → IsSchedule schedule → picks schedule ≡ other schedule)
-        → (run same : List ℕ → RunResult) → ((schedule : List ℕ) → IsSchedule schedule → run schedule ≡ same schedule)
-        → (count : ℕ) (e : Explored) → IsExplored picks run count e → IsExplored other same count e }
+    ensures { (picks other : List ℕ → List Pick) (run same : List ℕ → RunResult) → ((schedule : List ℕ) → IsSchedule schedule → picks schedule ≡ other schedule)
+        → ((schedule : List ℕ) → IsSchedule schedule → run schedule ≡ same schedule) → (count : ℕ) (e : Explored) → 1 ≤ count → IsExplored picks run count e → IsExplored other same count e }
 {}
 
 /// Where `all` is told of a module's shadow runs and the run that is told is clean, the program prints and ends under each schedule
