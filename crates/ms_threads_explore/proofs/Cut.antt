@@ -15,7 +15,7 @@ use Rattle.ms_threads.specs.Recording.{pick_of, Records}
 use Rattle.ms_threads.specs.declared.recorder.Choice.{Choice}
 use Rattle.ms_threads.specs.declared.recorder.Recorder.{Recorder}
 use Rattle.ms_threads_explore.specs.Beginnings.{told_from, told_of, InOrder, AllZero}
-use Rattle.ms_threads_explore.specs.Trials.{choice_of, trial_by, GoesOn}
+use Rattle.ms_threads_explore.specs.Trials.{choice_of, trial_by, told_at, GoesOn}
 use Rattle.ms_threads_explore.specs.declared.beginnings.Beginning.{Beginning}
 use Rattle.ms_threads_explore.specs.declared.trials.Trial.{Trial}
 use Rattle.ms_threads_explore.specs.declared.beginnings.NumberAt.{NumberAt}
@@ -98,6 +98,11 @@ trial_so picks run schedule own r recorder kept same is records items =
 -- a beginning by its place
 pub told_there : (queue : List Beginning) (k : ℕ) (b : Beginning) → k < length queue → b ≡ slice_index_or queue k b → told_of b ≡ unwrap_or (slice_get (map told_of queue) k) []
 told_there queue k b lt is = sym (ap (λ o. unwrap_or o []) (slice_get-map told_of queue k ∙ ap (option_map told_of) (slice_get_read queue (length queue) k b refl lt is)))
+
+pub told_place : (queue : List Beginning) (k : ℕ) (b : Beginning) → k < length queue → b ≡ get_or queue k b → told_of b ≡ told_at queue k
+told_place [] k b lt is = absurd (omega (arith, lt))
+told_place (x ∷ queue) zero b lt is = ap told_of is
+told_place (x ∷ queue) (suc k) b lt is = told_place queue k b (omega (arith, lt)) is
 
 -- no more picks are kept than a schedule may have numbers
 pub kept_few : (picks : List ℕ → List Pick) (run : List ℕ → RunResult) (schedule : List ℕ) (t : Trial) → t ≡ trial_by picks run schedule → length t.picks ≤ schedule_limit

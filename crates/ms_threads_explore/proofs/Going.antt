@@ -118,5 +118,5 @@ module _ (picks : List ℕ → List Pick) (run : List ℕ → RunResult) where
 
         tried : (is_clean (verdict_of t.result) ≡ false) ⊎ ((is_clean (verdict_of t.result) ≡ true) × ((leb (length new.beginnings.items) new.next || leb new.most (new.next + 1)) ≡ true))
             → tried_by picks run count ≡ schedules_run picks (suc old.next)
-        tried (inl no) = tried_failed picks run old going.at going.left new going.more made going.clean count may (clean_is ∙ no)
+        tried (inl unclean) = tried_failed picks run old going.at going.left new going.more made going.clean count may (clean_is ∙ unclean)
         tried (inr both) = tried_over picks run old going.at going.left new going.more made going.clean count may (clean_is ∙ both.0) (over_so picks run old going.at going.left new going.more made count whole both.1)
