@@ -40,7 +40,7 @@ outcomes: 1
 ~
 0
 ====
-# At the yield there are two. First `main` goes on: A, B. By 01 the thread does: B, A; that run is the last.
+# At the yield there are two. First `main` goes on: A, B. By 01, which is the last, the thread does: B, A.
 check --schedules 9 f~
 define ptr @w(ptr %0) {
   %2 = call i32 @putchar(i32 66)
@@ -156,7 +156,7 @@ outcomes: 2
 ~
 0
 ====
-# Five runs, in this order: none, 01, 001, 0001, 0101. At the second creation there are `main` and the first thread, at the first join both threads, after the first one `main` and the second. By 001 the second one is first.
+# Five runs: none, 01, 001, 0001, 0101. By 001 the second thread is picked at the first join, and prints first.
 check --schedules 9 f~
 define ptr @w(ptr %0) {
   %2 = ptrtoint ptr %0 to i64
@@ -252,7 +252,7 @@ outcomes: 2
 ~
 0
 ====
-# 44 runs: with main at the second creation and the first thread there, 33 where `main` goes on and 11 where the thread does; see below. In all six orders of three. The last has 0010101: the first thread at the third creation, the second at the first join, the third at the second one.
+# 44 runs, in all orders of three. The last, 0010101, picks each thread beside `main`: at the third creation, the first join, the second.
 check --schedules 1000000 f~
 define ptr @w(ptr %0) {
   %2 = ptrtoint ptr %0 to i64
@@ -287,7 +287,7 @@ outcomes: 6
 ~
 0
 ====
-# The one before has 001011: the third thread is picked at the first join, after the second.
+# The one before, 001011, picks the third at the first join too.
 check --schedules 43 --workers 3 f~
 define ptr @w(ptr %0) {
   %2 = ptrtoint ptr %0 to i64
@@ -415,7 +415,7 @@ outcomes: 2
 "#;
 
 /// Where `main` yields until a thread has set a flag, each time there is one more choice.
-static ENDLESS: &[u8] = br#"# Each round has four steps, the first yield is reached by step 4: with 20 steps there are picks of two before steps 5, 9, 13 and 17, so 5 runs. In the last one too few steps are left.
+static ENDLESS: &[u8] = br#"# There are picks of two before steps 5, 9, 13 and 17, so 5 runs. In the last one too few steps are left.
 check --steps 20 --schedules 9 f~
 @g = global i32 0
 define ptr @w(ptr %0) {
