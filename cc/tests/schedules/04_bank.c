@@ -1,6 +1,6 @@
 // Two tellers move money between accounts, each movement under a lock. An account is open once its balance stands.
 // schedules: 2000
-// tried: all
+// tried: 34, all
 #include <pthread.h>
 #include <sched.h>
 #include <stdio.h>

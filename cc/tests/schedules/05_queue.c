@@ -1,6 +1,6 @@
 // A producer writes a slot before it counts it; the consumer takes what is counted, and looks three times.
 // schedules: 5000
-// tried: all
+// tried: 125, all
 #include <pthread.h>
 #include <sched.h>
 #include <stdio.h>

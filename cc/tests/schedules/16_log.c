@@ -1,6 +1,6 @@
 // Two threads take an entry of a log each and fill it. The log is printed when both have ended, or as soon as both entries are taken.
 // schedules: 2000
-// tried: all
+// tried: 19, all
 #include <pthread.h>
 #include <sched.h>
 #include <stdio.h>

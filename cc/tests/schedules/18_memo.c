@@ -1,6 +1,6 @@
 // A table of results: an entry that says it is full has its value.
 // schedules: 2000
-// tried: all
+// tried: 19, all
 #include <pthread.h>
 #include <sched.h>
 #include <stdio.h>
