@@ -28,14 +28,11 @@ up_to_same test other (x ∷ xs) h =
 
 every_tried : (P : List ℕ → Type 0) (test : List ℕ → Bool) (xs : List (List ℕ)) → Everywhere P xs → Everywhere P (up_to_first test xs)
 every_tried P test [] h = tt
-every_tried P test (x ∷ xs) h = by (test x)
+every_tried P test (x ∷ xs) h = by (every_tried P test xs h.1) (test x)
   where
-    rest : Everywhere P (up_to_first test xs)
-    rest = every_tried P test xs h.1
-
-    by : (b : Bool) → Everywhere P (if b then x ∷ up_to_first test xs else x ∷ [])
-    by true = (h.0, rest)
-    by false = (h.0, tt)
+    by : Everywhere P (up_to_first test xs) → (b : Bool) → Everywhere P (if b then x ∷ up_to_first test xs else x ∷ [])
+    by rest true = (h.0, rest)
+    by rest false = (h.0, tt)
 
 map_alike : {Y : Type 0} (f g : List ℕ → Y) (xs : List (List ℕ)) → Everywhere (λ x. f x ≡ g x) xs → map f xs ≡ map g xs
 map_alike f g [] h = refl
@@ -73,8 +70,8 @@ module _ (p q : List ℕ → List Pick) (run other : List ℕ → RunResult) (pi
 
   alike : (count : ℕ) (e : Explored) → 1 ≤ count → IsExplored p run count e → IsExplored q other count e
   alike count e some is = record {
-    result = is.result ∙ ap run last_alike ∙ runs last last_some;
-    schedule = is.schedule ∙ ap (λ s. take (told_length (length (p s))) s) last_alike ∙ ap (λ (ps : List Pick). take (told_length (length ps)) last) (picks last last_some);
+    result = is.result ∙ ap run last_alike ∙ runs (last_tried q other count) last_some;
+    schedule = is.schedule ∙ ap (λ s. take (told_length (length (p s))) s) last_alike ∙ ap (λ (ps : List Pick). take (told_length (length ps)) (last_tried q other count)) (picks (last_tried q other count) last_some);
     tried = is.tried ∙ ap length (tried_alike count);
     outcomes = is.outcomes ∙ ap (λ l. outcomes_of (map run l)) (tried_alike count)
         ∙ ap outcomes_of (map_alike run other (tried_by q other count) (every_so IsSchedule (λ s. run s ≡ other s) runs (tried_by q other count) (some_tried count)));
@@ -85,13 +82,10 @@ module _ (p q : List ℕ → List Pick) (run other : List ℕ → RunResult) (pi
           (every_so IsSchedule (λ s. is_short p s ≡ is_short q s) (λ s some. ap (λ (ps : List Pick). leb (length ps) schedule_limit) (picks s some)) (tried_by q other count) (some_tried count)));
   }
     where
-      abbrev last : List ℕ
-      last = last_tried q other count
-
-      last_alike : last_tried p run count ≡ last
+      last_alike : last_tried p run count ≡ last_tried q other count
       last_alike = ap (λ l. last_or l []) (tried_alike count)
 
-      last_some : IsSchedule last
+      last_some : IsSchedule (last_tried q other count)
       last_some = let long = last_long q other count some in omega (arith, long)
 
 pub explored_alike : (p q : List ℕ → List Pick) (run other : List ℕ → RunResult) → ((s : List ℕ) → IsSchedule s → p s ≡ q s) → ((s : List ℕ) → IsSchedule s → run s ≡ other s)

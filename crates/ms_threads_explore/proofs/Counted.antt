@@ -116,19 +116,19 @@ record Kept (made kept : List RunResult) : Type 0 where
 
 some_kept : (r : RunResult) (kept : List RunResult) → list_any (same_shown (shown r)) (map shown kept) ≡ true → Somewhere (λ k. SameShown r k) kept
 some_kept r [] e = absurd (true≢false (sym e))
-some_kept r (k ∷ kept) e = by (same_shown (shown r) (shown k)) refl e
+some_kept r (k ∷ kept) e = by (λ h. some_kept r kept h) (same_shown (shown r) (shown k)) refl e
   where
-    by : (b : Bool) → same_shown (shown r) (shown k) ≡ b → (b || list_any (same_shown (shown r)) (map shown kept)) ≡ true → SameShown r k ⊎ Somewhere (λ k. SameShown r k) kept
-    by true is h = inl (same_so r k is)
-    by false is h = inr (some_kept r kept h)
+    by : (list_any (same_shown (shown r)) (map shown kept) ≡ true → Somewhere (λ k. SameShown r k) kept) → (b : Bool) → same_shown (shown r) (shown k) ≡ b → (b || list_any (same_shown (shown r)) (map shown kept)) ≡ true → SameShown r k ⊎ Somewhere (λ k. SameShown r k) kept
+    by rest true is h = inl (same_so r k is)
+    by rest false is h = inr (rest h)
 
 none_kept : (r : RunResult) (kept : List RunResult) → list_any (same_shown (shown r)) (map shown kept) ≡ false → Everywhere (λ k. Everywhere (λ l. SameShown k l → ⊥) (r ∷ [])) kept
 none_kept r [] e = tt
-none_kept r (k ∷ kept) e = by (same_shown (shown r) (shown k)) refl e
+none_kept r (k ∷ kept) e = by (λ h. none_kept r kept h) (same_shown (shown r) (shown k)) refl e
   where
-    by : (b : Bool) → same_shown (shown r) (shown k) ≡ b → (b || list_any (same_shown (shown r)) (map shown kept)) ≡ false → ((SameShown k r → ⊥) × Unit {0}) × Everywhere (λ k. Everywhere (λ l. SameShown k l → ⊥) (r ∷ [])) kept
-    by true is h = absurd (true≢false h)
-    by false is h = ((other_so r k is, tt), none_kept r kept h)
+    by : (list_any (same_shown (shown r)) (map shown kept) ≡ false → Everywhere (λ k. Everywhere (λ l. SameShown k l → ⊥) (r ∷ [])) kept) → (b : Bool) → same_shown (shown r) (shown k) ≡ b → (b || list_any (same_shown (shown r)) (map shown kept)) ≡ false → ((SameShown k r → ⊥) × Unit {0}) × Everywhere (λ k. Everywhere (λ l. SameShown k l → ⊥) (r ∷ [])) kept
+    by rest true is h = absurd (true≢false h)
+    by rest false is h = ((other_so r k is, tt), rest h)
 
 one_more : (made kept : List RunResult) (r : RunResult) → Kept made kept → (b : Bool) → is_kept kept r ≡ b → Kept (made ++ r ∷ []) (with_run kept r b)
 one_more made kept r h true is = record {

@@ -63,12 +63,16 @@ schedules_long picks count =
 
 -- the last up to the first that fails is one of them
 last_of : {X : Type 0} (P : X → Type 0) (test : X → Bool) (x : X) (xs : List X) (d : X) → P x → Everywhere P xs → P (last_or (up_to_first test (x ∷ xs)) d)
-last_of {X} P test x xs d p h = by xs (test x) h
+last_of P test x [] d p h = by (test x)
   where
-    by : (ys : List X) (b : Bool) → Everywhere P ys → P (last_or (if b then x ∷ up_to_first test ys else x ∷ []) d)
-    by ys false k = p
-    by [] true k = p
-    by (y ∷ ys) true k = last_of P test y ys x k.0 k.1
+    by : (b : Bool) → P (last_or (if b then x ∷ [] else x ∷ []) d)
+    by true = p
+    by false = p
+last_of P test x (y ∷ ys) d p h = by (last_of P test y ys x h.0 h.1) (test x)
+  where
+    by : P (last_or (up_to_first test (y ∷ ys)) x) → (b : Bool) → P (last_or (if b then x ∷ up_to_first test (y ∷ ys) else x ∷ []) d)
+    by rest true = rest
+    by rest false = p
 
 pub last_long : (picks : List ℕ → List Pick) (run : List ℕ → RunResult) (count : ℕ) → 1 ≤ count → length (last_tried picks run count) ≡ schedule_limit
 last_long picks run zero some = absurd (omega (arith, some))

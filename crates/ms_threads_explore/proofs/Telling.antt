@@ -29,6 +29,9 @@ told_long (b ∷ queue) zero are = let le = told_short 0 b.marks.items are.0 (om
 told_long (b ∷ queue) (suc k) are = told_long queue k are.1
 
 module _ (picks : List ℕ → List Pick) (run : List ℕ → RunResult) (e : Exploration) (at : IsAt picks run e) where
+  abbrev schedule : List ℕ
+  schedule = padded (told_at e.beginnings.items (e.next - 1))
+
   -- whether all beginnings were run
   empty_so : leb (length e.beginnings.items) e.next ≡ is_empty (beginnings_left picks e.next)
   empty_so = by (le_or_lt (length e.beginnings.items) e.next)
@@ -65,9 +68,6 @@ module _ (picks : List ℕ → List Pick) (run : List ℕ → RunResult) (e : Ex
         ∙ ap (λ (l : List (List ℕ)). is_empty (beginnings_left picks (length (tried_by picks run count))) && list_all (is_short picks) l) (sym tried);
   }
     where
-      abbrev schedule : List ℕ
-      schedule = padded (told_at e.beginnings.items (e.next - 1))
-
       last_is : last_tried picks run count ≡ schedule
       last_is = ap (λ (l : List (List ℕ)). last_or l []) tried ∙ at.last (omega (arith, some))
 

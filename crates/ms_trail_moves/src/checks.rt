@@ -90,13 +90,7 @@ fn none_writes(
 }
 
 /// Whether a hop's move is the last one, of the steps before one, that writes what is read.
-fn is_next(
-    moves: &[Move],
-    event: Option<u64>,
-    read: &Source,
-    distance: u64,
-    hop: Hop,
-) -> bool
+fn is_next(moves: &[Move], event: Option<u64>, read: &Source, distance: u64, hop: Hop) -> bool
     ensures { MatchBool result (IsNext moves.now event read.now distance hop) (IsNext moves.now event read.now distance hop → ⊥) }
 {
     let index = hop.index as usize;
