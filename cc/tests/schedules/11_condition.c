@@ -25,16 +25,22 @@ static void *receive(void *unused) {
   return NULL;
 }
 
-int main(void) {
-  box = malloc(sizeof *box); // P1 root
-  box->is_full = 0;
-  pthread_t receiver;
-  pthread_create(&receiver, NULL, receive, NULL);
+static void *send(void *unused) {
   pthread_mutex_lock(&lock);
   box->letter = 'a';
   box->is_full = 1;
   pthread_cond_signal(&filled);
   pthread_mutex_unlock(&lock);
+  return NULL;
+}
+
+int main(void) {
+  box = malloc(sizeof *box); // P1 root
+  box->is_full = 0;
+  pthread_t receiver, sender;
+  pthread_create(&sender, NULL, send, NULL);
+  pthread_create(&receiver, NULL, receive, NULL);
+  pthread_join(sender, NULL);
   pthread_join(receiver, NULL);
   free(box);
   return 0;
