@@ -7,7 +7,7 @@ use Rattle.ms_top.proofs.jobs.Job.explore.Goals as goal
 use Rattle.ms_runtime.proofs.Fitting.{if_ok}
 
 pub explore_under-requires-clause-threads : goal.explore_under-requires-clause-threads
-explore_under-requires-clause-threads g c = c.has_threads.ensures ∙ sym (ap is_threaded c.get.ensures ∙ c.in_ok-instrumented.ensures.threads)
+explore_under-requires-clause-threads g c κs within = c.has_threads.ensures ∙ sym (ap is_threaded c.get.ensures ∙ c.in_ok-instrumented.ensures.threads)
 
 pub returns : goal.returns
 returns g c =
