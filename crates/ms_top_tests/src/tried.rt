@@ -14,7 +14,8 @@ use std::test::Fail;
 /// J(1, -) = J(1, 1) = 1, J(1, 3) = 3, J(1, 2) = 2, J(1, 23) = 3 + 3 + 2 = 8, J(1, 12) = 2 + 1 = 3, J(1, 13) = 3 + 1 = 4,
 /// J(1, 123) = 8 + 4 + 3 = 15. At the third creation C(-) = J(1, 3) = 3, C(1) = J(1, 13) + C(-) = 7, C(2) = J(1, 23) + C(-) = 11,
 /// C(12) = J(1, 123) + C(2) + C(1) = 33; at the second one C(12) + C(2) = 44.
-static ORDERS: &[u8] = br#"# A thread that is made and joined leaves no choice: where `main` waits, the thread is alone.
+static ORDERS: &[u8] =
+    br#"# A thread that is made and joined leaves no choice: where `main` waits, the thread is alone.
 check --schedules 9 f~
 define ptr @w(ptr %0) {
   %2 = call i32 @putchar(i32 66)
@@ -415,7 +416,8 @@ outcomes: 2
 "#;
 
 /// Where `main` yields until a thread has set a flag, each time there is one more choice.
-static ENDLESS: &[u8] = br#"# There are picks of two before steps 5, 9, 13 and 17, so 5 runs. In the last one too few steps are left.
+static ENDLESS: &[u8] =
+    br#"# There are picks of two before steps 5, 9, 13 and 17, so 5 runs. In the last one too few steps are left.
 check --steps 20 --schedules 9 f~
 @g = global i32 0
 define ptr @w(ptr %0) {
