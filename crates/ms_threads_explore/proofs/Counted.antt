@@ -162,3 +162,23 @@ outcomes_counted rs =
       apart = h.apart;
       each = h.each;
     }
+
+-- ---- what the code keeps
+
+module _ {V : Type 0} (items : V → List ℕ) where
+  abbrev as_shown : ℕ × ℕ × V → ℕ × ℕ × List ℕ
+  as_shown k = (k.0, k.1, items k.2)
+
+  any_shown : (v : ℕ × ℕ × V) (ks : List (ℕ × ℕ × V)) → list_any (λ k. (nat_eq v.0 k.0 && nat_eq v.1 k.1) && pointwise nat_eq (items v.2) (items k.2)) ks ≡ list_any (same_shown (as_shown v)) (map as_shown ks)
+  any_shown v [] = refl
+  any_shown v (k ∷ ks) = ap (λ (b : Bool). same_shown (as_shown v) (as_shown k) || b) (any_shown v ks)
+
+  pub added : (v : ℕ × ℕ × V) (ks after : List (ℕ × ℕ × V))
+      → after ≡ (if list_any (λ k. (nat_eq v.0 k.0 && nat_eq v.1 k.1) && pointwise nat_eq (items v.2) (items k.2)) ks then ks else ks ++ v ∷ []) → map as_shown after ≡ with_shown (map as_shown ks) (as_shown v)
+  added v ks after e =
+      ap (map as_shown) e ∙ by (list_any (λ k. (nat_eq v.0 k.0 && nat_eq v.1 k.1) && pointwise nat_eq (items v.2) (items k.2)) ks)
+      ∙ ap (λ (b : Bool). if b then map as_shown ks else map as_shown ks ++ as_shown v ∷ []) (any_shown v ks)
+    where
+      by : (b : Bool) → map as_shown (if b then ks else ks ++ v ∷ []) ≡ (if b then map as_shown ks else map as_shown ks ++ as_shown v ∷ [])
+      by true = refl
+      by false = map_append as_shown ks (v ∷ [])

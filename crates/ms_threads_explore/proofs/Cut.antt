@@ -1,17 +1,23 @@
 -- The picks that are kept of a run from a beginning: they begin so, and go on with zeros.
 use Rattle.std.proofs.Common.{◌≡◌, ◌<◌, ◌≤◌, ◌+◌, ◌-◌, ℕ, zero, suc, List, [], ◌∷◌, ◌++◌, length, take, drop, map, get_or, refl, sym, ap, ◌∙◌, subst, arith}
-use Rattle.std.specs.Prelude.{◌%◌}
+use Rattle.std.specs.Prelude.{◌%◌, option_map, slice_get, slice_index_or, unwrap_or}
 use Rattle.std.proofs.Math.Nat.{mod-eq_of_lt}
-use Rattle.std.proofs.lemmas.List.{length-append}
+use Rattle.std.proofs.lemmas.List.{length-append, length-map}
+use Rattle.std.proofs.lemmas.Option.{slice_get-map, slice_get_read}
+use Rattle.ms_runs.specs.declared.runs.RunResult.{RunResult}
 use Rattle.ms_threads_schedules_laws.specs.Picks.{Pick, number_at, Chooses}
 use Rattle.ms_threads_schedules_laws.specs.Trees.{Begins, Chosen}
 use Rattle.ms_threads_schedules_laws.specs.Explored.{IsTree, Leads}
 use Rattle.ms_threads_schedules_laws.specs.Exploration.{schedule_limit, zeros, padded}
 use Rattle.ms_threads_schedules_laws.proofs.Leading.{padded as reads_padded}
 use Rattle.ms_threads_schedules_laws.proofs.Printed.{all_chosen}
-use Rattle.ms_threads.specs.Recording.{pick_of}
-use Rattle.ms_threads_explore.specs.Beginnings.{told_from, InOrder, AllZero}
-use Rattle.ms_threads_explore.specs.Trials.{choice_of, GoesOn}
+use Rattle.ms_threads.specs.Recording.{pick_of, Records}
+use Rattle.ms_threads.specs.declared.recorder.Choice.{Choice}
+use Rattle.ms_threads.specs.declared.recorder.Recorder.{Recorder}
+use Rattle.ms_threads_explore.specs.Beginnings.{told_from, told_of, InOrder, AllZero}
+use Rattle.ms_threads_explore.specs.Trials.{choice_of, trial_by, told_at, GoesOn}
+use Rattle.ms_threads_explore.specs.declared.beginnings.Beginning.{Beginning}
+use Rattle.ms_threads_explore.specs.declared.trials.Trial.{Trial}
 use Rattle.ms_threads_explore.specs.declared.beginnings.NumberAt.{NumberAt}
 use Rattle.ms_threads_explore.proofs.Marked.{length_zeros, reach}
 use Rattle.ms_threads_explore.proofs.Queue.{at_most}
@@ -77,3 +83,31 @@ goes_on picks tree told le leads =
 pub kept_same : (ps : List Pick) → map pick_of (map choice_of ps) ≡ ps
 kept_same [] = refl
 kept_same (p ∷ ps) = ap (λ l. p ∷ l) (kept_same ps)
+
+choice_same : (ps : List Choice) → map choice_of (map pick_of ps) ≡ ps
+choice_same [] = refl
+choice_same (p ∷ ps) = ap (λ l. p ∷ l) (choice_same ps)
+
+-- what is kept of a run
+pub trial_so : (picks : List ℕ → List Pick) (run : List ℕ → RunResult) (schedule own : List ℕ) (r : RunResult) (recorder : Recorder) (kept : List Choice) → own ≡ schedule → r ≡ run own → Records recorder (picks own)
+    → kept ≡ recorder.picks.items → ◌≡◌ {A = Trial} (record { result = r; picks = kept; more = recorder.more }) (trial_by picks run schedule)
+trial_so picks run schedule own r recorder kept same is records items =
+    let held : kept ≡ map choice_of (take schedule_limit (picks own)) = items ∙ sym (choice_same recorder.picks.items) ∙ ap (map choice_of) records.picks in
+    (λ i. let one : Trial = record { result = is i; picks = held i; more = records.more i } in one) ∙ ap (trial_by picks run) same
+
+-- a beginning by its place
+pub told_there : (queue : List Beginning) (k : ℕ) (b : Beginning) → k < length queue → b ≡ slice_index_or queue k b → told_of b ≡ unwrap_or (slice_get (map told_of queue) k) []
+told_there queue k b lt is = sym (ap (λ o. unwrap_or o []) (slice_get-map told_of queue k ∙ ap (option_map told_of) (slice_get_read queue (length queue) k b refl lt is)))
+
+pub told_place : (queue : List Beginning) (k : ℕ) (b : Beginning) → k < length queue → b ≡ get_or queue k b → told_of b ≡ told_at queue k
+told_place [] k b lt is = absurd (omega (arith, lt))
+told_place (x ∷ queue) zero b lt is = ap told_of is
+told_place (x ∷ queue) (suc k) b lt is = told_place queue k b (omega (arith, lt)) is
+
+-- no more picks are kept than a schedule may have numbers
+pub kept_few : (picks : List ℕ → List Pick) (run : List ℕ → RunResult) (schedule : List ℕ) (t : Trial) → t ≡ trial_by picks run schedule → length t.picks ≤ schedule_limit
+kept_few picks run schedule t is =
+    let a : length t.picks ≡ length (map choice_of (take schedule_limit (picks schedule))) = ap (λ (t : Trial). length t.picks) is in
+    let b : length (map choice_of (take schedule_limit (picks schedule))) ≡ length (take schedule_limit (picks schedule)) = length-map (take schedule_limit (picks schedule)) choice_of in
+    let c : length (take schedule_limit (picks schedule)) ≤ schedule_limit = at_most schedule_limit (picks schedule) in
+    omega (arith, a, b, c)

@@ -7,4 +7,5 @@ pub mod Registering
 pub mod Holding
 pub mod Telling
 pub mod Alike
+pub mod Going
 pub mod Counted

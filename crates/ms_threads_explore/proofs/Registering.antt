@@ -71,12 +71,16 @@ module _ (picks : List ℕ → List Pick) (run : List ℕ → RunResult) (old : 
         ap (λ k. drop k queued) (let e : suc old.next ≡ old.next + 1 = omega arith in e) ∙ sym rest_is
         ∙ ap (λ k. take k rest) (let e : old.most - old.next - 1 ≡ old.most - suc old.next = omega arith in e)
 
-    queue_next : drop (suc old.next) (map told_of new.beginnings.items) ≡ take (old.most - suc old.next) (beginnings_left picks (suc old.next))
-    queue_next =
+    pub dropped_next : drop (suc old.next) (map told_of new.beginnings.items) ≡ take (old.most - suc old.next) (drop (suc old.next) queued ++ left_by)
+    dropped_next =
         ap (drop (suc old.next)) done.told
         ∙ ap (λ c. drop (suc old.next) (take c (queued ++ left_by))) (let e : old.most ≡ suc old.next + (old.most - suc old.next) = omega (arith, more) in e)
         ∙ drop-take (suc old.next) (old.most - suc old.next) (queued ++ left_by)
-        ∙ ap (take (old.most - suc old.next)) (drop-append-le (suc old.next) queued left_by (let lt = queue_long in omega (arith, lt)) ∙ ap (λ l. l ++ left_by) rest_drop)
+        ∙ ap (take (old.most - suc old.next)) (drop-append-le (suc old.next) queued left_by (let lt = queue_long in omega (arith, lt)))
+
+    queue_next : drop (suc old.next) (map told_of new.beginnings.items) ≡ take (old.most - suc old.next) (beginnings_left picks (suc old.next))
+    queue_next =
+        dropped_next ∙ ap (λ l. take (old.most - suc old.next) (l ++ left_by)) rest_drop
         ∙ take_joined (old.most - suc old.next) rest left_by ∙ ap (take (old.most - suc old.next)) (sym left_next)
 
     told_kept : told_at new.beginnings.items (suc old.next - 1) ≡ told

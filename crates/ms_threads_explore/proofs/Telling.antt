@@ -22,7 +22,7 @@ use Rattle.ms_threads_explore.proofs.Queue.{tail, left_tail, nothing_left}
 use Rattle.ms_threads_explore.proofs.Cut.{told_short, length_padded}
 use Rattle.ms_threads_explore.proofs.Holding.{told_cut}
 
-told_long : (queue : List Beginning) (k : ℕ) → Everywhere IsBeginning queue → length (told_at queue k) ≤ schedule_limit
+pub told_long : (queue : List Beginning) (k : ℕ) → Everywhere IsBeginning queue → length (told_at queue k) ≤ schedule_limit
 told_long [] zero are = omega arith
 told_long [] (suc k) are = omega arith
 told_long (b ∷ queue) zero are = let le = told_short 0 b.marks.items are.0 (omega arith) in omega (arith, le)

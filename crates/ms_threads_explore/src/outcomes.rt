@@ -1,5 +1,5 @@
 //! How many different outcomes runs have: pairs of output and end.
-ghost use Rattle.std.specs.Prelude.{◌≡◌, [], length, IfOk, OnOk};
+ghost use Rattle.std.specs.Prelude.{◌≡◌, ◌≤◌, [], length, OnOk};
 ghost use Rattle.ms_threads_explore.specs.Outcomes.{trap_number as trap_number_of, end_kind, end_number, shown, with_shown, kept_by};
 
 use indexmap::IndexSet;
