@@ -40,7 +40,7 @@ pub struct Exploration {
 }
 
 /// Whether a run has no report and no blind use.
-fn is_clean(run: &RunResult) -> bool
+pub fn is_clean(run: &RunResult) -> bool
     ensures { result ≡ is_clean_of (verdict_of run.now) }
 {
     run.reports.as_slice().is_empty() && run.blind == 0

@@ -8,5 +8,6 @@ mod laws;
 mod outcomes;
 mod trials;
 
+pub use exploration::is_clean;
 pub use explorer::{Explored, explore};
 pub use laws::{all_schedules_hold, ends_are_told_apart, explored_alike, outcomes_are_counted};
