@@ -162,7 +162,7 @@ words: OutOfRange at 1
 ~
 2
 ====
-check --workers=2 f~
+explain --workers=2 f~
 ~
 ~
 words: UnknownOption at 1
