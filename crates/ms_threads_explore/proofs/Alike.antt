@@ -63,7 +63,7 @@ module _ (p q : List ℕ → List Pick) (run other : List ℕ → RunResult) (pi
   tried_alike count =
       ap (λ l. up_to_first (runs_clean run) (map padded l)) (next_alike count ([] ∷ []))
       ∙ up_to_same (runs_clean run) (runs_clean other) (schedules_run q count)
-        (every_so IsSchedule (λ s. runs_clean run s ≡ runs_clean other s) (λ s some. ap (λ (r : RunResult). is_clean (verdict_of r)) (runs s some)) (schedules_run q count) (some_run count))
+      (every_so IsSchedule (λ s. runs_clean run s ≡ runs_clean other s) (λ s some. ap (λ (r : RunResult). is_clean (verdict_of r)) (runs s some)) (schedules_run q count) (some_run count))
 
   some_tried : (count : ℕ) → Everywhere IsSchedule (tried_by q other count)
   some_tried count = every_tried IsSchedule (runs_clean other) (schedules_run q count) (some_run count)
@@ -78,8 +78,8 @@ module _ (p q : List ℕ → List Pick) (run other : List ℕ → RunResult) (pi
     all = is.all ∙ ap (λ (l : List (List ℕ)). is_empty (beginnings_left p (length l)) && list_all (is_short p) l) (tried_alike count)
         ∙ ap (λ l. is_empty l && list_all (is_short p) (tried_by q other count)) (left_alike (length (tried_by q other count)) ([] ∷ []))
         ∙ ap (λ b. is_empty (beginnings_left q (length (tried_by q other count))) && b)
-          (all_alike (is_short p) (is_short q) (tried_by q other count)
-          (every_so IsSchedule (λ s. is_short p s ≡ is_short q s) (λ s some. ap (λ (ps : List Pick). leb (length ps) schedule_limit) (picks s some)) (tried_by q other count) (some_tried count)));
+        (all_alike (is_short p) (is_short q) (tried_by q other count)
+        (every_so IsSchedule (λ s. is_short p s ≡ is_short q s) (λ s some. ap (λ (ps : List Pick). leb (length ps) schedule_limit) (picks s some)) (tried_by q other count) (some_tried count)));
   }
     where
       last_alike : last_tried p run count ≡ last_tried q other count

@@ -94,7 +94,6 @@ module _ (picks : List ℕ → List Pick) (run : List ℕ → RunResult) where
 
     pub trials_further : (ts : List Trial) → AreTrials picks run ts (drop (old.next + 1) (map told_of old.beginnings.items)) → AreTrials picks run ts (drop new.next (map told_of new.beginnings.items))
     trials_further ts h =
-
         let here : AreTrials picks run ts (drop (suc old.next) (map told_of old.beginnings.items)) =
         subst (λ k. AreTrials picks run ts (drop k (map told_of old.beginnings.items))) (let e : old.next + 1 ≡ suc old.next = omega arith in e) h in
         let few = are_few ts (drop (suc old.next) (map told_of old.beginnings.items)) here in

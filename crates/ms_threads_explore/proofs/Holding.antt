@@ -51,10 +51,12 @@ branches_few (suc c) [] (p ∷ ps) le =
 runs_few : (picks : List ℕ → List Pick) (n : ℕ) (queue : List (List ℕ)) → Everywhere (λ t. length t ≤ schedule_limit) queue → Everywhere (λ t. length t ≤ schedule_limit) (next_runs picks n queue)
 runs_few picks zero queue h = tt
 runs_few picks (suc n) [] h = tt
-runs_few picks (suc n) (told ∷ queue) h =
-    (h.0, runs_few picks n (queue ++ leaves picks told)
-        (joined (λ t. length t ≤ schedule_limit) queue (leaves picks told) h.1
-        (branches_few schedule_limit told (take schedule_limit (picks (padded told))) (at_most schedule_limit (picks (padded told))))))
+runs_few picks (suc n) (told ∷ queue) h = (
+  h.0,
+  runs_few picks n (queue ++ leaves picks told)
+      (joined (λ t. length t ≤ schedule_limit) queue (leaves picks told) h.1
+      (branches_few schedule_limit told (take schedule_limit (picks (padded told))) (at_most schedule_limit (picks (padded told))))),
+)
 
 schedules_long : (picks : List ℕ → List Pick) (count : ℕ) → Everywhere (λ s. length s ≡ schedule_limit) (schedules_run picks count)
 schedules_long picks count =
@@ -151,8 +153,8 @@ told_repeats m setup count e some is =
     let last : List ℕ = last_tried (plain_picks m setup) (plain_threads m setup) count in
     ap (plain_threads m setup) is.schedule
     ∙ ap (λ (x : End × World). result x.0 x.1)
-      (same_run (plain_fiber (setting_of m setup) m) last (told_schedule (plain_picks m setup) (plain_threads m setup) count) setup.steps (plain_threads_start m setup)
-      (chooses_told last (plain_picks m setup last) (last_long (plain_picks m setup) (plain_threads m setup) count some) ((plain_tree m setup).chooses last))).1
+    (same_run (plain_fiber (setting_of m setup) m) last (told_schedule (plain_picks m setup) (plain_threads m setup) count) setup.steps (plain_threads_start m setup)
+    (chooses_told last (plain_picks m setup last) (last_long (plain_picks m setup) (plain_threads m setup) count some) ((plain_tree m setup).chooses last))).1
     ∙ sym is.result
 
 -- ---- the promise

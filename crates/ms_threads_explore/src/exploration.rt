@@ -113,10 +113,7 @@ impl Exploration {
         } else {
             usize::from(workers) * SHARE
         };
-        let left = lesser(
-            self.beginnings.len() - self.next,
-            self.most - 1 - self.next,
-        );
+        let left = lesser(self.beginnings.len() - self.next, self.most - 1 - self.next);
         lesser(share, left)
     }
 
