@@ -162,7 +162,7 @@ words: OutOfRange at 1
 ~
 2
 ====
-explain --workers=2 f~
+check --workers=2 f~
 ~
 ~
 words: MissingOption at 3
