@@ -69,14 +69,14 @@ pub fn try_each<R: Threads + Sync, G: Gate + Sync>(
     requires are { Everywhere IsBeginning queue.now }
     ensures { IfOk result (λ all. all ≡ map (λ told. trial_by (plain_picks m.now setup.now) (plain_threads m.now setup.now) (padded told)) (map told_of queue.now)) }
 {
+    let split = Split {
+        most: 1,
+        threads: usize::from(workers),
+    };
     let work = TrialRuns {
         module: m,
         setup,
         queue,
-    };
-    let split = Split {
-        most: 1,
-        threads: usize::from(workers),
     };
     parallel_map(rt, alloc, &work, queue.len(), split, gate)
 }

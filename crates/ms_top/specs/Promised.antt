@@ -129,8 +129,8 @@ pub record ThreadsRefused (c : Counted) (command : Command) (a : Output) : Type 
   pub refused : a ≡ says statuses.refused threads_text
 
 -- The text that explains a run with a report: the moves before it are too many, or it shows a way over them. That begins at a root
--- which the run had reached, each hop's target is what the next hop reads, and the last is what the report's use reads. Each place
--- keeps the bits that were written there until the next hop, or the use, reads it
+-- which the run had reached, each hop's target is what the next hop reads, and the last is what the report's use reads. The same bits
+-- of each place stay poisoned until the next hop, or the use, reads it
 pub record ShowsWay (under : Lines) (m : Module) (setup : Setup) (text : List ℕ) : Type 0 where
   pub moves : List Move
   pub at : Source

@@ -162,7 +162,7 @@ words: OutOfRange at 1
 ~
 2
 ====
-check --workers=2 f~
+explain --workers=2 f~
 ~
 ~
 words: MissingOption at 3
