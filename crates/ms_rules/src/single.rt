@@ -156,7 +156,9 @@ fn round_inst(
         return Ok(answer(Builder::new(alloc, next), Builder::new(alloc, next)));
     }
     match &inst.op {
-        Op::Phi { ty, edges } => round_phi(alloc, scope, roots_before, next, inst, ty, edges.as_slice()),
+        Op::Phi { ty, edges } => {
+            round_phi(alloc, scope, roots_before, next, inst, ty, edges.as_slice())
+        }
         _ => round_plain(alloc, scope, site, roots_before, next, inst),
     }
 }
