@@ -66,10 +66,8 @@ pub static OPTIONS: [OptionName; 10] = [
     OptionName::Where,
 ];
 
-/// The options of `instrument`, and those that most commands must have: none.
 static NO_OPTIONS: [OptionName; 0] = [];
 
-/// The options of `run` and `check`.
 static RUN_OPTIONS: [OptionName; 6] = [
     OptionName::Input,
     OptionName::Fill,
@@ -79,7 +77,6 @@ static RUN_OPTIONS: [OptionName; 6] = [
     OptionName::Where,
 ];
 
-/// Those of `explain`.
 static EXPLAIN_OPTIONS: [OptionName; 4] = [
     OptionName::Input,
     OptionName::Fill,
@@ -87,7 +84,6 @@ static EXPLAIN_OPTIONS: [OptionName; 4] = [
     OptionName::Where,
 ];
 
-/// Those of `corpus`.
 static CORPUS_OPTIONS: [OptionName; 5] = [
     OptionName::Workers,
     OptionName::Fill,
@@ -96,10 +92,8 @@ static CORPUS_OPTIONS: [OptionName; 5] = [
     OptionName::Where,
 ];
 
-/// Those of `gen`.
 static GEN_OPTIONS: [OptionName; 3] = [OptionName::Seed, OptionName::Functions, OptionName::Run];
 
-/// The ones that `gen` must have.
 static GEN_WANTED: [OptionName; 2] = [OptionName::Seed, OptionName::Functions];
 
 impl CommandName {
