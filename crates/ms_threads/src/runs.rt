@@ -1,4 +1,4 @@
-//! Whole runs of programs with threads.
+//! Whole runs of programs with threads. `reports` is the limit of a run's reports.
 ghost use Rattle.std.specs.Prelude.{◌≡◌, ◌<◌, ◌≤◌, ◌^◌, ℕ, List, suc, None, length, IfOk, OnOk, MatchBool};
 ghost use Rattle.ms_ir.specs.declared.syntax.Module.{Module as ModuleOf};
 ghost use Rattle.ms_ir.specs.declared.calls.RuntimeFn.TheVariants.{ThreadResult as ResultOf};
