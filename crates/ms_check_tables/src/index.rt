@@ -1,5 +1,5 @@
 //! The search structure under `NameTable` and `Names`: a place for each name, whether it is a number or a text, found without a
-//! walk over the names.
+//! walk over the names. A text's mark is its hash: of the texts that share one the first is found by it, the others in a tree.
 ghost use Rattle.std.specs.Prelude.{◌≡◌, ◌≤◌, ◌+◌, ◌-◌, ℕ, None, Some, IsTrue, if◌then◌else◌, length, slice_get, IfErr, IfNone, IfOk, IfSome, OnErr, OnOk};
 ghost use Rattle.ms_ir.specs.{declared.syntax.Name.{Name}, declared.syntax.Name.TheVariants.{Number, Text}};
 ghost use Rattle.ms_ir.specs.Names.{name_eq};
@@ -49,7 +49,7 @@ fn push_missing(places: &mut Vec<Option<usize>>, count: usize) -> Result<(), NoM
     Ok(())
 }
 
-/// A number by which most texts are told apart.
+/// The mark of a text: its hash, by which most texts are told apart.
 fn mark_of(text: &[u8]) -> u64
     ensures { result ≡ text_mark text.now }
 {

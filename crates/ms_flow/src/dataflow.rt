@@ -1,4 +1,5 @@
-//! The first use that isn't defined on every path: dataflow over 64 values at a time.
+//! The first use that isn't defined on every path: dataflow over 64 values at a time. `values` are those of a round, told by their
+//! places; of each block `words` has which of them arrive there, and `kills` which it defines, one bit for each.
 ghost use Rattle.std.specs.Prelude.{◌≡◌, ◌≢◌, ℕ, ◌<◌, ◌≤◌, ◌^◌, ◌↔◌, ◌⊎◌, false, true, length, take, vec_len, IfOk, OnOk, IfSome, IfNone, IsNone, IsTrue, All, AllPairs, Contains, slice_get, slice_index_or};
 ghost use Rattle.ms_flow.specs.Paths.{Defines, IsDefined, Misses};
 ghost use Rattle.ms_flow.specs.Search.{Has, StaysIn, IsUndefined, StandsAt, Leaves, Covers, Comes, use_at};

@@ -17,4 +17,4 @@ pub use sources::{name_place, source};
 pub use steps::extended;
 pub use tables::{Addresses, CodeTables, tables_of};
 pub use types::size;
-pub use widths::{mask_of, stored_size, width_of};
+pub use widths::{greatest_of_width, stored_size, width_of};

@@ -117,6 +117,7 @@ pub fn simple_of(
     }
 }
 
+/// Takes the value that one token is. `locals` says whether a local may stand.
 #[tactic(auto, unfolding(ms_text_grammar::specs::Values::simple_value))]
 fn simple_value(
     tokens: &mut Tokens<'_>,

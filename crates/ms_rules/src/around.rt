@@ -57,19 +57,19 @@ fn push_plain(
     builder: &mut Builder,
     scope: &Scope<'_, '_>,
     site: u32,
-    root: u64,
+    roots_before: u64,
     inst: &Inst,
 ) -> Result<u64, NoMemory>
     requires few { length scope.now.values.now ≤ 2 ^ 30 }
     requires taken { IsTaken (given_of scope.now).types inst.now }
     requires plain { is_phi inst.now.op ≡ false }
-    requires roots { root < 2 ^ 40 }
+    requires roots { roots_before < 2 ^ 40 }
     requires room { builder.old.next < 2 ^ 40 }
-    ensures code { OnOk result (builder.new ≡ with_inst (given_of scope.now) (env_of scope.now) (record { site = site; root = root; main = scope.now.main }) inst.now builder.old) }
+    ensures code { OnOk result (builder.new ≡ with_inst (given_of scope.now) (env_of scope.now) (record { site = site; root = roots_before; main = scope.now.main }) inst.now builder.old) }
     ensures roots { IfOk result (λ n. n ≡ roots_in (given_of scope.now).func inst.now) }
 {
     let callee = callee_of(scope.functions, &inst.op);
-    let tracking = track(builder.alloc(), scope, root, &inst.op)?;
+    let tracking = track(builder.alloc(), scope, roots_before, &inst.op)?;
     push_around(builder, scope, site, inst, callee, &tracking)?;
     Ok(tracking.after - tracking.before + own_roots(scope.functions, callee, &inst.op))
 }
@@ -81,19 +81,19 @@ pub fn push_inst(
     builder: &mut Builder,
     scope: &Scope<'_, '_>,
     site: u32,
-    root: u64,
+    roots_before: u64,
     inst: &Inst,
 ) -> Result<u64, NoMemory>
     requires few { length scope.now.values.now ≤ 2 ^ 30 }
     requires taken { IsTaken (given_of scope.now).types inst.now }
-    requires roots { root < 2 ^ 40 }
+    requires roots { roots_before < 2 ^ 40 }
     requires room { builder.old.next < 2 ^ 40 }
-    ensures code { OnOk result (builder.new ≡ with_inst (given_of scope.now) (env_of scope.now) (record { site = site; root = root; main = scope.now.main }) inst.now builder.old) }
+    ensures code { OnOk result (builder.new ≡ with_inst (given_of scope.now) (env_of scope.now) (record { site = site; root = roots_before; main = scope.now.main }) inst.now builder.old) }
     ensures roots { IfOk result (λ n. n ≡ roots_in (given_of scope.now).func inst.now) }
     ensures few { IfOk result (λ n. n ≤ length (operands inst.now.op) + 1) }
 {
     match &inst.op {
-        Op::Phi { ty, edges } => push_phi(builder, scope, root, inst, ty, edges.as_slice()),
-        _ => push_plain(builder, scope, site, root, inst),
+        Op::Phi { ty, edges } => push_phi(builder, scope, roots_before, inst, ty, edges.as_slice()),
+        _ => push_plain(builder, scope, site, roots_before, inst),
     }
 }

@@ -1,4 +1,4 @@
-//! The edges of the phis of masks and origins.
+//! The edges of the phis of masks and origins. Where several edges come from one block, their origin is that of the first of them.
 ghost use Rattle.std.specs.Prelude.{◌≡◌, ◌++◌, [], ◌∷◌, length, map, IfOk, OnOk};
 ghost use Rattle.ms_rules_builder.specs.Steps.{shadow_mask};
 ghost use Rattle.ms_rules.specs.Edges.{masks, origins, with_operands, first_operand, with_first};
@@ -51,7 +51,7 @@ pub fn mask_edges(
     Ok(List::from_vec(made))
 }
 
-/// The operand that holds the origin at the first place of a label.
+/// The operand that holds the origin of the first edge with a label.
 fn first_origin(
     alloc: Global,
     operands: &[TrackedOperand<'_>],
@@ -69,7 +69,7 @@ fn first_origin(
     }
 }
 
-/// Adds an edge with the origin at the first place of a label and a copy of the label.
+/// Adds an edge with the origin of the first edge with a label, and a copy of the label.
 fn push_first(
     alloc: Global,
     edges: &mut Vec<(Operand, Name)>,
@@ -84,7 +84,7 @@ fn push_first(
     push_edge(edges, operand, copied)
 }
 
-/// Edges with the origins at the first places of their labels.
+/// The edges of the phi of an origin: for each edge its label, with the origin of the first edge that has the label.
 fn first_edges(
     alloc: Global,
     operands: &[TrackedOperand<'_>],
@@ -100,8 +100,7 @@ fn first_edges(
     Ok(List::from_vec(made))
 }
 
-/// Edges with the origins of the first ones that have their labels. These are looked up in a table, since a phi may have
-/// many edges.
+/// The edges of the phi of an origin. Labels are looked up in a table, since a phi may have many edges.
 pub fn origin_edges(
     alloc: Global,
     operands: &[TrackedOperand<'_>],

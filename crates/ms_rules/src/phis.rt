@@ -103,19 +103,19 @@ fn push_pair(
 pub fn push_after_phi(
     builder: &mut Builder,
     scope: &Scope<'_, '_>,
-    root: u64,
+    roots_before: u64,
     inst: &Inst,
     ty: &Ty,
     edges: &[(Operand, Name)],
 ) -> Result<u64, NoMemory>
     requires few { length scope.now.values.now ≤ 2 ^ 30 }
     requires narrow { All (λ o. width_of o.0 ≤ 64) (operands inst.now.op) }
-    requires roots { root < 2 ^ 40 }
+    requires roots { roots_before < 2 ^ 40 }
     requires phi { inst.now.op ≡ Op.Phi ty.now edges.now }
-    ensures code { OnOk result (builder.new ≡ with_insts builder.old (phi_code (env_of scope.now) root inst.now.result ty.now edges.now)) }
+    ensures code { OnOk result (builder.new ≡ with_insts builder.old (phi_code (env_of scope.now) roots_before inst.now.result ty.now edges.now)) }
     ensures roots { IfOk result (λ n. n ≡ count_undefs (operands inst.now.op)) }
 {
-    let tracking = track(builder.alloc(), scope, root, &inst.op)?;
+    let tracking = track(builder.alloc(), scope, roots_before, &inst.op)?;
     push_pair(builder, scope, &inst.result, ty, edges, &tracking)?;
     Ok(tracking.after - tracking.before)
 }
@@ -124,18 +124,18 @@ pub fn push_after_phi(
 pub fn push_phi(
     builder: &mut Builder,
     scope: &Scope<'_, '_>,
-    root: u64,
+    roots_before: u64,
     inst: &Inst,
     ty: &Ty,
     edges: &[(Operand, Name)],
 ) -> Result<u64, NoMemory>
     requires few { length scope.now.values.now ≤ 2 ^ 30 }
     requires narrow { All (λ o. width_of o.0 ≤ 64) (operands inst.now.op) }
-    requires roots { root < 2 ^ 40 }
+    requires roots { roots_before < 2 ^ 40 }
     requires phi { inst.now.op ≡ Op.Phi ty.now edges.now }
-    ensures code { OnOk result (builder.new ≡ with_insts builder.old (inst.now ∷ phi_code (env_of scope.now) root inst.now.result ty.now edges.now)) }
+    ensures code { OnOk result (builder.new ≡ with_insts builder.old (inst.now ∷ phi_code (env_of scope.now) roots_before inst.now.result ty.now edges.now)) }
     ensures roots { IfOk result (λ n. n ≡ count_undefs (operands inst.now.op)) }
 {
     push_copy(builder, inst)?;
-    push_after_phi(builder, scope, root, inst, ty, edges)
+    push_after_phi(builder, scope, roots_before, inst, ty, edges)
 }

@@ -60,7 +60,7 @@ fn answer(before: Builder, after: Builder) -> Emitted
 fn round_phi(
     alloc: Global,
     scope: &Scope<'_, '_>,
-    root: u64,
+    roots_before: u64,
     next: u64,
     inst: &Inst,
     ty: &Ty,
@@ -68,13 +68,13 @@ fn round_phi(
 ) -> Result<Emitted, NoMemory>
     requires few { length scope.now.values.now ≤ 2 ^ 30 }
     requires taken { IsTaken (given_of scope.now).types inst.now }
-    requires roots { root < 2 ^ 40 }
+    requires roots { roots_before < 2 ^ 40 }
     requires room { next < 2 ^ 32 }
     requires phi { inst.now.op ≡ Op.Phi ty.now edges.now }
-    ensures { (site : _) → IfOk result (λ e. lists_of e ≡ emit_lists (given_of scope.now) (env_of scope.now) (record { site = site; root = root; main = scope.now.main }) inst.now next) }
+    ensures { (site : _) → IfOk result (λ e. lists_of e ≡ emit_lists (given_of scope.now) (env_of scope.now) (record { site = site; root = roots_before; main = scope.now.main }) inst.now next) }
 {
     let mut after = Builder::new(alloc, next);
-    push_after_phi(&mut after, scope, root, inst, ty, edges)?;
+    push_after_phi(&mut after, scope, roots_before, inst, ty, edges)?;
     Ok(answer(Builder::new(alloc, next), after))
 }
 
@@ -110,19 +110,19 @@ fn round_plain(
     alloc: Global,
     scope: &Scope<'_, '_>,
     site: u32,
-    root: u64,
+    roots_before: u64,
     next: u64,
     inst: &Inst,
 ) -> Result<Emitted, NoMemory>
     requires few { length scope.now.values.now ≤ 2 ^ 30 }
     requires taken { IsTaken (given_of scope.now).types inst.now }
     requires plain { is_phi inst.now.op ≡ false }
-    requires roots { root < 2 ^ 40 }
+    requires roots { roots_before < 2 ^ 40 }
     requires room { next + 200 + 55 * length (operands inst.now.op) < 2 ^ 32 }
-    ensures { IfOk result (λ e. lists_of e ≡ emit_lists (given_of scope.now) (env_of scope.now) (record { site = site; root = root; main = scope.now.main }) inst.now next) }
+    ensures { IfOk result (λ e. lists_of e ≡ emit_lists (given_of scope.now) (env_of scope.now) (record { site = site; root = roots_before; main = scope.now.main }) inst.now next) }
 {
     let callee = callee_of(scope.functions, &inst.op);
-    let tracking = track(alloc, scope, root, &inst.op)?;
+    let tracking = track(alloc, scope, roots_before, &inst.op)?;
     round_tracked(alloc, scope, site, next, inst, callee, &tracking)
 }
 
@@ -142,22 +142,24 @@ fn round_inst(
     alloc: Global,
     scope: &Scope<'_, '_>,
     site: u32,
-    root: u64,
+    roots_before: u64,
     next: u64,
     inst: &Inst,
 ) -> Result<Emitted, NoMemory>
     requires few { length scope.now.values.now ≤ 2 ^ 30 }
     requires taken { IsTaken (given_of scope.now).types inst.now }
-    requires roots { root < 2 ^ 40 }
+    requires roots { roots_before < 2 ^ 40 }
     requires room { next + 200 + 55 * length (operands inst.now.op) < 2 ^ 32 }
-    ensures { IfOk result (λ e. lists_of e ≡ single_lists (given_of scope.now) (env_of scope.now) (record { site = site; root = root; main = scope.now.main }) inst.now next) }
+    ensures { IfOk result (λ e. lists_of e ≡ single_lists (given_of scope.now) (env_of scope.now) (record { site = site; root = roots_before; main = scope.now.main }) inst.now next) }
 {
     if is_handing_over(scope, &inst.op) {
         return Ok(answer(Builder::new(alloc, next), Builder::new(alloc, next)));
     }
     match &inst.op {
-        Op::Phi { ty, edges } => round_phi(alloc, scope, root, next, inst, ty, edges.as_slice()),
-        _ => round_plain(alloc, scope, site, root, next, inst),
+        Op::Phi { ty, edges } => {
+            round_phi(alloc, scope, roots_before, next, inst, ty, edges.as_slice())
+        }
+        _ => round_plain(alloc, scope, site, roots_before, next, inst),
     }
 }
 

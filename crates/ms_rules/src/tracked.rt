@@ -12,8 +12,8 @@ use ms_ir::{Name, Op, Operand, ValueType};
 use ms_rules_builder::{Shadow, TrackedOperand};
 use std::alloc::Global;
 
-/// The operands of an instruction with what is known of them, and how many roots stand in the text before them and after
-/// them.
+/// The operands of an instruction with what is known of them, and how many roots of the module stand in the text before them and
+/// after them: undefined operands, and allocations too.
 #[derive(Drop)]
 pub struct Tracking<'a> {
     pub operands: Vec<TrackedOperand<'a>>,
@@ -42,17 +42,17 @@ fn undefined_shadow(width: u8, root: u64) -> Shadow
     Shadow::Undefined(ones, root)
 }
 
-/// What is known of an operand of a width before which so many roots stand.
-fn shadow_of(scope: &Scope<'_, '_>, width: u8, root: u64, operand: &Operand) -> Shadow
+/// What is known of an operand of a width, where so many roots of the module stand before it: one that is undefined is the next.
+fn shadow_of(scope: &Scope<'_, '_>, width: u8, roots_before: u64, operand: &Operand) -> Shadow
     requires few { length scope.now.values.now ≤ 2 ^ 30 }
     requires narrow { width ≤ 64 }
-    requires roots { root + 1 < 2 ^ 64 }
+    requires roots { roots_before + 1 < 2 ^ 64 }
     ensures mask { shadow_mask result ≡ mask_operand (env_of scope.now) width operand.now }
-    ensures origin { shadow_origin result ≡ origin_operand (env_of scope.now) root operand.now }
+    ensures origin { shadow_origin result ≡ origin_operand (env_of scope.now) roots_before operand.now }
 {
     match operand {
-        Operand::Undef => undefined_shadow(width, root + 1),
-        Operand::Poison => undefined_shadow(width, root + 1),
+        Operand::Undef => undefined_shadow(width, roots_before + 1),
+        Operand::Poison => undefined_shadow(width, roots_before + 1),
         Operand::Local(name) => value_shadow(scope, name),
         _ => Shadow::Clean,
     }
@@ -61,14 +61,14 @@ fn shadow_of(scope: &Scope<'_, '_>, width: u8, root: u64, operand: &Operand) -> 
 /// An operand with what is known of it, where so many roots stand before it.
 fn track_one<'a>(
     scope: &Scope<'_, '_>,
-    root: u64,
+    roots_before: u64,
     ty: ValueType<'a>,
     operand: &'a Operand,
 ) -> TrackedOperand<'a>
     requires few { length scope.now.values.now ≤ 2 ^ 30 }
     requires narrow { width_of (type_of ty) ≤ 64 }
-    requires roots { root + 1 < 2 ^ 64 }
-    ensures { tracked_of result ≡ tracked_one (env_of scope.now) root (type_of ty.entry, operand.entry.now) }
+    requires roots { roots_before + 1 < 2 ^ 64 }
+    ensures { tracked_of result ≡ tracked_one (env_of scope.now) roots_before (type_of ty.entry, operand.entry.now) }
 {
     let clean = TrackedOperand {
         ty,
@@ -78,7 +78,7 @@ fn track_one<'a>(
     TrackedOperand {
         ty,
         operand,
-        shadow: shadow_of(scope, clean.width(), root, operand),
+        shadow: shadow_of(scope, clean.width(), roots_before, operand),
     }
 }
 
@@ -136,23 +136,24 @@ impl<'a> Tracking<'a> {
     }
 }
 
-/// The operands of an operation with what is known of them, where so many roots stand before them.
+/// The operands of an operation with what is known of them, where so many roots of the module, allocations among them, stand before
+/// them.
 pub fn track<'a>(
     alloc: Global,
     scope: &Scope<'_, '_>,
-    root: u64,
+    roots_before: u64,
     op: &'a Op,
 ) -> Result<Tracking<'a>, NoMemory>
     requires few { length scope.now.values.now ≤ 2 ^ 30 }
     requires narrow { All (λ o. width_of o.0 ≤ 64) (operands op.now) }
-    requires roots { root < 2 ^ 40 }
+    requires roots { roots_before < 2 ^ 40 }
     ensures is { IfOk result (IsTracked (env_of scope.now) op.now) }
-    ensures before { IfOk result (λ t. t.before ≡ root) }
+    ensures before { IfOk result (λ t. t.before ≡ roots_before) }
 {
     let mut tracking = Tracking {
         operands: Vec::new(alloc),
-        before: root,
-        after: root,
+        before: roots_before,
+        after: roots_before,
     };
     for place in 0..op.operand_count() {
         tracking.push_operand(scope, op, place)?;

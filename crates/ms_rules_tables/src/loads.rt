@@ -27,6 +27,7 @@ const SHADOW: [StackOp; 5] = [
     ToPointer,
 ];
 
+// Loads the mask of a value from the shadow of what the address names.
 fn load_mask(
     builder: &mut Builder,
     value: u32,
@@ -39,6 +40,7 @@ fn load_mask(
     builder.fetch(name, width, inputs, &SHADOW)
 }
 
+// Calls what gives the origin of a loaded value.
 fn load_origin(
     builder: &mut Builder,
     value: u32,

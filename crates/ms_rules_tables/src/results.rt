@@ -43,7 +43,7 @@ fn define_word(
     set_mask(builder, value, width, inputs, mask)
 }
 
-// The same where the origin is that of the last operand whose mask isn't 0.
+// The mask of a value gets the word of a rule; its origin is that of the last operand whose mask isn't 0.
 fn define_joined(
     builder: &mut Builder,
     value: u32,
@@ -58,7 +58,7 @@ fn define_joined(
     set_mask(builder, value, width, inputs, mask)
 }
 
-// The same of a result that is clean.
+// A result that is clean has no mask and no origin: both are 0.
 fn define_clean(
     builder: &mut Builder,
     value: u32,

@@ -9,6 +9,7 @@ use crate::words::{store_mask, store_origin};
 use ms_bits::NoMemory;
 use ms_rules_builder::{Builder, TrackedOperand};
 
+/// Hands over the mask and the origin of an operand.
 fn hand(
     builder: &mut Builder,
     place: WordSlot,

@@ -13,6 +13,7 @@ use ms_ir::{Inst, Operand, Ty, width_of};
 use ms_rules_builder::Builder;
 use std::alloc::Global;
 
+/// Hands over the mask and the origin of one word.
 fn store_word(
     builder: &mut Builder,
     place: WordSlot,
@@ -28,6 +29,7 @@ fn store_word(
     store_origin(builder, place, origin)
 }
 
+/// Hands over those of all arguments.
 fn store_words(builder: &mut Builder, args: &[(Ty, Operand, Operand)]) -> Result<(), NoMemory>
     ensures { OnOk result (builder.new ≡ with_tasks builder.old (store_arguments 0 args.now)) }
 {
@@ -37,6 +39,7 @@ fn store_words(builder: &mut Builder, args: &[(Ty, Operand, Operand)]) -> Result
     Ok(())
 }
 
+/// Takes over those of all parameters, as inserted results from `next` on.
 fn load_words(builder: &mut Builder, params: &[Ty], next: u32) -> Result<(), NoMemory>
     ensures { OnOk result (builder.new ≡ with_tasks builder.old (load_parameters next 0 params.now)) }
 {

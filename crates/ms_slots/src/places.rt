@@ -18,18 +18,21 @@ pub enum WordSlot {
     Result,
 }
 
+/// The name of the global that a slot is.
 fn slot_name(alloc: Global, slot: Slot) -> Result<Name, NoMemory>
     ensures { IfOk result (λ x. x ≡ name_of slot) }
 {
     Ok(Name::Text(SmallBytes::from_slice(alloc, slot.name())?))
 }
 
+/// A slot that is no array.
 fn whole_slot(alloc: Global, slot: Slot) -> Result<Operand, NoMemory>
     ensures { IfOk result (λ o. o ≡ operand.Global (name_of slot)) }
 {
     Ok(Operand::Global(slot_name(alloc, slot)?))
 }
 
+/// The index of an item.
 fn index(alloc: Global, place: u64) -> Result<List<(Ty, u64)>, NoMemory>
     ensures { IfOk result (λ l. l ≡ (type.Int 64, place) ∷ []) }
 {

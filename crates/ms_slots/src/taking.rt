@@ -10,6 +10,7 @@ use ms_bits::NoMemory;
 use ms_ir::Ty;
 use ms_rules_builder::Builder;
 
+/// Takes over a mask and an origin under the names of the function's value with a number.
 fn fetch(builder: &mut Builder, place: WordSlot, value: u32, ty: &Ty) -> Result<(), NoMemory>
     ensures { OnOk result (builder.new ≡ with_tasks builder.old (take_tasks (mask_slot place) (origin_slot place) value ty.now)) }
 {

@@ -13,6 +13,7 @@ use ms_rules_builder::{Builder, msan_name};
 /// The bits of an origin.
 const ORIGIN_WIDTH: u8 = 32;
 
+/// Adds a store.
 fn store(builder: &mut Builder, width: u8, value: Operand, addr: Operand) -> Result<(), NoMemory>
     ensures { OnOk result (builder.new ≡ with_tasks builder.old (Puts (Int width) (Leaf value) (Leaf addr) ∷ [])) }
 {
@@ -26,6 +27,7 @@ fn store(builder: &mut Builder, width: u8, value: Operand, addr: Operand) -> Res
     )
 }
 
+/// Adds a load.
 fn load(builder: &mut Builder, name: Name, width: u8, addr: Operand) -> Result<(), NoMemory>
     ensures { OnOk result (builder.new ≡ with_tasks builder.old (Fetches name (Int width) (Leaf addr) ∷ [])) }
 {
@@ -59,6 +61,7 @@ pub fn store_origin(builder: &mut Builder, place: WordSlot, origin: Operand) -> 
     store(builder, ORIGIN_WIDTH, origin, slot)
 }
 
+/// A mask comes out of its slot, as the inserted result with a number.
 fn load_mask(builder: &mut Builder, place: WordSlot, number: u64, width: u8) -> Result<(), NoMemory>
     ensures { OnOk result (builder.new ≡ with_tasks builder.old (Fetches (msan_name number) (Int width) (Leaf (mask_slot place)) ∷ [])) }
 {
@@ -67,6 +70,7 @@ fn load_mask(builder: &mut Builder, place: WordSlot, number: u64, width: u8) -> 
     load(builder, name, width, slot)
 }
 
+/// An origin comes out of its slot, as the inserted result with a number.
 fn load_origin(builder: &mut Builder, place: WordSlot, number: u64) -> Result<(), NoMemory>
     ensures { OnOk result (builder.new ≡ with_tasks builder.old (Fetches (msan_name number) (Int 32) (Leaf (origin_slot place)) ∷ [])) }
 {

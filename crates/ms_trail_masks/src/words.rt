@@ -14,7 +14,7 @@ pub struct Seen {
     pub mask: u64,
 }
 
-/// The values of a frame, their masks, and the fill of the run.
+/// What an instruction reads words from: the values of its frame by number, their masks, and the fill of the run.
 #[derive(Clone, Copy)]
 pub struct View<'a> {
     pub values: &'a [u64],

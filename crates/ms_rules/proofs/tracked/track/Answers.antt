@@ -18,7 +18,7 @@ pub loop-place-init : goal.loop-place-init
 loop-place-init c =
     let env = env_of c.args.scope.now in
     record {
-      tracks = subst (λ ts. Tracks env c.args.root (operands c.args.op.now) 0 ts c.args.root) (sym (ap (map tracked_of) c.new.ensures.items)) (tracks_none env c.args.root (operands c.args.op.now));
+      tracks = subst (λ ts. Tracks env c.args.roots_before (operands c.args.op.now) 0 ts c.args.roots_before) (sym (ap (map tracked_of) c.new.ensures.items)) (tracks_none env c.args.roots_before (operands c.args.op.now));
       before = refl;
     }
 
@@ -26,7 +26,7 @@ pub loop-place-preserved : goal.loop-place-preserved
 loop-place-preserved c =
     let e = c.in_ok-push_operand.ensures in
     record {
-      tracks = tracks_more (env_of c.args.scope.now) c.args.root (operands c.args.op.now) c.loop-place.place _ _ _ _ (omega arith) e.are e.after c.loop-place.invariant.tracks;
+      tracks = tracks_more (env_of c.args.scope.now) c.args.roots_before (operands c.args.op.now) c.loop-place.place _ _ _ _ (omega arith) e.are e.after c.loop-place.invariant.tracks;
       before = e.before ∙ c.loop-place.invariant.before;
     }
 
@@ -34,7 +34,7 @@ pub returns : goal.returns
 returns c =
     let t = c.loop-place.tracking in
     let env = env_of c.args.scope.now in
-    let all = tracks_all env c.args.root (operands c.args.op.now) c.loop-place.place (map tracked_of t.operands.items) t.after (omega arith) c.loop-place.invariant.tracks in
+    let all = tracks_all env c.args.roots_before (operands c.args.op.now) c.loop-place.place (map tracked_of t.operands.items) t.after (omega arith) c.loop-place.invariant.tracks in
     let before = c.loop-place.invariant.before in
     record {
       is = record { are = all.0 ∙ ap (λ n. tracked env n (operands c.args.op.now)) (sym before); after = all.1 ∙ ap (λ n. n + count_undefs (operands c.args.op.now)) (sym before) };

@@ -7,6 +7,6 @@ use Rattle.ms_rules.proofs.tracked.track.Given as goal
 
 abbrev pub invariant-loop-place : goal.invariant-loop-place
 invariant-loop-place l = record {
-  tracks : Tracks (env_of l.scope) l.root (operands l.op) l.place (map tracked_of l.tracking.operands.items) l.tracking.after;
-  before : l.tracking.before ≡ l.root;
+  tracks : Tracks (env_of l.scope) l.roots_before (operands l.op) l.place (map tracked_of l.tracking.operands.items) l.tracking.after;
+  before : l.tracking.before ≡ l.roots_before;
 }
