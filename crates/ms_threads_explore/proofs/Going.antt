@@ -1,5 +1,5 @@
 -- One trial after the other.
-use Rattle.std.proofs.Common.{◌≡◌, ◌<◌, ◌≤◌, ◌+◌, ◌-◌, ◌⊎◌, inl, inr, ℕ, zero, suc, Bool, true, false, ◌||◌, List, [], ◌∷◌, ◌++◌, length, take, drop, map, get_or, leb, refl, sym, ap, ◌∙◌, subst, arith}
+use Rattle.std.proofs.Common.{◌≡◌, ◌<◌, ◌≤◌, ◌+◌, ◌-◌, ◌⊎◌, inl, inr, ℕ, zero, suc, true, false, ◌||◌, List, [], ◌∷◌, ◌++◌, length, take, drop, map, get_or, leb, refl, sym, ap, ◌∙◌, subst, arith}
 use Rattle.std.specs.Prelude.{slice_range}
 use Rattle.std.proofs.lemmas.Bool.{leb-false}
 use Rattle.std.proofs.lemmas.List.{length-map, length-drop, drop_more, take-map, drop-map}
@@ -9,7 +9,7 @@ use Rattle.ms_threads.specs.Recording.{pick_of}
 use Rattle.ms_threads_schedules_laws.specs.Picks.{Pick}
 use Rattle.ms_threads_schedules_laws.specs.Trees.{Everywhere}
 use Rattle.ms_threads_schedules_laws.specs.Explored.{IsTree, Leads}
-use Rattle.ms_threads_schedules_laws.specs.Exploration.{schedule_limit, padded, leaves, schedules_run, beginnings_left}
+use Rattle.ms_threads_schedules_laws.specs.Exploration.{schedule_limit, padded, leaves, schedules_run}
 use Rattle.ms_threads_schedules_laws.specs.Promise.{is_clean}
 use Rattle.ms_threads_explore.specs.Beginnings.{told_of}
 use Rattle.ms_threads_explore.specs.Explorations.{runs_clean, tried_by, IsExplored}

@@ -1,10 +1,10 @@
 -- What is told holds: its schedule repeats its run, and where nothing is left and the run that is told is clean, each schedule runs as one that was tried.
-use Rattle.std.proofs.Common.{◌≡◌, ◌<◌, ◌≤◌, ◌+◌, ◌-◌, ◌⊎◌, inl, inr, ℕ, zero, suc, Bool, true, false, true≢false, ◌&&◌, if◌then◌else◌, List, [], ◌∷◌, ◌++◌, length, take, map, get_or, leb, refl, sym, ap, ◌∙◌, subst, arith}
+use Rattle.std.proofs.Common.{◌≡◌, ◌<◌, ◌≤◌, ◌+◌, ◌⊎◌, inl, inr, ℕ, zero, suc, Bool, true, false, true≢false, ◌&&◌, if◌then◌else◌, List, [], ◌∷◌, ◌++◌, length, take, map, get_or, refl, sym, ap, ◌∙◌, subst, arith}
 use Rattle.std.specs.Prelude.{◌%◌}
 use Rattle.std.specs.List.{list_all}
 use Rattle.std.proofs.Math.Nat.{mod-eq_of_lt}
 use Rattle.std.proofs.lemmas.Bool.{leb-true}
-use Rattle.std.proofs.lemmas.List.{length-map, length-take-le, get_or-take, take_all}
+use Rattle.std.proofs.lemmas.List.{length-take-le, get_or-take, take_all}
 use Rattle.ms_ir.specs.declared.syntax.Module.{Module}
 use Rattle.ms_runs.specs.declared.runs.End.{End}
 use Rattle.ms_runs.specs.declared.runs.RunResult.{RunResult}
@@ -20,13 +20,13 @@ use Rattle.ms_runs_threads.specs.PlainFibers.{plain_fiber, plain_threads_start, 
 use Rattle.ms_runs_threads.specs.ShadowFibers.{shadow_threads}
 use Rattle.ms_threads.specs.Faithful.{IsSchedule}
 use Rattle.ms_threads_schedules_laws.specs.Picks.{Pick, number_at, Chooses, plain_picks, shadow_picks}
-use Rattle.ms_threads_schedules_laws.specs.Trees.{Begins, Everywhere, branches, others}
+use Rattle.ms_threads_schedules_laws.specs.Trees.{Everywhere, branches, others}
 use Rattle.ms_threads_schedules_laws.specs.Exploration.{schedule_limit, padded, leaves, next_runs, schedules_run, beginnings_left, AreShort}
 use Rattle.ms_threads_schedules_laws.specs.Promise.{RunsAsOne, up_to_first, last_or, schedules_tried}
-use Rattle.ms_threads_schedules_laws.proofs.Lists.{joined, every_mapped, every_so, every}
+use Rattle.ms_threads_schedules_laws.proofs.Lists.{joined, every_mapped, every}
 use Rattle.ms_threads_schedules_laws.proofs.SamePicks.{plain_tree, same_run}
 use Rattle.ms_threads_schedules_laws.proofs.Tried.{all_tried}
-use Rattle.ms_threads_explore.specs.Explorations.{is_empty, is_short, runs_clean, told_length, tried_by, last_tried, told_schedule, tried_all, IsExplored}
+use Rattle.ms_threads_explore.specs.Explorations.{is_empty, is_short, runs_clean, told_length, last_tried, told_schedule, IsExplored}
 use Rattle.ms_threads_explore.specs.declared.explorer.Explored.{Explored}
 use Rattle.ms_threads_explore.proofs.Bools.{le_or_lt}
 use Rattle.ms_threads_explore.proofs.Queue.{at_most}

@@ -1,5 +1,5 @@
 -- The queue of beginnings, run by run.
-use Rattle.std.proofs.Common.{◌≡◌, ◌<◌, ◌≤◌, ◌+◌, ◌-◌, ℕ, zero, suc, Bool, true, false, if◌then◌else◌, List, [], ◌∷◌, ◌++◌, length, take, map, refl, sym, ap, ◌∙◌, arith}
+use Rattle.std.proofs.Common.{◌≡◌, ◌≤◌, ◌-◌, ℕ, zero, suc, Bool, true, false, if◌then◌else◌, List, [], ◌∷◌, ◌++◌, length, take, map, refl, sym, ap, ◌∙◌, arith}
 use Rattle.ms_threads_schedules_laws.specs.Picks.{Pick}
 use Rattle.ms_threads_schedules_laws.specs.Trees.{Everywhere, branches, others}
 use Rattle.ms_threads_schedules_laws.specs.Explored.{IsTree, Leads}

@@ -1,25 +1,24 @@
 -- One run more: the queue goes on, and where no further run is made, those made are the ones that are tried.
-use Rattle.std.proofs.Common.{◌≡◌, ◌<◌, ◌≤◌, ◌+◌, ◌-◌, ◌⊎◌, inl, inr, ℕ, zero, suc, Bool, true, false, ◌||◌, List, [], ◌∷◌, ◌++◌, length, take, drop, map, get_or, leb, ltb, refl, sym, ap, ◌∙◌, subst, arith}
+use Rattle.std.proofs.Common.{◌≡◌, ◌<◌, ◌≤◌, ◌+◌, ◌-◌, ◌⊎◌, inl, inr, ℕ, suc, true, false, ◌||◌, List, [], ◌∷◌, ◌++◌, length, take, drop, map, get_or, leb, ltb, refl, sym, ap, ◌∙◌, subst, arith}
 use Rattle.std.specs.Prelude.{not}
 use Rattle.std.specs.List.{list_all}
 use Rattle.std.proofs.lemmas.List.{length-append, length-map, get_or-take, get_or_append_left, drop_more, drop-take, drop-append-le, drop_all}
-use Rattle.std.proofs.lemmas.Bool.{leb-true, leb-false}
+use Rattle.std.proofs.lemmas.Bool.{leb-true}
 use Rattle.ms_runs.specs.declared.runs.RunResult.{RunResult}
 use Rattle.ms_threads_schedules_laws.specs.Picks.{Pick}
-use Rattle.ms_threads_schedules_laws.specs.Trees.{Everywhere, branches}
-use Rattle.ms_threads_schedules_laws.specs.Explored.{IsTree, Leads}
+use Rattle.ms_threads_schedules_laws.specs.Trees.{Everywhere}
 use Rattle.ms_threads_schedules_laws.specs.Exploration.{schedule_limit, padded, leaves, next_runs, schedules_run, beginnings_left}
 use Rattle.ms_threads_schedules_laws.specs.Promise.{up_to_first, last_or}
 use Rattle.ms_threads_schedules_laws.proofs.Lists.{joined}
 use Rattle.ms_threads.specs.Recording.{pick_of}
-use Rattle.ms_threads_explore.specs.Beginnings.{IsBeginning, told_of}
+use Rattle.ms_threads_explore.specs.Beginnings.{told_of}
 use Rattle.ms_threads_explore.specs.Explorations.{is_short, runs_clean, tried_by}
 use Rattle.ms_threads_explore.specs.Outcomes.{shown, with_shown, all_shown, kept_by}
 use Rattle.ms_threads_explore.specs.Trials.{trial_by, told_at, Registered, IsAt, IsGoing}
 use Rattle.ms_threads_explore.specs.declared.trials.Trial.{Trial}
 use Rattle.ms_threads_explore.specs.declared.exploration.Exploration.{Exploration}
 use Rattle.ms_threads_explore.proofs.Bools.{ltb_not, or_not, all_more, or_cases}
-use Rattle.ms_threads_explore.proofs.Queue.{tail, not_more, append_nil, lists_assoc, map_append, take_joined, long_enough, at_most, left_tail, nothing_left, all_pass, to_failed, last_more, runs_more, left_more, none_run, runs_split}
+use Rattle.ms_threads_explore.proofs.Queue.{tail, append_nil, lists_assoc, map_append, take_joined, long_enough, at_most, left_tail, nothing_left, all_pass, to_failed, last_more, runs_more, left_more, none_run, runs_split}
 use Rattle.ms_threads_explore.proofs.Cut.{kept_same}
 
 all_shown_more : (kept : List (ℕ × ℕ × List ℕ)) (rs : List RunResult) (r : RunResult) → all_shown kept (rs ++ r ∷ []) ≡ with_shown (all_shown kept rs) (shown r)

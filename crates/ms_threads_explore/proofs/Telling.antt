@@ -1,5 +1,5 @@
 -- What is told with the last run that was made is what exploring tells.
-use Rattle.std.proofs.Common.{◌≡◌, ◌<◌, ◌≤◌, ◌+◌, ◌-◌, ◌⊎◌, inl, inr, ℕ, zero, suc, Bool, true, false, ◌&&◌, List, [], ◌∷◌, length, take, drop, map, get_or, leb, refl, sym, ap, ◌∙◌, arith}
+use Rattle.std.proofs.Common.{◌≡◌, ◌<◌, ◌≤◌, ◌+◌, ◌-◌, ◌⊎◌, inl, inr, ℕ, zero, suc, ◌&&◌, List, [], ◌∷◌, length, take, drop, map, leb, sym, ap, ◌∙◌, arith}
 use Rattle.std.specs.Prelude.{not}
 use Rattle.std.specs.List.{list_all}
 use Rattle.std.proofs.lemmas.List.{length-map, drop_more, drop_all}
@@ -18,7 +18,7 @@ use Rattle.ms_threads_explore.specs.declared.trials.Trial.{Trial}
 use Rattle.ms_threads_explore.specs.declared.exploration.Exploration.{Exploration}
 use Rattle.ms_threads_explore.specs.declared.explorer.Explored.{Explored}
 use Rattle.ms_threads_explore.proofs.Bools.{le_or_lt, not_not}
-use Rattle.ms_threads_explore.proofs.Queue.{tail, left_tail, nothing_left}
+use Rattle.ms_threads_explore.proofs.Queue.{left_tail, nothing_left}
 use Rattle.ms_threads_explore.proofs.Cut.{told_short, length_padded}
 use Rattle.ms_threads_explore.proofs.Holding.{told_cut}
 

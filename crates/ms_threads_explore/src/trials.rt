@@ -1,5 +1,5 @@
 //! The runs of some beginnings, by several threads: the list that one thread makes.
-ghost use Rattle.std.specs.Prelude.{◌≡◌, ◌<◌, ◌≤◌, length, map, IfOk, unwrap_or, slice_get, []};
+ghost use Rattle.std.specs.Prelude.{◌≡◌, ◌<◌, length, map, IfOk, unwrap_or, slice_get, []};
 ghost use Rattle.ms_runs.specs.Limits.{WithinLimits};
 ghost use Rattle.ms_runs_threads.specs.PlainFibers.{plain_threads};
 ghost use Rattle.ms_threads_schedules_laws.specs.{Picks.{plain_picks}, Exploration.{padded}, Trees.{Everywhere}};

@@ -1,6 +1,5 @@
 use Rattle.std.proofs.Common.{◌≡◌, ◌+◌, ◌-◌, ℕ, ◌++◌, map, ap, sym, ◌∙◌, subst, arith}
 use Rattle.ms_threads_schedules_laws.specs.Trees.{Everywhere}
-use Rattle.ms_threads_explore.specs.declared.beginnings.Beginning.{Beginning}
 use Rattle.ms_threads_explore.specs.Beginnings.{IsBeginning, told_of}
 use Rattle.ms_threads_explore.proofs.Marked.{pushed, start_told, all_pushed, push_told, push_is}
 use Rattle.ms_threads_explore.proofs.beginnings.push_others.Goals as goal

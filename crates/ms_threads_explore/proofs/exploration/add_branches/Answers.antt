@@ -1,9 +1,8 @@
-use Rattle.std.proofs.Common.{◌≡◌, ◌≤◌, ℕ, List, [], ◌++◌, length, take, map, sym, ap, ◌∙◌, subst, arith}
-use Rattle.std.proofs.lemmas.List.{length-map, take_all, take-append-le, take-map}
-use Rattle.ms_threads_schedules_laws.specs.Trees.{Everywhere, branches}
-use Rattle.ms_threads_schedules_laws.proofs.Lists.{joined}
+use Rattle.std.proofs.Common.{◌≡◌, ℕ, List, ◌++◌, take, map, sym, ap, ◌∙◌}
+use Rattle.std.proofs.lemmas.List.{take-map}
+use Rattle.ms_threads_schedules_laws.specs.Trees.{branches}
 use Rattle.ms_threads.specs.Recording.{pick_of}
-use Rattle.ms_threads_explore.specs.Beginnings.{IsBeginning, told_of}
+use Rattle.ms_threads_explore.specs.Beginnings.{told_of}
 use Rattle.ms_threads_explore.specs.Trials.{told_at}
 use Rattle.ms_threads_explore.specs.declared.beginnings.Beginning.{Beginning}
 use Rattle.ms_threads_explore.proofs.Cut.{told_place}

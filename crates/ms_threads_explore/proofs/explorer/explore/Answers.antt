@@ -1,4 +1,4 @@
-use Rattle.std.proofs.Common.{◌≡◌, ◌+◌, ◌-◌, Option, ap, ◌∙◌, subst, arith}
+use Rattle.std.proofs.Common.{◌-◌, Option, subst, arith}
 use Rattle.std.specs.Prelude.{MatchOption}
 use Rattle.ms_runs_threads.specs.PlainFibers.{plain_threads}
 use Rattle.ms_threads_schedules_laws.specs.Picks.{plain_picks}

@@ -1,5 +1,5 @@
 use Rattle.std.proofs.Common.{◌≡◌, ℕ, List, ◌++◌, ap, ◌∙◌}
-use Rattle.ms_threads_explore.specs.Outcomes.{shown, with_shown, kept_by}
+use Rattle.ms_threads_explore.specs.Outcomes.{with_shown, kept_by}
 use Rattle.ms_threads_explore.proofs.Counted.{added}
 use Rattle.ms_threads_explore.proofs.outcomes.Outcomes.add.Goals as goal
 
