@@ -1,4 +1,4 @@
-//! Quotients and remainders.
+//! Quotients and remainders of two words of one width: those of `binary`. `b` is the divisor.
 ghost use Rattle.std.specs.Prelude.{◌≡◌, ◌<◌, int_div, int_rem};
 ghost use Rattle.ms_bits.specs.Signed.{signed};
 ghost use Rattle.ms_bits.specs.Arithmetic.{of_width, udiv_of, sdiv_of, urem_of, srem_of, quotient_overflows};

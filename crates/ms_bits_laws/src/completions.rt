@@ -1,5 +1,6 @@
 //! What holds of every operation and every exact mask, and of the least and the greatest completion.
-//! v and u are the numbers of two words of w bits, m and k their masks.
+//! v and u are the numbers of two words of w bits, m and k their masks; a and c complete the first word, b and d the second. f is
+//! an operation with results of `to` bits, and r a mask of its result.
 ghost use Rattle.std.specs.Prelude.{◌≡◌, ◌<◌, ◌≤◌, ◌^◌, ℕ};
 ghost use Rattle.ms_bits.specs.Completion.{InRange, Agrees, Completes, IsMaskOf, IsSelectMaskOf, mask_of, select_mask_of};
 ghost use Rattle.ms_bits.specs.{Formulas.{greatest, least}, Conversions.{select_of}};

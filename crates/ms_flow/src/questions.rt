@@ -28,7 +28,8 @@ pub fn questions(
     Ok(questions)
 }
 
-/// At most sixty-four values, and the number of questions at the front that are about them.
+/// The values, at most sixty-four, that the first questions are about, and how many questions at the front are about them: a
+/// round.
 pub fn first_values(
     alloc: Global,
     questions: &[(u32, usize)],

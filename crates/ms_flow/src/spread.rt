@@ -62,7 +62,7 @@ fn hand_on(g: &Graph, block: usize, kills: &[u64], words: &mut [u64], queued: &m
     merge(g.successors(block), leaving, words, queued);
 }
 
-/// Adds the places to the words of the blocks, and queues those to which they are new.
+/// Adds the places `leaving` a block to the words of the blocks `next` after it, and queues those to which they are new.
 fn merge(next: &[u32], leaving: u64, words: &mut [u64], queued: &mut [bool])
     requires next { All (λ c. c < length words.old) next.now }
     requires queued { length queued.old ≡ length words.old }

@@ -56,7 +56,7 @@ fn first_visits(alloc: Global) -> Result<Vec<Visit>, NoMemory>
     Ok(visits)
 }
 
-/// Visits the successors of a visited block that aren't seen yet.
+/// Visits those successors of the block visited at `from` that aren't seen yet.
 fn go_on(g: &Graph, from: usize, seen: &mut [bool], visits: &mut Vec<Visit>) -> Result<(), NoMemory>
     requires from { from < length visits.old.items }
     requires successors { StaysIn g.now }
@@ -82,7 +82,7 @@ fn go_on(g: &Graph, from: usize, seen: &mut [bool], visits: &mut Vec<Visit>) -> 
     Ok(())
 }
 
-/// The place at which the block was visited.
+/// The place of the visit of a block, if it was visited.
 fn visit_of(visits: &[Visit], block: u32) -> Option<usize>
     ensures found { IfSome result (λ k. (k < length visits.now) × (block_at visits.now k ≡ block)) }
     ensures none { IfNone result (Visits visits.now block → ⊥) }

@@ -54,7 +54,8 @@ fn map_piece<W: Work<Item = T>, T: Drop, G: Gate>(
     Ok(all)
 }
 
-/// The items of `count` numbers from `from` on, cut in halves until each part is a piece.
+/// The items of `count` numbers from `from` on, cut in halves until each part has at most `most` items and so is a piece; by at
+/// most so many threads.
 #[cycle(halves)]
 fn map_range<R: Threads + Sync, W: Work<Item = T> + Sync, T: Send + Drop, G: Gate + Sync>(
     rt: &R,
@@ -120,6 +121,7 @@ fn fork<R: Threads + Sync, W: Work<Item = T> + Sync, T: Send + Drop, G: Gate + S
     requires can { (i : ℕ) → from ≤ i → i < from + count → W.can work.now i }
     ensures { IfOk result (λ all. all.items ≡ map (W.answer work.now) (range_with_len from count)) }
 {
+    // The counts of the halves, the second one's first number, and the threads for the second and the first half.
     let low = count / 2;
     let high = count - low;
     let up = from + low;

@@ -1,4 +1,4 @@
-//! Instructions by their sites, and sites by their instructions.
+//! Instructions by their sites, and sites by their instructions, in a module alone: the program counts sites as it goes.
 ghost use Rattle.std.specs.Prelude.{◌≡◌, ◌+◌, ◌<◌, ◌≤◌, ◌^◌, length, take, IfSome, IfNone};
 ghost use Rattle.ms_ir.specs.declared.places.Place.{Place};
 ghost use Rattle.ms_ir.specs.Instructions.{blocks_at, insts_at, one_unmarked, over_insts, over_blocks, over_funcs, site_at};
@@ -28,7 +28,7 @@ fn insts_of(m: &Module, func: u32, block: u32) -> &[Inst]
     }
 }
 
-/// The first items, so many of them.
+/// The first `count` items, or all where there are fewer.
 fn first<T>(items: &[T], count: u32) -> &[T]
     ensures { result.now ≡ take count items.now }
 {
@@ -63,7 +63,9 @@ pub fn site_of(m: &Module, place: Place) -> u32
 /// A part of a list, and which of its unmarked instructions is sought, counted from 0.
 #[derive(Clone, Copy)]
 struct Sought {
+    /// The place of the part in the list.
     index: u32,
+    /// Which unmarked instruction of the part.
     left: u32,
 }
 
