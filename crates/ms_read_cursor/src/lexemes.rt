@@ -18,6 +18,7 @@ use std::marker::Model;
 /// A token of a text with its symbol, or the end of the text. Contracts see the grammar's lexeme.
 #[derive(Drop)]
 pub struct Lexeme<'a> {
+    /// The whole text.
     text: &'a [u8],
     token: Token,
     symbol: Symbol,

@@ -1,4 +1,6 @@
-//! A cursor over the tokens of a text, and the loops and lists of every reader, proved exact against the grammar's pieces.
+//! A cursor over the tokens of a text, and the loops and lists of every reader, proved exact against the grammar's pieces. `Gives
+//! (run piece before) answer after`: of the tokens before it a reader takes what the piece takes, and answers what the piece
+//! gives, or why it stops. `Judges verdict answer`: it answers what is said of one token.
 #![tactic(auto)]
 
 mod cursor;

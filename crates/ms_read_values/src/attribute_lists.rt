@@ -1,4 +1,4 @@
-//! Reads attributes (LLVM Language Reference, "Parameter Attributes" and "Function Attributes").
+//! Reads over attributes (LLVM Language Reference, "Parameter Attributes" and "Function Attributes"): nothing is kept of them.
 
 ghost use Rattle.ms_text_grammar.specs.Functions as functions;
 ghost use Rattle.ms_text_grammar.specs.Skipped as spec;
