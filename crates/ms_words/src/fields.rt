@@ -116,7 +116,7 @@ fn no_schedule(alloc: Global) -> Result<Bytes, NoMemory>
     Ok(Bytes::from_vec(vec![in alloc; 0u8]?))
 }
 
-/// The options of a run with this input, this limit of reports and this schedule, by what was found.
+/// The options of a run, by what was found but for the input, the limit of reports and the schedule, which are given.
 fn options_with(
     alloc: Global,
     found: &ArgMatches,
@@ -138,7 +138,7 @@ fn options_with(
     })
 }
 
-/// The options of a run with this limit of reports and this schedule, by what was found.
+/// The options of a run, by what was found but for the limit of reports and the schedule, which are given.
 fn options_in(
     alloc: Global,
     found: &ArgMatches,
@@ -160,7 +160,7 @@ fn reports_in(found: &ArgMatches) -> u32
     small_number_in(found, OptionName::Reports)
 }
 
-/// The file with the options of a run with this limit of reports and this schedule, by what was found.
+/// The file with the options of a run, by what was found but for the limit of reports and the schedule, which are given.
 fn file_and_options(
     alloc: Global,
     found: &ArgMatches,

@@ -116,7 +116,7 @@ fn push_number(text: &mut Vec<u8>, number: u64) -> Result<(), NoMemory>
     text.extend_from_slice(buffer.format(number).as_bytes())
 }
 
-/// Adds an option with the name of its value.
+/// Adds an option with the name of its value: `--steps N`.
 fn push_form(text: &mut Vec<u8>, option: OptionName) -> Result<(), NoMemory>
     ensures { IfOk result (λ _. text.new.items ≡ text.old.items ++ option_form option) }
 {
@@ -125,7 +125,7 @@ fn push_form(text: &mut Vec<u8>, option: OptionName) -> Result<(), NoMemory>
     push_text(text, option.takes().value_name())
 }
 
-/// Adds the least and the greatest value.
+/// Adds the least and the greatest value that an option takes.
 fn push_bounds(text: &mut Vec<u8>, takes: Takes) -> Result<(), NoMemory>
     ensures { IfOk result (λ _. text.new.items ≡ text.old.items ++ bounds_text takes) }
 {
@@ -146,7 +146,7 @@ fn push_bounds(text: &mut Vec<u8>, takes: Takes) -> Result<(), NoMemory>
     }
 }
 
-/// Adds the value of an option where it isn't given.
+/// Adds the value that an option has where it isn't given.
 fn push_default(text: &mut Vec<u8>, option: OptionName) -> Result<(), NoMemory>
     ensures { IfOk result (λ _. text.new.items ≡ text.old.items ++ default_text (default_of option)) }
 {
@@ -332,7 +332,7 @@ fn push_topics(text: &mut Vec<u8>, topics: &[Topic]) -> Result<(), NoMemory>
     Ok(())
 }
 
-/// Adds lines.
+/// Adds texts as lines.
 fn push_lines(text: &mut Vec<u8>, lines: &[&str]) -> Result<(), NoMemory>
     ensures { IfOk result (λ _. text.new.items ≡ text.old.items ++ lines_of (map (λ l. l.now) lines.now)) }
 {

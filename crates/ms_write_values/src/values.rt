@@ -31,7 +31,8 @@ impl Writer {
         Ok(())
     }
 
-    /// Writes what stands between the parentheses of a constant `getelementptr`.
+    /// Writes what stands between the parentheses of a constant `getelementptr`: the type that it steps through, its base, which
+    /// is what the inner steps lead to, and its indices.
     #[cycle(addresses)]
     #[tactic(auto, using(crate::proofs::Puts::put_append))]
     fn step_parts(
@@ -77,7 +78,7 @@ impl Writer {
         }
     }
 
-    /// Writes a value of a type, which isn't written.
+    /// Writes a value of a type; the type isn't written.
     #[tactic(auto, unfolding(ms_text_grammar::specs::LayoutValues::value_tokens))]
     pub fn value(&mut self, ty: &Ty, operand: &Operand) -> Result<(), NoMemory>
         ensures { IfOk result (λ _. self.new ≡ put self.old (value_tokens ty.now operand.now)) }
