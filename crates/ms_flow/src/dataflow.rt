@@ -1,6 +1,9 @@
 //! The first use that isn't defined on every path: dataflow over 64 values at a time. A question is the value of a use and the
 //! place of that use in the list; a definition is a block and a value. `values` are those of a round, told by their places; of
 //! each block `words` has which of them arrive there, and `kills` which it defines, one bit for each.
+//!
+//! In contracts `Has word i` says that place i is in a set, `Comes .. i b` that the value at place i arrives at block b without a
+//! definition, and `Leaves .. u i` that it gets to the use u.
 ghost use Rattle.std.specs.Prelude.{◌≡◌, ◌≢◌, ℕ, ◌<◌, ◌≤◌, ◌^◌, ◌↔◌, ◌⊎◌, false, true, length, take, vec_len, IfOk, OnOk, IfSome, IfNone, IsNone, IsTrue, All, AllPairs, Contains, slice_get, slice_index_or};
 ghost use Rattle.ms_flow.specs.Paths.{Defines, IsDefined, Misses};
 ghost use Rattle.ms_flow.specs.Search.{Has, StaysIn, IsUndefined, StandsAt, Leaves, Covers, Comes, use_at};

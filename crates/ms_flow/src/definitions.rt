@@ -1,4 +1,5 @@
-//! The definitions of a graph as one sorted list of pairs, a block and a value; and which blocks define the values of a round.
+//! The definitions of a graph as one sorted list of pairs, a block and a value; and which blocks define the values of a round. In
+//! contracts `Has word i` says that place i is in a set.
 ghost use Rattle.std.specs.Prelude.{◌≡◌, ℕ, ◌<◌, ◌≤◌, ◌↔◌, ◌⊎◌, length, vec_len, IfOk, OnOk, IsTrue, All, Contains, slice_index_or};
 ghost use Rattle.ms_flow.specs.{Paths.{Defines}, Search.{Has}};
 

@@ -1,4 +1,4 @@
-//! The order in which blocks hand on what arrives at them.
+//! The order in which blocks hand on what arrives at them: by a walk in depth from block 0.
 ghost use Rattle.std.specs.Prelude.{◌≡◌, ℕ, ◌<◌, [], ◌∷◌, length, vec_len, true, false, IfOk, OnOk, All, Contains, slice_index_or};
 ghost use Rattle.ms_flow.specs.Search.{StaysIn, Covers};
 

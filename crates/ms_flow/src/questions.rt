@@ -1,4 +1,4 @@
-//! The uses that need a look at paths, sixty-four values at a time.
+//! The uses that need a look at paths, sixty-four values at a time. A definition is a block and a value.
 ghost use Rattle.std.specs.Prelude.{◌≡◌, ℕ, ◌<◌, ◌≤◌, ◌⊎◌, length, vec_len, IfOk, IsTrue, All, Contains, slice_index_or};
 ghost use Rattle.ms_flow.specs.Search.{use_at};
 

@@ -1,4 +1,6 @@
-//! Which of 64 values may arrive at each block without a definition.
+//! Which of 64 values may arrive at each block without a definition. A block that waits in the queue hands on what arrives at it,
+//! until none waits. In contracts `Has word i` says that place i is in a set, and `Comes .. i b` that the value at place i
+//! arrives at block b.
 ghost use Rattle.std.specs.Prelude.{◌≡◌, ℕ, ◌<◌, ◌≤◌, ◌↔◌, true, false, length, All, Contains, slice_index_or};
 ghost use Rattle.ms_flow.specs.Search.{Has, StaysIn, Covers, Comes, IsState, Merged, work_left};
 

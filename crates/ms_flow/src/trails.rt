@@ -1,4 +1,4 @@
-//! One path that a value takes without a definition.
+//! One path that a value takes without a definition: by a walk in breadth from block 0, and then back from the use.
 ghost use Rattle.std.specs.Prelude.{◌≡◌, ◌≢◌, ℕ, ◌+◌, ◌<◌, List, [], ◌∷◌, length, take, vec_len, IfOk, OnOk, IfSome, IfNone, AllPairs};
 ghost use Rattle.ms_flow.specs.{Paths.{Misses, HasEdge, Defines}, Search.{StaysIn, Arrives, IsUndefined}};
 ghost use Rattle.ms_flow.specs.Walks.{IsWalk, Marks, Trail, Visits, block_at, from_at, unseen};

@@ -1,5 +1,6 @@
 //! Marks the functions, nodes of metadata and lines of a whole text. `total` is how many tokens the text has, `before` how many
-//! instructions stand in front of a function, `found` the marks so far.
+//! instructions stand in front of a function, `found` the marks so far. An error of a text that reads is want of memory alone
+//! (`OnlyMemory`).
 
 ghost use Rattle.std.specs.Prelude.{◌≡◌, ◌≤◌, ◌<◌, ◌^◌, IfErr, IfOk, IsErr, Ok, true, length};
 ghost use Rattle.ms_lex.specs.{Grammar.{Ends, done, loop, tail}, Tokens.{InOrder}};

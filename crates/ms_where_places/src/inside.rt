@@ -1,5 +1,6 @@
 //! Marks the instructions and debug records of one function's text. `total` is how many tokens the text has, `before` how many
-//! instructions stand in front of the function, `found` the marks so far.
+//! instructions stand in front of the function, `found` the marks so far. An error of a text that reads is want of memory alone
+//! (`OnlyMemory`).
 
 ghost use Rattle.std.specs.Prelude.{◌≡◌, ◌++◌, ◌<◌, ◌^◌, IfErr, IfOk, Ok, true};
 ghost use Rattle.ms_lex.specs.Grammar.{Ends, done, loop, tail};
