@@ -30,7 +30,7 @@ pub fn select_masks()
     ensures poisoned { select_mask 0 1 5 0 4 0 ≡ 1 }
 {}
 
-/// Bit 2 reaches the bits from 2 on.
+/// Bit 2 poisons the bits from 2 on, no bit poisons none, and the highest bit itself alone.
 pub fn carry_masks()
     ensures some { carry_mask 8 4 ≡ 252 }
     ensures none { carry_mask 8 0 ≡ 0 }

@@ -1,5 +1,5 @@
-//! The parts of an instruction by their places, in written order (LLVM Language Reference, "Instruction Reference").
-//! Each answer takes constant time and no memory.
+//! The parts of an instruction by their places, in written order (LLVM Language Reference, "Instruction Reference"): checks, the
+//! pass and the followed run go through operands and targets in this way. Each answer takes constant time and no memory.
 ghost use Rattle.std.specs.{Prelude.{◌≡◌, [], ◌∷◌, map, slice_get}, Option.{option_copied}};
 ghost use Rattle.ms_ir.specs.{Instructions.{operands, is_phi}, Written.{labels, targets, own_types}};
 

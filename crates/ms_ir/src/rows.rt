@@ -65,7 +65,7 @@ fn is_result(ret: Option<ParamType>, ty: &Option<Ty>) -> bool
     }
 }
 
-/// Whether types are those that a function takes.
+/// Whether these types of parameters are those that a function takes.
 fn are_params(kinds: &[ParamType], params: &[Ty]) -> bool
     ensures { result ≡ types_eq params.now (map kind_type kinds.now) }
 {

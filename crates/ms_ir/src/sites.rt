@@ -69,7 +69,7 @@ struct Sought {
     left: u32,
 }
 
-/// The unmarked instruction with a number among these, counted from 0.
+/// The place of unmarked instruction `number` among these, counted from 0.
 fn find_inst(insts: &[Inst], number: u32) -> Option<u32>
     requires { length insts.now < 2 ^ 32 }
     ensures found { IfSome result (FoundInst insts.now number) }
@@ -87,7 +87,7 @@ fn find_inst(insts: &[Inst], number: u32) -> Option<u32>
     None
 }
 
-/// The basic block with the unmarked instruction that has a number among those of all, counted from 0.
+/// The basic block that has unmarked instruction `number` of all of them, counted from 0, and which one of its own that is.
 fn find_block(blocks: &[Block], number: u32) -> Option<Sought>
     requires few { over_blocks one_unmarked blocks.now < 2 ^ 32 }
     requires short { length blocks.now < 2 ^ 32 }
@@ -106,7 +106,7 @@ fn find_block(blocks: &[Block], number: u32) -> Option<Sought>
     None
 }
 
-/// The function with the unmarked instruction that has a number among those of all, counted from 0.
+/// The function that has unmarked instruction `number` of all of them, counted from 0, and which one of its own that is.
 fn find_func(funcs: &[Func], number: u32) -> Option<Sought>
     requires few { over_funcs one_unmarked funcs.now < 2 ^ 32 }
     requires short { length funcs.now < 2 ^ 32 }

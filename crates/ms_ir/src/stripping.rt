@@ -1,4 +1,5 @@
-//! What is left of a module without what was inserted: of an instrumented module, the module it was made of.
+//! What is left of a module without what was inserted: of an instrumented module, the module it was made of. The promise of the
+//! pass speaks of it; the program itself doesn't strip.
 ghost use Rattle.std.specs.Prelude.{◌≡◌, IfOk, filter, map, not};
 ghost use Rattle.ms_ir.specs.{Instructions.{is_unmarked, strip, strip_block, strip_func}, Names.{is_reserved}};
 

@@ -1,4 +1,4 @@
-//! The types of operands and results (LLVM Language Reference, "Instruction Reference").
+//! The types of operands, by their places, and of results (LLVM Language Reference, "Instruction Reference").
 ghost use Rattle.std.specs.Prelude.{◌≡◌, [], ◌∷◌, map, option_map, slice_get};
 ghost use Rattle.ms_ir.specs.declared.syntax.Ty as type;
 ghost use Rattle.ms_ir.specs.{Instructions.{operands}, Equal.{type_eq}, ValueTypes.{type_of}, Written.{result_type}};

@@ -1,5 +1,5 @@
 //! What the readers of a body offer to who reads a module part by part: each part of a text by one call from a token on, and
-//! errors with their place.
+//! errors with their place. Numbers of refusals are those of `ReadError`.
 
 ghost use Rattle.std.specs.Prelude.{◌≡◌, ◌≤◌, ◌<◌, ◌^◌, length};
 ghost use Rattle.ms_text_grammar.specs.Skipped.{attributes as attributes_piece};

@@ -33,7 +33,7 @@ fn lookup(mut table: &[Keyword], word: &[u8], other: Symbol) -> Symbol
     other
 }
 
-/// What `i` and these digits are.
+/// What the word `i` with these digits is: an integer type, one of more than 64 bits, or, as `i0`, a plain word.
 fn int_symbol(digits: &[u8]) -> Symbol
     ensures { result ≡ spec.int_symbol (numbers.decimal digits.now) }
 {

@@ -46,7 +46,7 @@ use Answer::{Next, Not};
 /// A piece in a form, a text, the token from which it is read, and the answer.
 struct Part(Piece, Form, &'static str, u32, Answer);
 
-/// A function of two instructions, in front of others or by itself.
+/// A function of two instructions, at the limit on them and past it.
 const MAIN: &str = r#"define i32 @main() {
   %1 = add i32 1, 2
   ret i32 0

@@ -32,7 +32,7 @@ fn small_number_in(found: &ArgMatches, option: OptionName) -> u32
     number_in(found, option) as u32
 }
 
-/// The number of workers that was found.
+/// The number that `--workers` was found with.
 fn workers_in(found: &ArgMatches) -> u8
     requires { IsNumber 8 (first_value (found_of found.now) (option_word OptionName.Workers)) }
     ensures { result ≡ number_by (first_value (found_of found.now) (option_word OptionName.Workers)) }
@@ -40,7 +40,7 @@ fn workers_in(found: &ArgMatches) -> u8
     number_in(found, OptionName::Workers) as u8
 }
 
-/// The greatest number of runs that was found.
+/// The number that `--schedules` was found with: the greatest number of runs.
 fn runs_in(found: &ArgMatches) -> u32
     requires { IsNumber 1000000 (first_value (found_of found.now) (option_word OptionName.Schedules)) }
     ensures { result ≡ number_by (first_value (found_of found.now) (option_word OptionName.Schedules)) }
@@ -152,7 +152,7 @@ fn options_in(
     options_with(alloc, found, input, reports, schedule)
 }
 
-/// The limit of reports that was found.
+/// The number that `--reports` was found with: the limit of reports.
 fn reports_in(found: &ArgMatches) -> u32
     requires { FitsReports (found_value (found_of found.now)) }
     ensures { result ≡ number_by (found_value (found_of found.now) OptionName.Reports) }

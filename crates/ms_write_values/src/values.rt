@@ -50,7 +50,8 @@ impl Writer {
         self.constant_indices(step.1.as_slice())
     }
 
-    /// Writes a constant `getelementptr`, within which others may stand.
+    /// Writes the constant `getelementptr` of a step: its base is the address to which the inner steps lead from the global
+    /// `base`.
     #[cycle(addresses)]
     #[tactic(auto, using(crate::proofs::Puts::put_append), unfolding(ms_text_grammar::specs::LayoutValues::offset_tokens))]
     fn step(
