@@ -95,6 +95,7 @@ fn mul(flags: Flags, a: Word, b: Word) -> Result<Word, Trap>
     Ok(Word::new(a.width(), (product % limit) as u64))
 }
 
+/// The product of the signed numbers, as a whole number.
 fn signed_product(a: Word, b: Word) -> i128
     ensures { result ≡ signed a.width a.value *ℤ signed b.width b.value }
 {

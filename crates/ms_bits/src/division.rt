@@ -78,6 +78,7 @@ fn overflows(a: Word, b: Word) -> bool
     2 * (a.value() as u128) == limit && b.value() as u128 + 1 == limit
 }
 
+/// The quotient of the signed numbers, as a whole number.
 #[tactic(auto, unfolding(crate::specs::Signed::signed))]
 fn signed_quotient(a: Word, b: Word) -> i128
     requires { 0 < b.value }
@@ -86,6 +87,7 @@ fn signed_quotient(a: Word, b: Word) -> i128
     signed_value(a) / signed_value(b)
 }
 
+/// The remainder of the signed numbers, as a whole number.
 #[tactic(auto, unfolding(crate::specs::Signed::signed))]
 fn signed_remainder(a: Word, b: Word) -> i128
     requires { 0 < b.value }

@@ -1,4 +1,5 @@
-//! A list whose items are made piece by piece, with threads of their own for some of the pieces.
+//! A list whose items are made piece by piece, with threads of their own for some of the pieces: `rt` starts them, and each piece
+//! enters `gate` first.
 ghost use Rattle.std.specs.{Prelude.{◌≡◌, ℕ, ◌+◌, ◌*◌, ◌<◌, ◌≤◌, ◌^◌, map, IfOk}, List.{range_with_len}};
 ghost use Rattle.std.specs.Thread.{IsSync};
 ghost use denote.Param.Send.{IsSend};

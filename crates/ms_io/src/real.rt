@@ -180,6 +180,7 @@ impl<R: rt::Files> Files for RealFiles<'_, R> {
 #[derive(Debug, Drop)]
 pub struct RealSink<W> {
     writer: W,
+    /// How many puts failed.
     faults: u64,
 }
 

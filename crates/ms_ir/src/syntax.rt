@@ -200,6 +200,7 @@ pub struct Decl {
     pub name: Name,
     /// The type of the result; none is `void`.
     pub ret: Option<Ty>,
+    /// The types of the parameters.
     pub params: List<Ty>,
 }
 

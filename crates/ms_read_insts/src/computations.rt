@@ -253,6 +253,7 @@ fn same_type_of(ty: ScalarType, token: &Lexeme<'_>) -> Result<(), Cause>
     if spells(ty, token) {
         return Ok(());
     }
+    // What is no type of a value at all is refused for what it is.
     let _other = value_type_of(token)?;
     Err(token.refusal())
 }

@@ -66,6 +66,7 @@ fn tail_rest(tokens: &mut Tokens<'_>, form: Form, symbol: Symbol) -> Result<(), 
 /// What may stand among attributes.
 #[derive(Clone, Copy)]
 enum Among {
+    /// Attributes alone.
     Nothing,
     /// Words of linkage, in front of a function's type.
     Linkage,

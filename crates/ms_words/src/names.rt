@@ -4,7 +4,7 @@ ghost use Rattle.std.specs.Prelude.{◌≡◌, ◌&&◌, not, find, option_map};
 ghost use Rattle.ms_words.specs.Table.{commands, command_word, default_of, option_word, options_of, wanted_of, wanted_with_workers, excluded_by, takes as takes_of, least_files as least_files_of, most_files as most_files_of};
 ghost use Rattle.ms_words.specs.{Reading.{same, takes_nothing}, Usage.{is_wanted}};
 
-/// A command.
+/// A command, by its word. What each does says the usage.
 #[derive(Clone, Copy)]
 pub enum CommandName {
     Instrument,
@@ -15,7 +15,7 @@ pub enum CommandName {
     Gen,
 }
 
-/// An option of a command.
+/// An option of a command, by its word: `--input` and so on. What each is says the usage.
 #[derive(Clone, Copy)]
 pub enum OptionName {
     Input,

@@ -63,7 +63,7 @@ impl Accepted {
         false
     }
 
-    /// Whether one is given that the option can't stand beside.
+    /// Whether an option is given that this one can't stand beside.
     fn excludes(&self, option: OptionName) -> bool
         ensures { result ≡ is_excluded option self.now }
     {

@@ -28,6 +28,7 @@ fn unless(defined: bool, kind: RootKind) -> Option<RootKind>
 /// The functions of a module, and which of them have the name of an external that makes uninitialised bytes.
 #[derive(Drop)]
 pub struct Callees<'a> {
+    /// The functions that the module defines.
     pub funcs: &'a [Func],
     /// Whether the module defines `malloc`, so that calls of it are no roots.
     malloc: bool,
