@@ -82,7 +82,7 @@ fn phi_line(
     Ok(add_value(tokens.alloc(), body, name, true, read)?)
 }
 
-/// Reads a call, which has a result where a name stands in front, and adds it to the body.
+/// Reads a call, whose reader must know whether a name stands in front, and adds it to the body.
 #[tactic(auto, unfolding(ms_text_grammar::specs::Lines::call_line))]
 fn call_line(
     tokens: &mut Tokens<'_>,

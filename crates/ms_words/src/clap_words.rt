@@ -1,4 +1,6 @@
-//! Accepted words, read by `clap`: they are spelled in one form, in which its result is known for every value.
+//! Accepted words, read by `clap`: they are spelled in one form, in which its result is known for every value. `app_for command`
+//! is the command as it is described to `clap`, each of its options and its files by a rule; `spelled` are the words in that
+//! form, and `matches_of` what `clap` finds in them.
 ghost use Rattle.std.specs.Prelude.{◌≡◌, ◌++◌, ◌∷◌, [], true, false, Some as Held, IfOk, map, option_map, string_bytes};
 ghost use Rattle.clap.specs.Words.{rule_of, app_of, rows_of, found_of, matches_of, takes as takes_words};
 ghost use Rattle.ms_words.specs.ClapForm.{option_rule, files_rule, app_for, spelled, spelled_option, spelled_options};

@@ -1,4 +1,6 @@
-//! The words after the command, read from left to right to the first fault.
+//! The words after the command, read from left to right to the first fault. `place` is the place of a word among all words,
+//! counted from 0. `Answers outcome result given`: a reader returns what may come next, or the fault, and leaves what is given so
+//! far.
 ghost use Rattle.std.specs.Prelude.{◌≡◌, ◌+◌, ◌<◌, ◌^◌, ◌&&◌, IfOk, MatchResult, Ok as Fine, Err as Wrong, length, option_map};
 ghost use Rattle.std.specs.List.{list_all};
 ghost use Rattle.ms_words.specs.{Table.{takes as takes_of}, Words.{value_of}};
