@@ -20,7 +20,7 @@ impl Eq for Ty {
     ghost laws = { type_eq_equiv };
 }
 
-/// Whether two types are the same.
+/// Whether two types are the same. m and n are widths, or lengths of arrays; p and q say whether structs are packed.
 #[cycle(types)]
 fn same_type(a: &Ty, b: &Ty) -> bool
     ensures { result ≡ type_eq a.now b.now }

@@ -37,7 +37,7 @@ fn parameter_type_of(parameters: &Parameters, token: &Lexeme<'_>) -> Result<Scal
     }
 }
 
-/// A parameter's number as a token, which is the next one.
+/// The name of a parameter whose number a token is: the number must be the next one.
 fn numbered_name(expected: u32, token: &Lexeme<'_>) -> Result<Name, Cause>
     requires { token.now.symbol ≡ Symbol.NumberedLocal }
     ensures { Judges (spec.numbered_name expected token.now) result }

@@ -1,5 +1,6 @@
-//! Reads constant `getelementptr` (LLVM Language Reference, "Constant Expressions"). `depth` is how many arrays and structs may
-//! still open in a type, `within` how many more `getelementptr` may stand in the base, one within another.
+//! Reads constant `getelementptr` (LLVM Language Reference, "Constant Expressions"), each a step from its base: a type and
+//! indices. `depth` is how many arrays and structs may still open in a type, `within` how many more `getelementptr` may stand in
+//! the base, one within another.
 
 ghost use Rattle.std.specs.Prelude.{◌≡◌, ◌∷◌, IfOk, length, true};
 ghost use Rattle.ms_lex.specs.Grammar.{give};

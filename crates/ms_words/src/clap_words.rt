@@ -12,7 +12,7 @@ use clap::{Arg, ArgAction, ArgMatches};
 use ms_bits::{NoMemory, Text};
 use std::alloc::{AllocError, Global};
 
-/// An option, by its long name.
+/// An option as it is described to `clap`: by its long name, with a value or without.
 fn option_arg<'a>(alloc: Global, option: OptionName) -> Arg<'a>
     ensures rule { rule_of result ≡ option_rule option }
     ensures local { result.global ≡ false }
@@ -26,7 +26,7 @@ fn option_arg<'a>(alloc: Global, option: OptionName) -> Arg<'a>
     }
 }
 
-/// The files, one or more.
+/// The files as they are described to `clap`: one or more.
 fn files_arg<'a>(alloc: Global) -> Arg<'a>
     ensures rule { rule_of result ≡ files_rule }
     ensures local { result.global ≡ false }
@@ -35,7 +35,7 @@ fn files_arg<'a>(alloc: Global) -> Arg<'a>
     Arg::new(alloc, word).num_args(1..)
 }
 
-/// The command of `clap` that reads a command's words.
+/// A command as it is described to `clap`: its options, and its files.
 fn clap_command<'a>(alloc: Global, command: CommandName) -> Result<clap::Command<'a>, NoMemory>
     ensures { IfOk result (λ c. app_of c ≡ app_for command) }
 {

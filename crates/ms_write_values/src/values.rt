@@ -1,4 +1,5 @@
-//! Writes values after their types (LLVM Language Reference, "Constants").
+//! Writes values after their types (LLVM Language Reference, "Constants"). A step is one constant `getelementptr`: its type and
+//! its indices.
 ghost use Rattle.std.specs.Prelude.{◌≡◌, ◌∷◌, IfOk, codes, map};
 ghost use Rattle.ms_text_grammar.specs.{LayoutNames.{global_token}, LayoutPieces.{after_commas, with_commas, word}};
 ghost use Rattle.ms_text_grammar.specs.LayoutTypes.{type_tokens};
