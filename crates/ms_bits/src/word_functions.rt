@@ -88,7 +88,7 @@ pub enum BitMove {
 }
 
 impl WordFn {
-    /// Whether the second operand is a flag, an `i1` that says whether one operand is answered by poison.
+    /// Whether the second operand is a flag: an `i1` that says that the answer for one number, 0 or the least, is poison.
     pub fn is_flagged(self) -> bool
         ensures { result ≡ is_flagged self }
     {

@@ -15,7 +15,7 @@ use ms_read_cursor::Tokens;
 use ms_text_grammar::Cause;
 use std::alloc::Global;
 
-/// The error for a cause at the token after which `left` tokens of the text are left, itself among them.
+/// The error for a cause at the first of the `left` tokens that are left of a text.
 fn error_for(text: &[u8], tokens: &[Token], cause: Cause, left: usize) -> ReadError
     requires short { length text.now < 2 ^ 32 }
     requires few { length tokens.now < 2 ^ 32 }

@@ -1,5 +1,5 @@
-//! The fields of a command, made of the values that `clap` found for its options: `found` are these. In contracts `first_value ..
-//! word` is the value that was found for an option, and `options_by` and `command_by` are the fields by such values.
+//! The fields of a command, made of the values that `clap` found for its options: `found` are these. In contracts `first_value`
+//! is the value that was found for an option, and `options_by` and `command_by` are the fields by such values.
 ghost use Rattle.std.specs.{Prelude.{◌≡◌, ◌-◌, ◌^◌, IfOk, unwrap_or, [], codes, map, drop}, Option.{option_map_or}};
 ghost use Rattle.clap.specs.Words.{found_of, first_value};
 ghost use Rattle.ms_words.specs.{Table.{option_word}, Values.{hex_bytes as hex_bytes_of}};
