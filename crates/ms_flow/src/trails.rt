@@ -90,7 +90,7 @@ fn visit_of(visits: &[Visit], block: u32) -> Option<usize>
     visits.iter().position(|v| v.block == block)
 }
 
-/// The blocks from block 0 to the visit at the place.
+/// The blocks from block 0 to that of visit `last`, traced back by the visits from which each was reached.
 fn trail(alloc: Global, visits: &[Visit], last: usize) -> Result<Vec<u32>, NoMemory>
     requires last { last < length visits.now }
     requires earlier { (k : ℕ) → 0 < k → k < length visits.now → from_at visits.now k < k }

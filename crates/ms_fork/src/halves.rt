@@ -55,8 +55,8 @@ fn map_piece<W: Work<Item = T>, T: Drop, G: Gate>(
     Ok(all)
 }
 
-/// The items of `count` numbers from `from` on, cut in halves until each part has at most `most` items and so is a piece; by at
-/// most so many threads.
+/// The items of `count` numbers from `from` on, cut in halves until each part has at most `most` items and so is a piece; at most
+/// `threads` threads are at work at once.
 #[cycle(halves)]
 fn map_range<R: Threads + Sync, W: Work<Item = T> + Sync, T: Send + Drop, G: Gate + Sync>(
     rt: &R,

@@ -23,7 +23,7 @@ fn find<'a>(types: &'a [(Name, Ty)], name: &Name) -> Option<&'a Ty>
     None
 }
 
-/// The layout of a type, where chains of named types are at most so long; none where a named type in it has
+/// The layout of a type, where chains of named types have at most `chain` links; none where a named type in it has
 /// none.
 #[cycle(types)]
 fn layout_of(types: &[(Name, Ty)], chain: u32, ty: &Ty) -> Option<Layout>

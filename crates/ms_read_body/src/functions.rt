@@ -151,7 +151,7 @@ fn named(
     bodied(tokens, form, before, ret, name, params)
 }
 
-/// Reads a function after `define`, in front of which the text has so many instructions.
+/// Reads a function after `define`, in front of which the text has `before` instructions.
 ///
 /// # Errors
 ///

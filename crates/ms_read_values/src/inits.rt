@@ -38,7 +38,7 @@ fn flat_init(tokens: &mut Tokens<'_>, form: Form, depth: u8, ty: &Ty) -> Result<
     }
 }
 
-/// Takes an initialiser of a type, below so many arrays and structs that may still open.
+/// Takes an initialiser of a type, in which at most `depth` arrays and structs may still open.
 ///
 /// # Errors
 ///

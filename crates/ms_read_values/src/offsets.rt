@@ -52,7 +52,7 @@ pub fn gep_words(tokens: &mut Tokens<'_>) -> Result<(), Cause>
     repeat(tokens, &StepWords, ())
 }
 
-/// The type of an index in front of which so many stand.
+/// The type of an index in front of which `before` others stand.
 ///
 /// # Errors
 ///
@@ -164,7 +164,7 @@ fn step_rest(
     step_end(tokens, ty, from)
 }
 
-/// What stands after `getelementptr` in a constant, in whose base so many more may stand.
+/// What stands after `getelementptr` in a constant, in whose base `within` more may stand.
 #[cycle(bases)]
 #[tactic(auto, unfolding(ms_text_grammar::specs::Values::gep_from))]
 fn gep_from(tokens: &mut Tokens<'_>, form: Form, depth: u8, within: u8) -> Result<Stepped, Cause>
@@ -176,7 +176,7 @@ fn gep_from(tokens: &mut Tokens<'_>, form: Form, depth: u8, within: u8) -> Resul
     step_rest(tokens, form, depth, within, ty)
 }
 
-/// Another `getelementptr` as a base, where so many may stand.
+/// Another `getelementptr` as a base, where `within` may stand.
 #[cycle(bases)]
 #[tactic(auto, using(crate::proofs::Bases::inner_ends, crate::proofs::Bases::inner_goes))]
 fn inner_step(tokens: &mut Tokens<'_>, form: Form, depth: u8, within: u8) -> Result<Stepped, Cause>
@@ -197,7 +197,7 @@ fn global_base(tokens: &mut Tokens<'_>, form: Form) -> Result<Stepped, Cause>
     Ok((base, List::from_vec(Vec::new(tokens.alloc()))))
 }
 
-/// The base of a `getelementptr`, in which so many more may stand within one another.
+/// The base of a `getelementptr`, in which `within` more may stand, one within another.
 ///
 /// # Errors
 ///

@@ -176,7 +176,7 @@ pub fn packed_brace(tokens: &mut Tokens<'_>) -> Result<(), Cause>
     Ok(())
 }
 
-/// Takes a type in which at most so many arrays and structs may still open.
+/// Takes a type in which at most `depth` arrays and structs may still open.
 ///
 /// # Errors
 ///
@@ -192,7 +192,7 @@ pub fn type_to(tokens: &mut Tokens<'_>, form: Form, depth: u8) -> Result<Ty, Cau
     nested(tokens, form, depth - 1)
 }
 
-/// Takes a type in which at most so many arrays and structs may still open, onto the heap. Its errors are those of `type_to`.
+/// Takes a type in which at most `depth` arrays and structs may still open, onto the heap. Its errors are those of `type_to`.
 pub fn boxed_type(tokens: &mut Tokens<'_>, form: Form, depth: u8) -> Result<Boxed<Ty>, Cause>
     ensures { Gives (run (spec.type_to form depth) tokens.old) result tokens.new }
 {

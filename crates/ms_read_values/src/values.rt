@@ -132,7 +132,7 @@ fn simple_value(
     Ok(value)
 }
 
-/// Takes a value of this type, below so many arrays and structs that may still open.
+/// Takes a value of this type, in which at most `depth` arrays and structs may still open.
 #[tactic(auto, unfolding(ms_text_grammar::specs::Values::value_within))]
 pub fn value_within(
     tokens: &mut Tokens<'_>,

@@ -69,7 +69,7 @@ fn push_instruction(
 }
 
 impl<'a> SourceMap<'a> {
-    /// Finds where each site of a module stands, whose text this is with its tokens and what they are. The file's name is shown as
+    /// Finds where each site of a module stands, whose text this is with its tokens and its marks. The file's name is shown as
     /// it is given. Takes a time linear in the text and the module.
     #[tactic(auto, unfolding(crate::specs::Lines::lines_of_site))]
     pub fn new(

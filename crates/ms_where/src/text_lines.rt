@@ -141,7 +141,7 @@ fn push_numbered_line(
     Ok(())
 }
 
-/// Adds the line of an instruction in its text, which has so many newlines in front of each token.
+/// Adds the line of an instruction in its text. `newlines` has for each token how many newlines stand in front of it.
 #[tactic(auto, unfolding(crate::specs::Shown::text_line))]
 pub fn push_text_line(
     out: &mut Vec<u8>,

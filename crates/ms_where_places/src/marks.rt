@@ -53,7 +53,7 @@ pub fn entity_kind(symbol: Symbol) -> Option<MarkKind>
     }
 }
 
-/// The number of the next token, counted from 0, of a text of so many.
+/// The number of the next token, counted from 0, of a text of `total` tokens.
 pub fn place(total: usize, tokens: &Tokens<'_>) -> u32
     requires { total < 2 ^ 32 }
     ensures { result ≡ total - length tokens.now }
