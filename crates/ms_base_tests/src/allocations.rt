@@ -5,6 +5,7 @@ use ms_alloc::{AllocError, AllocKind, BadFree, Table};
 use std::alloc::Global;
 use std::test::Fail;
 
+/// Where the areas of allocations begin: of globals, of the heap, of the stack.
 const FIXED: u64 = 0x7000_0000_0000;
 
 const HEAP: u64 = 0x7100_0000_0000;
@@ -159,6 +160,7 @@ fn agrees<R: Eprint>(rt: &R, table: &mut Table, step: &Step) -> bool {
     }
 }
 
+/// Whether each call has its answer; prints the number of the first that hasn't.
 fn all_agree<R: Eprint>(rt: &R, table: &mut Table, steps: &[Step]) -> bool {
     for (number, step) in steps.iter().enumerate() {
         if !agrees(rt, table, step) {
@@ -168,6 +170,7 @@ fn all_agree<R: Eprint>(rt: &R, table: &mut Table, steps: &[Step]) -> bool {
     true
 }
 
+/// Whether a history holds of a new table.
 fn is_so<R: Eprint>(rt: &R, alloc: Global, steps: &[Step]) -> bool {
     let mut table = Table::new(alloc);
     all_agree(rt, &mut table, steps)

@@ -80,6 +80,7 @@ static COPIED_BYTES: [Step; 14] = [
 /// A block may have no bytes.
 static NO_BYTES: [Step; 4] = [Len(0), CopyBytes(0, 0, 0), CopyShadow(0, 0, 0), Len(0)];
 
+/// The bytes of a block of 5, its shadow and its origins, before a copy.
 static BYTES: [u8; 5] = [11, 12, 13, 14, 15];
 
 static SHADOW: [u8; 5] = [0, 22, 0, 24, 25];
@@ -97,6 +98,7 @@ fn is_shown<R: Eprint>(rt: &R, block: &Block, step: &Step) -> bool {
     }
 }
 
+/// Copies bytes within a block, where both ranges lie in it; or false.
 fn copies(block: &mut Block, to: u64, from: u64, n: u64) -> bool {
     let len = block.len();
     if n > len || to > len - n || from > len - n {
@@ -106,6 +108,7 @@ fn copies(block: &mut Block, to: u64, from: u64, n: u64) -> bool {
     true
 }
 
+/// Copies shadow and origins within a block, where both ranges lie in it; or false.
 fn copies_shadow(block: &mut Block, to: u64, from: u64, n: u64) -> bool {
     let len = block.len();
     if n > len || to > len - n || from > len - n {
@@ -115,6 +118,7 @@ fn copies_shadow(block: &mut Block, to: u64, from: u64, n: u64) -> bool {
     true
 }
 
+/// Sets the origin of a cell, where the block has it; or false.
 fn sets_origin(block: &mut Block, cell: u64, origin: u32) -> bool {
     if cell >= 8 || cell * 4 >= block.len() {
         return false;
@@ -123,6 +127,7 @@ fn sets_origin(block: &mut Block, cell: u64, origin: u32) -> bool {
     true
 }
 
+/// Sets a byte or a shadow byte, where the block has it; or false.
 fn sets(block: &mut Block, i: u64, byte: Option<u8>, shadow: Option<u8>) -> bool {
     if i >= block.len() {
         return false;
@@ -147,6 +152,7 @@ fn agrees<R: Eprint>(rt: &R, block: &mut Block, step: &Step) -> bool {
     }
 }
 
+/// Whether each call has its answer; prints the number of the first that hasn't.
 fn all_agree<R: Eprint>(rt: &R, block: &mut Block, steps: &[Step]) -> bool {
     for (number, step) in steps.iter().enumerate() {
         if !agrees(rt, block, step) {
@@ -156,6 +162,7 @@ fn all_agree<R: Eprint>(rt: &R, block: &mut Block, steps: &[Step]) -> bool {
     true
 }
 
+/// Whether a history holds of a new block of so many bytes.
 fn is_so<R: Eprint>(rt: &R, alloc: Global, len: u64, steps: &[Step]) -> bool {
     if len > 8 {
         return false;

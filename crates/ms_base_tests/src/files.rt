@@ -83,6 +83,7 @@ static UNREAD_COPIES: [Ended; 2] = [
     Ended("letters", 3, Copied::Whole),
 ];
 
+/// The files `letters` and `empty`.
 fn two_files(alloc: Global) -> Result<BTreeMap<String, Vec<u8>>, AllocError> {
     let mut held = BTreeMap::new(alloc);
     held.insert(String::from_str(alloc, "letters")?, b"abc".to_vec(alloc)?)?;
@@ -96,6 +97,7 @@ fn failing_files(alloc: Global, failing: u64) -> Result<MemFiles, AllocError> {
     Ok(MemFiles::new(held, vec![in alloc; failing]?))
 }
 
+/// Whether a file was read as is wanted.
 fn is_answer<R: Eprint>(rt: &R, found: &Result<Vec<u8>, FileError>, want: &Want) -> bool {
     let good = match found {
         Ok(bytes) => matches!(want, Want::Whole(text) if bytes.as_slice() == *text),
@@ -107,6 +109,7 @@ fn is_answer<R: Eprint>(rt: &R, found: &Result<Vec<u8>, FileError>, want: &Want)
     good || differs(rt, found, want)
 }
 
+/// Whether each file is read as is wanted; prints the number of the first that isn't.
 fn all_answered<R: Eprint, F: Files>(
     rt: &R,
     alloc: Global,
@@ -158,6 +161,7 @@ fn copy_file<F: Files, O: Sink>(
     }
 }
 
+/// Whether each copy ends as is wanted; prints the number of the first that doesn't.
 fn all_end<R: Eprint, F: Files, O: Sink>(
     rt: &R,
     alloc: Global,

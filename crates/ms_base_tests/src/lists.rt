@@ -45,6 +45,7 @@ fn is_copied<R: Eprint, T: Duplicate + PartialEq + Debug>(
     }
 }
 
+/// Whether two values have this order.
 fn is_ordered<R: Eprint, T: Ord>(rt: &R, a: &T, b: &T, order: Ordering) -> bool {
     is(rt, &a.cmp(b), &order)
         && is(rt, &a.partial_cmp(b), &Some(order))
@@ -63,6 +64,7 @@ fn boxes_are_compared<R: Eprint>(rt: &R, alloc: Global, a: Bytes, b: Bytes, row:
     }
 }
 
+/// Whether the two lists of a row are ordered so, and are copied.
 fn agrees<R: Eprint>(rt: &R, alloc: Global, row: &Ordered) -> bool {
     match (list(alloc, row.0), list(alloc, row.1)) {
         (Ok(a), Ok(b)) => {
@@ -118,6 +120,7 @@ fn words_are_copied<R: Eprint>(rt: &R, alloc: Global) -> bool {
     }
 }
 
+/// Whether a text keeps its bytes.
 fn is_kept<R: Eprint>(rt: &R, alloc: Global, text: &str) -> bool {
     match text.to_string(alloc) {
         Ok(owned) => is(rt, &Text::from_string(owned).as_str(), &text),

@@ -10,16 +10,21 @@ use std::test::Fail;
 
 /// A graph by its successors and definitions, uses of it, and the answer.
 struct Row {
+    /// Of each block, those that may come next.
     next: &'static [&'static [u32]],
+    /// Of each block, the values that it defines.
     defs: &'static [&'static [u32]],
     uses: &'static [Asked],
+    /// The place of the first use that a path misses, and the path.
     answer: Option<(u32, &'static [u32])>,
 }
 
 /// A use of a value in a block, in front of what the block defines or after it.
 #[derive(Clone, Copy)]
 enum Asked {
+    /// A block and a value, in front of the block's definitions.
     Before(u32, u32),
+    /// A block and a value, after them.
     After(u32, u32),
 }
 
@@ -142,6 +147,7 @@ fn in_range(g: &Graph, uses: &[Use]) -> bool
         && uses_below(g.next.as_slice().len(), uses)
 }
 
+/// Whether each number of each list is below a length.
 fn stay_below(len: usize, lists: &[List<u32>]) -> bool
     ensures { IsTrue result → All (All (λ b. b < len)) lists.now }
 {
@@ -153,6 +159,7 @@ fn stay_below(len: usize, lists: &[List<u32>]) -> bool
     true
 }
 
+/// Whether each of these is below a length.
 fn below(len: usize, blocks: &[u32]) -> bool
     ensures { IsTrue result → All (λ b. b < len) blocks.now }
 {
@@ -164,6 +171,7 @@ fn below(len: usize, blocks: &[u32]) -> bool
     true
 }
 
+/// Whether each use is in a block below a length.
 fn uses_below(len: usize, uses: &[Use]) -> bool
     ensures { IsTrue result → All (λ u. u.block < len) uses.now }
 {
@@ -186,6 +194,7 @@ fn is_answer(found: &Option<Missing>, want: &Option<(u32, &[u32])>) -> bool {
     }
 }
 
+/// Whether the use that is missed is the wanted one, where all numbers are in range.
 fn is_answered<R: Eprint>(
     rt: &R,
     alloc: Global,
@@ -202,6 +211,7 @@ fn is_answered<R: Eprint>(
     }
 }
 
+/// The use that a row asks for.
 fn use_of(asked: Asked) -> Use {
     match asked {
         Before(block, value) => Use {
@@ -217,6 +227,7 @@ fn use_of(asked: Asked) -> Use {
     }
 }
 
+/// The uses that a row asks for.
 fn uses_of(alloc: Global, asked: &[Asked]) -> Result<Vec<Use>, NoMemory> {
     let mut uses = Vec::new(alloc);
     for ask in asked {
@@ -225,12 +236,14 @@ fn uses_of(alloc: Global, asked: &[Asked]) -> Result<Vec<Use>, NoMemory> {
     Ok(uses)
 }
 
+/// The graph of a row.
 fn graph_of(alloc: Global, row: &Row) -> Result<Graph, NoMemory> {
     let next = lists(alloc, row.next)?;
     let defs = lists(alloc, row.defs)?;
     Ok(Graph { next, defs })
 }
 
+/// Whether a row has its answer.
 fn agrees<R: Eprint>(rt: &R, alloc: Global, row: &Row) -> bool {
     match (graph_of(alloc, row), uses_of(alloc, row.uses)) {
         (Ok(g), Ok(uses)) => is_answered(rt, alloc, &g, &uses, &row.answer),
@@ -279,6 +292,7 @@ fn two_blocks(alloc: Global) -> Result<Graph, NoMemory> {
     })
 }
 
+/// Whether of 200 values, which take four rounds, the one that isn't defined is found: 150, at place 49 of the uses.
 fn many_are_answered<R: Eprint>(rt: &R, alloc: Global) -> bool {
     match (two_blocks(alloc), falling_uses(alloc)) {
         (Ok(g), Ok(uses)) => is_answered(rt, alloc, &g, &uses, &Some((49, &[0, 1]))),

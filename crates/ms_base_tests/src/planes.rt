@@ -6,6 +6,7 @@ use ms_planes::Planes;
 use std::alloc::Global;
 use std::test::Fail;
 
+/// Where the areas of allocations begin: of globals, of the heap, of the stack.
 const FIXED: u64 = 0x7000_0000_0000;
 
 const HEAP: u64 = 0x7100_0000_0000;
@@ -184,6 +185,7 @@ fn is_shown<R: Eprint>(rt: &R, planes: &Planes, step: &Step) -> bool {
     }
 }
 
+/// Stores bytes, where the range is good; or false. So do the next ones.
 fn stores(planes: &mut Planes, addr: u64, n: u8, value: u64) -> bool {
     if n > 8 || !planes.covers(addr, n as u64) {
         return false;
@@ -232,6 +234,7 @@ fn copies_shadow(planes: &mut Planes, to: u64, from: u64, n: u64) -> bool {
     planes.covers(to, n) && planes.covers(from, n) && planes.copy_shadow(to, from, n).is_ok()
 }
 
+/// Whether the stack's allocations from an address on end, and the next begins there.
 fn releases<R: Eprint>(rt: &R, planes: &mut Planes, mark: u64, next: u64) -> bool {
     planes.release(mark);
     is(rt, &planes.mark(), &next)
@@ -272,6 +275,7 @@ fn all_agree<R: Eprint>(rt: &R, planes: &mut Planes, steps: &[Step]) -> bool {
     true
 }
 
+/// Whether a history holds of new planes.
 fn is_so<R: Eprint>(rt: &R, alloc: Global, steps: &[Step]) -> bool {
     let mut planes = Planes::new(alloc);
     all_agree(rt, &mut planes, steps)

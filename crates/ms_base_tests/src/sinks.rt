@@ -39,6 +39,7 @@ static TO_STANDARD_ERROR: [Sent; 2] = [Sent("one put\n", true), Sent("", true)];
 /// A writer that takes one byte at a time, and none once its room is used up.
 #[derive(Drop)]
 struct Trickle {
+    /// How many bytes it still takes.
     room: usize,
 }
 
@@ -56,11 +57,13 @@ impl Write for Trickle {
     }
 }
 
+/// A sink of five bytes, of which the second put fails.
 fn small_sink(alloc: Global) -> Result<MemSink, AllocError> {
     let failing = vec![in alloc; 1]?;
     Ok(MemSink::new(failing, vec![in alloc; 0u8; 5]?))
 }
 
+/// Whether each piece is taken as is wanted, and what was written then.
 fn all_put<R: Eprint>(rt: &R, sink: &mut MemSink, rows: &[Put]) -> bool {
     for (number, row) in rows.iter().enumerate() {
         let taken = sink.put(row.0.as_bytes()).is_ok();
@@ -78,6 +81,7 @@ fn small_sink_takes<R: Eprint>(rt: &R, alloc: Global) -> bool {
     }
 }
 
+/// Whether each piece is taken as is wanted.
 fn all_sent<R: Eprint, O: Sink>(rt: &R, sink: &mut O, rows: &[Sent]) -> bool {
     for (number, row) in rows.iter().enumerate() {
         if !is(rt, &sink.put(row.0.as_bytes()).is_ok(), &row.1) {

@@ -44,6 +44,7 @@ pub fn binary(op: BinOp, flags: Flags, a: Word, b: Word) -> Result<Word, Trap>
     }
 }
 
+/// The sum modulo 2 to the width, or the trap of a flag.
 #[tactic(auto, unfolding(crate::specs::Arithmetic::add_of))]
 fn add(flags: Flags, a: Word, b: Word) -> Result<Word, Trap>
     requires same_width { a.width ≡ b.width }
@@ -60,6 +61,7 @@ fn add(flags: Flags, a: Word, b: Word) -> Result<Word, Trap>
     Ok(Word::new(a.width(), (sum % limit) as u64))
 }
 
+/// The difference modulo 2 to the width, or the trap of a flag.
 #[tactic(auto, unfolding(crate::specs::Arithmetic::sub_of))]
 fn sub(flags: Flags, a: Word, b: Word) -> Result<Word, Trap>
     requires same_width { a.width ≡ b.width }
@@ -76,6 +78,7 @@ fn sub(flags: Flags, a: Word, b: Word) -> Result<Word, Trap>
     Ok(Word::new(a.width(), (difference % limit) as u64))
 }
 
+/// The product modulo 2 to the width, or the trap of a flag.
 #[tactic(auto, unfolding(crate::specs::Arithmetic::mul_of))]
 fn mul(flags: Flags, a: Word, b: Word) -> Result<Word, Trap>
     requires same_width { a.width ≡ b.width }
@@ -92,6 +95,7 @@ fn mul(flags: Flags, a: Word, b: Word) -> Result<Word, Trap>
     Ok(Word::new(a.width(), (product % limit) as u64))
 }
 
+/// The product of the signed numbers, as a whole number.
 fn signed_product(a: Word, b: Word) -> i128
     ensures { result ≡ signed a.width a.value *ℤ signed b.width b.value }
 {

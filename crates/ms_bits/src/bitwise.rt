@@ -1,4 +1,4 @@
-//! Shifts, and operations bit by bit.
+//! Shifts, and operations bit by bit: those of `binary`, each with the traps of its flags.
 ghost use Rattle.std.specs.Prelude.{◌≡◌, ◌^◌, ◌<◌, pos, ◌*ℤ◌, bit_and, bit_xor};
 ghost use Rattle.ms_bits.specs.{Signed.{signed}, Arithmetic.{of_width, shl_of, lshr_of, ashr_of, or_of}};
 
@@ -7,7 +7,7 @@ use crate::traps::Trap;
 use crate::twos_complement::{fits, signed_value, wrapped};
 use crate::words::{Word, limit};
 
-/// To the left, with zeros from the right.
+/// `a` shifted to the left by `b`, with zeros from the right.
 #[tactic(auto, unfolding(crate::specs::Arithmetic::shl_of))]
 pub fn shl(flags: Flags, a: Word, b: Word) -> Result<Word, Trap>
     requires same_width { a.width ≡ b.width }
@@ -35,7 +35,7 @@ fn signed_shifted(a: Word, amount: u8) -> i128
     signed_value(a) * limit(amount) as i128
 }
 
-/// To the right, with zeros from the left.
+/// `a` shifted to the right by `b`, with zeros from the left.
 #[tactic(auto, unfolding(crate::specs::Arithmetic::lshr_of))]
 pub fn lshr(flags: Flags, a: Word, b: Word) -> Result<Word, Trap>
     requires same_width { a.width ≡ b.width }
@@ -51,7 +51,7 @@ pub fn lshr(flags: Flags, a: Word, b: Word) -> Result<Word, Trap>
     Ok(Word::new(a.width(), a.value() / factor))
 }
 
-/// To the right, with copies of the sign bit from the left.
+/// `a` shifted to the right by `b`, with copies of the sign bit from the left.
 #[tactic(auto, unfolding(crate::specs::Arithmetic::ashr_of))]
 pub fn ashr(flags: Flags, a: Word, b: Word) -> Result<Word, Trap>
     requires same_width { a.width ≡ b.width }

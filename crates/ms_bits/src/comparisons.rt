@@ -25,6 +25,7 @@ pub fn compare(pred: Pred, flags: Flags, a: Word, b: Word) -> Result<bool, Trap>
     Ok(is_true_of(pred, a, b))
 }
 
+/// Whether the predicate holds, whatever the flag.
 #[inline(always)]
 #[tactic(auto, unfolding(crate::specs::Conversions::holds))]
 fn is_true_of(pred: Pred, a: Word, b: Word) -> bool

@@ -38,6 +38,7 @@ pub fn cast(op: CastOp, flags: Flags, a: Word, to: u8) -> Result<Word, Trap>
     }
 }
 
+/// The low `to` bits, or the trap of a flag.
 #[tactic(auto, unfolding(crate::specs::Conversions::cast_of))]
 fn trunc(flags: Flags, a: Word, to: u8) -> Result<Word, Trap>
     requires some { 1 ≤ to }
@@ -54,6 +55,7 @@ fn trunc(flags: Flags, a: Word, to: u8) -> Result<Word, Trap>
     Ok(low)
 }
 
+/// The low `to` bits of a word, as a word of that width.
 fn low_bits(a: Word, to: u8) -> Word
     requires some { 1 ≤ to }
     requires few { to ≤ 64 }
@@ -62,7 +64,7 @@ fn low_bits(a: Word, to: u8) -> Word
     Word::new(to, (a.value() as u128 % limit(to)) as u64)
 }
 
-// The same number, with zeros above it.
+/// The word of `to` bits with the same number, zeros above it.
 fn widened(a: Word, to: u8) -> Word
     requires more { a.width ≤ to }
     requires few { to ≤ 64 }

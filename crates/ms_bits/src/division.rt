@@ -1,4 +1,4 @@
-//! Quotients and remainders.
+//! Quotients and remainders of two words of one width: those of `binary`. `b` is the divisor.
 ghost use Rattle.std.specs.Prelude.{◌≡◌, ◌<◌, int_div, int_rem};
 ghost use Rattle.ms_bits.specs.Signed.{signed};
 ghost use Rattle.ms_bits.specs.Arithmetic.{of_width, udiv_of, sdiv_of, urem_of, srem_of, quotient_overflows};
@@ -78,6 +78,7 @@ fn overflows(a: Word, b: Word) -> bool
     2 * (a.value() as u128) == limit && b.value() as u128 + 1 == limit
 }
 
+/// The quotient of the signed numbers, as a whole number.
 #[tactic(auto, unfolding(crate::specs::Signed::signed))]
 fn signed_quotient(a: Word, b: Word) -> i128
     requires { 0 < b.value }
@@ -86,6 +87,7 @@ fn signed_quotient(a: Word, b: Word) -> i128
     signed_value(a) / signed_value(b)
 }
 
+/// The remainder of the signed numbers, as a whole number.
 #[tactic(auto, unfolding(crate::specs::Signed::signed))]
 fn signed_remainder(a: Word, b: Word) -> i128
     requires { 0 < b.value }

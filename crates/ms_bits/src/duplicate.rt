@@ -10,7 +10,7 @@ use std::alloc::{AllocError, Global};
 /// Memory ran out. The one answer that no clause ties to a cause.
 pub type NoMemory = AllocError;
 
-/// What can be copied where there is memory.
+/// What can be copied where there is memory, such as the parts of a module.
 pub trait Duplicate: Drop {
     /// An equal value.
     fn copy(&self, alloc: Global) -> Result<Self, NoMemory>

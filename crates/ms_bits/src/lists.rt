@@ -58,7 +58,7 @@ pub fn law_bytes_in_range(bytes: &Bytes)
     let _count = items.len();
 }
 
-/// A law: each item of a list of words is below 2 to the 64.
+/// A law: each item of a list of words is below 2 to the 64, as the items of a slice are.
 pub fn law_words_in_range(words: &List<u64>)
     ensures { All (λ w. w < 2 ^ 64) words.now }
 {

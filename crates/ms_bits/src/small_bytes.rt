@@ -15,6 +15,7 @@ use std::marker::Model;
 /// `Vec`.
 const INLINE: usize = 22;
 
+/// Where the bytes lie.
 #[derive(Debug, Drop)]
 enum Stored {
     /// How many of the bytes count, and the bytes.

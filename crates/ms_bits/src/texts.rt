@@ -3,7 +3,7 @@ ghost use Rattle.std.specs.Prelude.{◌≡◌, string_bytes};
 
 use std::marker::Model;
 
-/// A text over a `String`, in UTF-8. Contracts see the list of its bytes.
+/// A text over a `String`, in UTF-8, such as a word of the command line. Contracts see the list of its bytes.
 #[derive(Debug, Drop)]
 pub struct Text {
     text: String,

@@ -1,4 +1,5 @@
-//! Laws: the types of this crate may be sent to another thread, and shared with one, where what they hold may.
+//! Laws: the types of this crate may be sent to another thread, and shared with one, where what they hold may. Work on modules is
+//! split between threads.
 
 use crate::boxes::Boxed;
 use crate::lists::{Bytes, List};

@@ -76,7 +76,7 @@ fn window(width: u8, k: u8, a: u64, b: u64) -> u64
     ((both >> k) % limit) as u64
 }
 
-/// The upper word of two that are shifted to the left.
+/// The upper word of two, `a` above `b`, that are shifted to the left by the amount modulo the width.
 #[tactic(auto, unfolding(crate::specs::WordFunctions::fshl_of))]
 fn fshl(width: u8, a: u64, b: u64, amount: u64) -> u64
     requires some { 1 ≤ width }
@@ -86,7 +86,7 @@ fn fshl(width: u8, a: u64, b: u64, amount: u64) -> u64
     window(width, width - (amount % width as u64) as u8, a, b)
 }
 
-/// The lower word of two that are shifted to the right.
+/// The lower word of two, `a` above `b`, that are shifted to the right by the amount modulo the width.
 #[tactic(auto, unfolding(crate::specs::WordFunctions::fshr_of))]
 fn fshr(width: u8, a: u64, b: u64, amount: u64) -> u64
     requires some { 1 ≤ width }
@@ -96,19 +96,21 @@ fn fshr(width: u8, a: u64, b: u64, amount: u64) -> u64
     window(width, (amount % width as u64) as u8, a, b)
 }
 
+/// The greater of two unsigned words.
 fn greater(a: u64, b: u64) -> u64
     ensures { result ≡ max a b }
 {
     if a < b { b } else { a }
 }
 
+/// The smaller of two unsigned words.
 fn smaller(a: u64, b: u64) -> u64
     ensures { result ≡ min a b }
 {
     if a < b { a } else { b }
 }
 
-/// The word with its sign bit turned.
+/// The word with its sign bit turned: the order of signed words is the unsigned order of these.
 #[tactic(auto, unfolding(crate::specs::Formulas::turned_sign))]
 fn turned(width: u8, a: u64) -> u64
     requires some { 1 ≤ width }
@@ -161,7 +163,7 @@ fn is_least(width: u8, a: u64) -> bool
     2 * (a as u128) == limit(width)
 }
 
-/// The sum, or the greatest word.
+/// The sum, or the greatest word where that is smaller.
 fn unsigned_sum(width: u8, a: u64, b: u64) -> u64
     requires { width ≤ 64 }
     ensures { result ≡ min (a + b) (2 ^ width - 1) }
@@ -171,7 +173,7 @@ fn unsigned_sum(width: u8, a: u64, b: u64) -> u64
     if sum < most { sum as u64 } else { most as u64 }
 }
 
-/// A number as a signed one of so many bits; what doesn't fit them counts as -1.
+/// A number as a signed one of so many bits, for saturated sums; what doesn't fit them counts as -1.
 #[tactic(auto, unfolding(crate::specs::Signed::signed))]
 fn signed_number(width: u8, a: u64) -> i128
     requires { width ≤ 64 }
@@ -210,7 +212,8 @@ fn saturated(width: u8, number: i128) -> u64
     }
 }
 
-/// What a function of whole words returns of three operands, of which it takes as many as it needs. Takes no memory.
+/// What a function of whole words returns of three operands, of which it takes as many as it needs. Where a function has a flag,
+/// `b` is it. Takes no memory.
 ///
 /// # Errors
 ///
@@ -260,7 +263,7 @@ pub fn answer_word(function: WordFn, width: WordWidth, a: u64, b: u64, c: u64) -
     }
 }
 
-/// What a function that moves bits gives of words of so many bits.
+/// What a function that moves bits gives of words of so many bits; 0 for every other function.
 fn moved_by(function: WordFn, width: u8, a: u64, b: u64, c: u64) -> u64
     requires some { 8 ≤ width }
     requires few { width ≤ 64 }
@@ -275,7 +278,8 @@ fn moved_by(function: WordFn, width: u8, a: u64, b: u64, c: u64) -> u64
     }
 }
 
-/// What a function that moves bits gives of three operands, of which it takes as many as it needs. Takes no memory.
+/// What a function that moves bits gives of three operands, words or their masks, of which it takes as many as it needs. Takes no
+/// memory.
 pub fn move_bits(kind: BitMove, a: u64, b: u64, c: u64) -> u64
     ensures { result ≡ moved kind a b c }
 {

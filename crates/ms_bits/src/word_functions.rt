@@ -42,7 +42,7 @@ pub enum WordFn {
     Expect,
 }
 
-/// The widths at which they are named.
+/// The widths at which these functions are named: `llvm.ctpop.i8` and so on.
 #[derive(Clone, Copy, Debug, PartialEq, Eq)]
 pub enum WordWidth {
     I8,
@@ -88,7 +88,7 @@ pub enum BitMove {
 }
 
 impl WordFn {
-    /// Whether the second operand is a flag.
+    /// Whether the second operand is a flag: an `i1` that says that the answer for one number, 0 or the least, is poison.
     pub fn is_flagged(self) -> bool
         ensures { result ≡ is_flagged self }
     {
@@ -116,7 +116,7 @@ impl WordWidth {
 }
 
 impl BitMove {
-    /// Which of them a function is at a width, if it is one.
+    /// Which move of bits a function is at a width, if it is one.
     pub fn of(function: WordFn, width: WordWidth) -> Option<BitMove>
         ensures { result ≡ move_of function width }
     {
@@ -149,7 +149,7 @@ impl BitMove {
         }
     }
 
-    /// Which function it is.
+    /// The function that moves the bits.
     pub fn function(self) -> WordFn
         ensures { result ≡ move_fn self }
     {
@@ -164,7 +164,7 @@ impl BitMove {
         }
     }
 
-    /// At which width.
+    /// The width of the words whose bits it moves.
     pub fn width(self) -> WordWidth
         ensures { result ≡ move_width self }
     {

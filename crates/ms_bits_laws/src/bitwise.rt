@@ -1,5 +1,5 @@
 //! The masks of `and`, `or` and `xor`.
-//! v and u are the numbers of two words of w bits, m and k their masks.
+//! v and u are the numbers of two words of w bits, m and k their masks; a and c complete the first word, b and d the second.
 ghost use Rattle.std.specs.Prelude.{◌≡◌, ◌<◌, ◌^◌, ℕ, bit_and, bit_or, bit_xor, Ok};
 ghost use Rattle.ms_bits.specs.{Arithmetic.{binary_of}, Completion.{InRange, Agrees, Completes, IsMaskOf, mask_of}};
 ghost use Rattle.ms_bits.specs.{Formulas.{union_mask, and_mask, or_mask}, declared.operations.Flags.{Flags}};

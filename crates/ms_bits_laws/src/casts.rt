@@ -1,4 +1,5 @@
 //! The masks of casts: the same cast of the mask. A cast to `to` bits of a word of w bits.
+//! a and c are words and m their mask; r, s and n are what the cast makes of them; f, g and h are flags.
 ghost use Rattle.std.specs.{Prelude.{◌≡◌, ◌<◌, ◌≤◌, ◌^◌, ◌-◌, ℕ, min, Ok}, Int.{bit_at}};
 ghost use Rattle.ms_bits.specs.{Conversions.{Allows, cast_of}, Completion.{InRange, Agrees}};
 ghost use Rattle.ms_bits.specs.{declared.operations.Flags.{Flags}, declared.operations.CastOp.{CastOp}};

@@ -1,5 +1,8 @@
 //! What holds of every operation and every exact mask, and of the least and the greatest completion.
-//! v and u are the numbers of two words of w bits, m and k their masks.
+//! v and u are the numbers of two words of w bits, m and k their masks; a and c complete the first word, b and d the second. f is
+//! an operation with results of `to` bits, and r a mask of its result.
+//! `InRange`: number and mask fit the width. `Agrees`: two words are the same outside a mask. `Completes`: a word is the number
+//! outside its mask. `IsMaskOf`: a mask is exact: it has just those bits of a result that two completions give differently.
 ghost use Rattle.std.specs.Prelude.{◌≡◌, ◌<◌, ◌≤◌, ◌^◌, ℕ};
 ghost use Rattle.ms_bits.specs.Completion.{InRange, Agrees, Completes, IsMaskOf, IsSelectMaskOf, mask_of, select_mask_of};
 ghost use Rattle.ms_bits.specs.{Formulas.{greatest, least}, Conversions.{select_of}};

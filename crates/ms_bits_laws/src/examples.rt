@@ -1,4 +1,5 @@
-//! Masks and copies of small numbers, worked out by hand and computed by the check. Words have 8 bits.
+//! Masks and copies of small numbers, worked out by hand and computed by the check. Words have 8 bits. The arguments of a mask
+//! are the width where the formula needs it, then for each operand its number and its mask.
 ghost use Rattle.std.specs.Prelude.{◌≡◌, [], ◌∷◌};
 ghost use Rattle.ms_bits.specs.Maps.{bytes_at, copied, copied_cells};
 ghost use Rattle.ms_bits.specs.Formulas.{union_mask, and_mask, or_mask, compare_mask, select_mask, carry_mask};
@@ -29,14 +30,16 @@ pub fn select_masks()
     ensures poisoned { select_mask 0 1 5 0 4 0 ≡ 1 }
 {}
 
-/// Bit 2 reaches the bits from 2 on.
+/// Bit 2 poisons the bits from 2 on, no bit poisons none, and the highest bit itself alone.
 pub fn carry_masks()
     ensures some { carry_mask 8 4 ≡ 252 }
     ensures none { carry_mask 8 0 ≡ 0 }
     ensures top { carry_mask 8 128 ≡ 128 }
 {}
 
-/// The bytes 0, 1 and 2 are copied one place up; of two bytes of one cell the later one gives the origin.
+/// The bytes 0, 1 and 2 are copied one place up; of two bytes of one cell the later one gives the origin. The arguments of
+/// `copied_cells` are shadow, the source's origins, target, source, how many bytes, the cells before, and the cell that is asked
+/// for.
 pub fn overlapping_copies()
     ensures bytes { bytes_at (copied (λ x. x) 1 0 3) 0 5 ≡ 0 ∷ 0 ∷ 1 ∷ 2 ∷ 4 ∷ [] }
     ensures origins { copied_cells (λ x. 1) (λ x. x) 8 3 2 (λ x. 9) 2 ≡ 1 }

@@ -1,4 +1,5 @@
 //! Maps of bytes, of shadow bytes and of the origins of cells, after stores and copies. A cell is four addresses.
+//! a and b are addresses, n and m numbers of bytes, and x is any address.
 ghost use Rattle.std.specs.Prelude.{◌≡◌, ◌≢◌, ◌<◌, ◌≤◌, ◌↔◌, ◌^◌, ◌+◌, ◌*◌, ◌/◌, ◌%◌, ℕ, true};
 ghost use Rattle.ms_bits.specs.Completion.{Agrees};
 ghost use Rattle.ms_bits.specs.Maps.{with_range, byte_of, number_at, bytes_at, copied, touches, with_cells, with_cell, copied_cells};

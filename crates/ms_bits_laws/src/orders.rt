@@ -1,5 +1,6 @@
 //! The masks of `icmp`, for every predicate.
-//! v and u are the numbers of two words of w bits, m and k their masks. An answer is a word of one bit.
+//! v and u are the numbers of two words of w bits, m and k their masks; a and c complete the first word, b and d the second. An
+//! answer is a word of one bit.
 ghost use Rattle.std.specs.{Prelude.{◌≡◌, ◌<◌, ◌≤◌, ◌^◌, ℕ, Bool, ltb, int_lt, Ok}, Int.{from_bool}};
 ghost use Rattle.ms_bits.specs.{Signed.{signed}, Conversions.{holds, compare_of}};
 ghost use Rattle.ms_bits.specs.Completion.{InRange, Agrees, Completes, IsMaskOf, mask_of};

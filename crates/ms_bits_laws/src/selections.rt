@@ -1,6 +1,6 @@
 //! The mask of `select`.
-//! t is the number of the condition, a word of one bit, and n its mask. v and u are the numbers of two words of w bits,
-//! m and k their masks.
+//! t is the number of the condition, a word of one bit, and n its mask. v and u are the numbers of two words of w bits, m and k
+//! their masks. p and q complete the condition, a and c the first word, b and d the second.
 ghost use Rattle.std.specs.Prelude.{◌≡◌, ◌<◌, ◌^◌, ℕ};
 ghost use Rattle.ms_bits.specs.Conversions.{select_of};
 ghost use Rattle.ms_bits.specs.Completion.{InRange, Agrees, Completes, IsSelectMaskOf, select_mask_of};

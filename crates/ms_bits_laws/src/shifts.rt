@@ -1,5 +1,6 @@
 //! The masks of `shl`, `lshr` and `ashr`.
 //! Each bit of the result comes from one bit of the first operand, so the same shift of its mask serves.
+//! a and c are words of w bits, m their mask; r, s and n are what the shift makes of them; f, g and h are flags.
 ghost use Rattle.std.specs.Prelude.{◌≡◌, ◌<◌, ◌≤◌, ◌^◌, ◌+◌, ◌-◌, ◌*◌, ◌%◌, ◌↔◌, ◌*ℤ◌, pos, ℕ, min, true, false, Ok};
 ghost use Rattle.std.specs.Int.{bit_at};
 ghost use Rattle.ms_bits.specs.{Arithmetic.{binary_of}, Signed.{signed, fits_signed}, Completion.{InRange, Agrees}};

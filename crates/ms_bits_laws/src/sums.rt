@@ -1,5 +1,6 @@
 //! The masks of `add`, `sub` and `mul`, and of every other sum of products.
-//! m and k are the masks of two words of w bits, and s is any mask.
+//! m and k are the masks of two words of w bits, and s is any mask; a and c are numbers of the first word, b and d of the second,
+//! which agree outside its mask.
 ghost use Rattle.std.specs.{Prelude.{◌≡◌, ◌<◌, ◌^◌, ◌%◌, ◌↔◌, ◌⊎◌, ℕ, suc, Ok}, Int.{bit_at}};
 ghost use Rattle.ms_bits.specs.{Arithmetic.{binary_of}, Completion.{InRange, Agrees}};
 ghost use Rattle.ms_bits.specs.{Formulas.{union_mask, carry_mask, HasBitUpTo}, declared.operations.Flags.{Flags}};

@@ -1,6 +1,7 @@
-//! The masks of functions of whole words: counts, bits in another order, two words shifted as one, the greater and the
-//! smaller of two, absolute values, and sums and differences that stay within the width.
-//! v, u and t are the numbers of words of w bits, and m, k and n their masks.
+//! The masks of functions of whole words: counts, bits in another order, two words shifted as one, the greater and the smaller of
+//! two, absolute values, and sums and differences that stay within the width.
+//! v, u and t are the numbers of words of w bits, and m, k and n their masks; a and d complete the first word, b and e the
+//! second, c and g the third. x and y are answers.
 ghost use Rattle.std.specs.Prelude.{◌≡◌, ◌<◌, ◌≤◌, ◌^◌, ◌%◌, ℕ, Ok};
 ghost use Rattle.ms_bits.specs.Completion.{InRange, Agrees, Completes, IsMaskOf};
 ghost use Rattle.ms_bits.specs.WordFunctions.{bswap_of, bitreverse_of, fshl_of, fshr_of, HasForm, word_answer, word_mask};

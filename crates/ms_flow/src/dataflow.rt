@@ -1,5 +1,9 @@
-//! The first use that isn't defined on every path: dataflow over 64 values at a time. `values` are those of a round, told by their
-//! places; of each block `words` has which of them arrive there, and `kills` which it defines, one bit for each.
+//! The first use that isn't defined on every path: dataflow over 64 values at a time. A question is the value of a use and the
+//! place of that use in the list; a definition is a block and a value. `values` are those of a round, told by their places; of
+//! each block `words` has which of them arrive there, and `kills` which it defines, one bit for each.
+//!
+//! In contracts `Has word i` says that place i is in a set, `Comes .. i b` that the value at place i arrives at block b without a
+//! definition, and `Leaves .. u i` that it gets to the use u.
 ghost use Rattle.std.specs.Prelude.{◌≡◌, ◌≢◌, ℕ, ◌<◌, ◌≤◌, ◌^◌, ◌↔◌, ◌⊎◌, false, true, length, take, vec_len, IfOk, OnOk, IfSome, IfNone, IsNone, IsTrue, All, AllPairs, Contains, slice_get, slice_index_or};
 ghost use Rattle.ms_flow.specs.Paths.{Defines, IsDefined, Misses};
 ghost use Rattle.ms_flow.specs.Search.{Has, StaysIn, IsUndefined, StandsAt, Leaves, Covers, Comes, use_at};
@@ -83,7 +87,7 @@ fn undefined_by(
     Ok(undefined)
 }
 
-/// Marks the uses that are asked about and that some path reaches without a definition.
+/// Marks in `undefined` the uses that are asked about and that some path reaches without a definition.
 fn ask(
     alloc: Global,
     g: &Graph,
@@ -137,7 +141,7 @@ impl Dataflow {
         })
     }
 
-    /// Takes up the values of a round, and hands them on in an order.
+    /// Takes up the values of the next round, and lets the blocks hand them on, in this order.
     fn take_up(&mut self, g: &Graph, order: &[usize], definitions: &[(usize, u32)], values: &[u32])
         requires filled { 0 < length g.now.next }
         requires successors { StaysIn g.now }
@@ -262,7 +266,8 @@ fn judge(
     }
 }
 
-/// Whether the value arrives at the use without a definition.
+/// Whether the value arrives at its use without a definition. A use `after` the block's definitions isn't reached by what the
+/// block defines.
 fn arrives(u: &Use, values: &[u32], kills: &[u64], words: &[u64]) -> bool
     requires few { length values.now ≤ 64 }
     requires kills { length kills.now ≡ length words.now }
@@ -282,7 +287,7 @@ fn arrives(u: &Use, values: &[u32], kills: &[u64], words: &[u64]) -> bool
     places::has(word, place)
 }
 
-/// The first place at which the value stands.
+/// The first place at which the value stands among those of a round.
 fn place_of(values: &[u32], value: u32) -> Option<usize>
     ensures found { IfSome result (λ k. (k < length values.now) × (slice_index_or values.now k 0 ≡ value)) }
     ensures none { IfNone result (Contains values.now value → ⊥) }

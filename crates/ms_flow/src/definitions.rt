@@ -1,4 +1,5 @@
-//! The definitions of a graph as one sorted list.
+//! The definitions of a graph as one sorted list of pairs, a block and a value; and which blocks define the values of a round. In
+//! contracts `Has word i` says that place i is in a set.
 ghost use Rattle.std.specs.Prelude.{◌≡◌, ℕ, ◌<◌, ◌≤◌, ◌↔◌, ◌⊎◌, length, vec_len, IfOk, OnOk, IsTrue, All, Contains, slice_index_or};
 ghost use Rattle.ms_flow.specs.{Paths.{Defines}, Search.{Has}};
 
@@ -20,7 +21,7 @@ pub fn definitions(alloc: Global, g: &Graph) -> Result<Vec<(usize, u32)>, NoMemo
     Ok(pairs)
 }
 
-/// Adds the pairs of a block with its values.
+/// Adds the pairs of a block with the values that it defines.
 fn add_definitions(
     block: usize,
     values: &[u32],
@@ -43,7 +44,7 @@ pub fn has_definition(definitions: &[(usize, u32)], block: usize, value: u32) ->
     definitions.binary_search(&(block, value)).is_ok()
 }
 
-/// Writes for each block the places of the values that it defines.
+/// Writes for each block the places, among the values of a round, of those that it defines.
 pub fn tell(values: &[u32], definitions: &[(usize, u32)], kills: &mut [u64])
     requires few { length values.now ≤ 64 }
     requires blocks { All (λ d. d.0 < length kills.old) definitions.now }
@@ -59,7 +60,7 @@ pub fn tell(values: &[u32], definitions: &[(usize, u32)], kills: &mut [u64])
     }
 }
 
-/// A least and a greatest number for all of the values.
+/// A least and a greatest number for all of the values, by which definitions of others are passed over.
 fn bounds(values: &[u32]) -> (u32, u32)
     ensures { All (λ v. (result.0 ≤ v) × (v ≤ result.1)) values.now }
 {
@@ -72,7 +73,7 @@ fn bounds(values: &[u32]) -> (u32, u32)
     (low, high)
 }
 
-/// The set with the places at which the value stands.
+/// The set `word` with the places at which the value stands.
 fn with_value(values: &[u32], value: u32, word: u64) -> u64
     requires { length values.now ≤ 64 }
     ensures { (i : ℕ) → i < length values.now →

@@ -1,4 +1,4 @@
-//! The order in which blocks hand on what arrives at them.
+//! The order in which blocks hand on what arrives at them: by a walk in depth from block 0.
 ghost use Rattle.std.specs.Prelude.{◌≡◌, ℕ, ◌<◌, [], ◌∷◌, length, vec_len, true, false, IfOk, OnOk, All, Contains, slice_index_or};
 ghost use Rattle.ms_flow.specs.Search.{StaysIn, Covers};
 
@@ -9,8 +9,9 @@ use std::alloc::Global;
 /// A step of the walk that is still to be done.
 #[derive(Clone, Copy)]
 struct Pending {
+    /// The block that is entered or left.
     block: usize,
-    /// Whether all that the block leads to has been walked through.
+    /// Whether the block is left: all that it leads to has been walked through.
     leaves: bool,
 }
 
@@ -58,7 +59,7 @@ fn first_steps(alloc: Global) -> Result<Vec<Pending>, NoMemory>
     Ok(steps)
 }
 
-/// Does one step of the walk: leaves its block, or enters it where it isn't entered yet.
+/// Does one step of the walk: leaves its block, which is then `done`, or enters it where it isn't entered yet.
 fn take(
     g: &Graph,
     step: Pending,
@@ -83,7 +84,7 @@ fn take(
     Ok(())
 }
 
-/// Adds the steps to a block's successors, and after them the one that leaves the block.
+/// Adds the steps that enter a block's successors, on top of the one that leaves the block.
 fn enter(g: &Graph, block: usize, steps: &mut Vec<Pending>) -> Result<(), NoMemory>
     requires block { block < length g.now.next }
     requires successors { StaysIn g.now }

@@ -1,4 +1,4 @@
-//! Sets of places below 64, one bit for each.
+//! Sets of places below 64, one bit for each: the places of a round's values.
 ghost use Rattle.std.specs.Prelude.{◌≡◌, ℕ, ◌<◌, ◌≤◌, ◌↔◌, ◌⊎◌, IsTrue};
 ghost use Rattle.ms_flow.specs.Search.{Has};
 

@@ -1,4 +1,4 @@
-//! The uses that need a look at paths, sixty-four values at a time.
+//! The uses that need a look at paths, sixty-four values at a time. A definition is a block and a value.
 ghost use Rattle.std.specs.Prelude.{◌≡◌, ℕ, ◌<◌, ◌≤◌, ◌⊎◌, length, vec_len, IfOk, IsTrue, All, Contains, slice_index_or};
 ghost use Rattle.ms_flow.specs.Search.{use_at};
 
@@ -28,7 +28,8 @@ pub fn questions(
     Ok(questions)
 }
 
-/// At most sixty-four values, and the number of questions at the front that are about them.
+/// The values, at most sixty-four, that the first questions are about, and how many questions at the front are about them: a
+/// round.
 pub fn first_values(
     alloc: Global,
     questions: &[(u32, usize)],

@@ -1,4 +1,6 @@
-//! Which of 64 values may arrive at each block without a definition.
+//! Which of 64 values may arrive at each block without a definition. A block that waits in the queue hands on what arrives at it,
+//! until none waits. In contracts `Has word i` says that place i is in a set, and `Comes .. i b` that the value at place i
+//! arrives at block b.
 ghost use Rattle.std.specs.Prelude.{◌≡◌, ℕ, ◌<◌, ◌≤◌, ◌↔◌, true, false, length, All, Contains, slice_index_or};
 ghost use Rattle.ms_flow.specs.Search.{Has, StaysIn, Covers, Comes, IsState, Merged, work_left};
 
@@ -62,7 +64,7 @@ fn hand_on(g: &Graph, block: usize, kills: &[u64], words: &mut [u64], queued: &m
     merge(g.successors(block), leaving, words, queued);
 }
 
-/// Adds the places to the words of the blocks, and queues those to which they are new.
+/// Adds the places `leaving` a block to the words of the blocks `next` after it, and queues those to which they are new.
 fn merge(next: &[u32], leaving: u64, words: &mut [u64], queued: &mut [bool])
     requires next { All (λ c. c < length words.old) next.now }
     requires queued { length queued.old ≡ length words.old }

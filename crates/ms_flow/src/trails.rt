@@ -1,4 +1,4 @@
-//! One path that a value takes without a definition.
+//! One path that a value takes without a definition: by a walk in breadth from block 0, and then back from the use.
 ghost use Rattle.std.specs.Prelude.{◌≡◌, ◌≢◌, ℕ, ◌+◌, ◌<◌, List, [], ◌∷◌, length, take, vec_len, IfOk, OnOk, IfSome, IfNone, AllPairs};
 ghost use Rattle.ms_flow.specs.{Paths.{Misses, HasEdge, Defines}, Search.{StaysIn, Arrives, IsUndefined}};
 ghost use Rattle.ms_flow.specs.Walks.{IsWalk, Marks, Trail, Visits, block_at, from_at, unseen};
@@ -56,7 +56,7 @@ fn first_visits(alloc: Global) -> Result<Vec<Visit>, NoMemory>
     Ok(visits)
 }
 
-/// Visits the successors of a visited block that aren't seen yet.
+/// Visits those successors of the block visited at `from` that aren't seen yet.
 fn go_on(g: &Graph, from: usize, seen: &mut [bool], visits: &mut Vec<Visit>) -> Result<(), NoMemory>
     requires from { from < length visits.old.items }
     requires successors { StaysIn g.now }
@@ -82,7 +82,7 @@ fn go_on(g: &Graph, from: usize, seen: &mut [bool], visits: &mut Vec<Visit>) -> 
     Ok(())
 }
 
-/// The place at which the block was visited.
+/// The place of the visit of a block, if it was visited.
 fn visit_of(visits: &[Visit], block: u32) -> Option<usize>
     ensures found { IfSome result (λ k. (k < length visits.now) × (block_at visits.now k ≡ block)) }
     ensures none { IfNone result (Visits visits.now block → ⊥) }
@@ -90,7 +90,7 @@ fn visit_of(visits: &[Visit], block: u32) -> Option<usize>
     visits.iter().position(|v| v.block == block)
 }
 
-/// The blocks from block 0 to the visit at the place.
+/// The blocks from block 0 to that of visit `last`, traced back by the visits from which each was reached.
 fn trail(alloc: Global, visits: &[Visit], last: usize) -> Result<Vec<u32>, NoMemory>
     requires last { last < length visits.now }
     requires earlier { (k : ℕ) → 0 < k → k < length visits.now → from_at visits.now k < k }

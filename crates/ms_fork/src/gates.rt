@@ -1,4 +1,4 @@
-//! What each piece of work passes before it begins.
+//! What each piece of work passes before it begins, so that a test decides which thread comes first.
 
 /// A gate that a piece of work passes before it does anything else: a test's gate can hold one piece until another has come.
 /// A call returns; what else it does changes no answer.

@@ -1,4 +1,5 @@
-//! A list whose items are made piece by piece, with threads of their own for some of the pieces.
+//! A list whose items are made piece by piece, with threads of their own for some of the pieces: `rt` starts them, and each piece
+//! enters `gate` first.
 ghost use Rattle.std.specs.{Prelude.{◌≡◌, ℕ, ◌+◌, ◌*◌, ◌<◌, ◌≤◌, ◌^◌, map, IfOk}, List.{range_with_len}};
 ghost use Rattle.std.specs.Thread.{IsSync};
 ghost use denote.Param.Send.{IsSend};
@@ -54,7 +55,8 @@ fn map_piece<W: Work<Item = T>, T: Drop, G: Gate>(
     Ok(all)
 }
 
-/// The items of `count` numbers from `from` on, cut in halves until each part is a piece.
+/// The items of `count` numbers from `from` on, cut in halves until each part has at most `most` items and so is a piece; at most
+/// `threads` threads are at work at once.
 #[cycle(halves)]
 fn map_range<R: Threads + Sync, W: Work<Item = T> + Sync, T: Send + Drop, G: Gate + Sync>(
     rt: &R,
@@ -120,6 +122,7 @@ fn fork<R: Threads + Sync, W: Work<Item = T> + Sync, T: Send + Drop, G: Gate + S
     requires can { (i : ℕ) → from ≤ i → i < from + count → W.can work.now i }
     ensures { IfOk result (λ all. all.items ≡ map (W.answer work.now) (range_with_len from count)) }
 {
+    // The counts of the halves, the second one's first number, and the threads for the second and the first half.
     let low = count / 2;
     let high = count - low;
     let up = from + low;

@@ -1,4 +1,5 @@
-//! Lists whose items several threads make, by fork and join: the same list as one thread makes.
+//! Lists whose items several threads make, by fork and join: the same list as one thread makes. So the pass makes functions, and
+//! `corpus` and the exploring of schedules make runs.
 #![tactic(auto)]
 
 mod gates;

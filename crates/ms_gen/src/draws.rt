@@ -1,10 +1,10 @@
-//! Drawn numbers.
+//! Numbers that are drawn by a linear congruence, and the operation that one stands for.
 ghost use Rattle.std.specs.Prelude.{◌≡◌, ◌<◌};
 ghost use Rattle.ms_gen.specs.Generator.{draw, next_state, operation_of};
 
 use ms_bits::BinOp;
 
-/// The multiplier of the linear congruence.
+/// The multiplier of the linear congruence (Knuth's, for 64 bits).
 const MULTIPLIER: u64 = 6364136223846793005;
 
 /// Its increment.
@@ -17,7 +17,7 @@ pub struct Draws {
 }
 
 impl Draws {
-    /// Draws a number below `bound`.
+    /// Draws a number below `bound`, from the upper bits of the state: the lower ones repeat soon.
     pub fn draw(&mut self, bound: u64) -> u64
         requires { 0 < bound }
         ensures state { self.new.state ≡ next_state self.old.state }

@@ -1,4 +1,5 @@
-//! What is drawn for the seed 7, computed by the check.
+//! What is drawn for the seed 7, computed by the check. `draw k state bound` is the k-th number drawn from a state on; `sets 4`
+//! begins an instruction with the result `%4`.
 ghost use Rattle.std.specs.Prelude.{◌≡◌};
 ghost use Rattle.ms_bits.specs.declared.operations.BinOp.TheVariants.{And, Or, Xor};
 ghost use Rattle.ms_ir.specs.Builders.{i32, local, int, sets, binary};

@@ -1,4 +1,5 @@
-//! One generated function: its parameter stored and loaded, operations that are drawn, and a call of the one before.
+//! One generated function: its parameter `%0` stored in `%2` and loaded as `%3`, eight operations that are drawn, `%4` to `%11`,
+//! and a call of the function before it, `%12`.
 ghost use Rattle.std.specs.Prelude.{◌≡◌, ◌<◌, ◌*◌, ◌++◌, [], ◌∷◌, OnOk, IfOk};
 ghost use Rattle.ms_ir.specs.Builders.{block, i32};
 ghost use Rattle.ms_ir.specs.declared.syntax.Name.TheVariants as number;
@@ -25,7 +26,7 @@ fn push_operations(insts: &mut Vec<Inst>, draws: &mut Draws, count: u32) -> Resu
     Ok(())
 }
 
-/// Adds the end of the function with a number.
+/// Adds the end of the function with a number: a call of the one before it with the last result, if there is one, and the return.
 fn push_ending(alloc: Global, insts: &mut Vec<Inst>, number: u32) -> Result<(), NoMemory>
     ensures { OnOk result (insts.new.items ≡ insts.old.items ++ ending number) }
 {

@@ -1,4 +1,4 @@
-//! Instructions of generated functions, and the names of these. All values are of the type `i32`.
+//! Instructions of generated functions, and the names of these. All values are of the type `i32`, and all results are numbered.
 ghost use Rattle.std.specs.Prelude.{◌≡◌, ◌<◌, ◌+◌, ◌++◌, [], ◌∷◌, IfOk, OnOk, Some};
 ghost use Rattle.ms_ir.specs.declared.syntax.Op.TheVariants as op;
 ghost use Rattle.ms_ir.specs.Builders.{i32, local, sets, does, alloca, ret as returned};

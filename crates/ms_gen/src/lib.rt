@@ -1,4 +1,4 @@
-//! Generated modules: valid inputs of any size, each from a number.
+//! Generated modules for `gen` and for tests: valid inputs of any size, each from a number.
 #![tactic(auto)]
 
 mod draws;

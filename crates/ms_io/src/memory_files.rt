@@ -25,10 +25,15 @@ fn copy_within(alloc: Global, bytes: &[u8], limit: u64) -> Result<Vec<u8>, FileE
 /// Files in memory that tell what they hold and fail where they are told to, for tests.
 #[derive(Debug, Drop)]
 pub struct MemFiles {
+    /// The bytes of each file by its name.
     held: BTreeMap<String, Vec<u8>>,
+    /// The numbers, from 0, of the calls that fail.
     failing: Vec<u64>,
+    /// How many calls there were.
     calls: u64,
+    /// How many bytes were taken.
     taken: u64,
+    /// How many calls failed.
     faults: u64,
 }
 
@@ -102,7 +107,9 @@ impl Files for MemFiles {
 /// Files in memory that tell what they hold and never fail.
 #[derive(Debug, Drop)]
 pub struct SureFiles {
+    /// The bytes of each file by its name.
     held: BTreeMap<String, Vec<u8>>,
+    /// How many bytes were taken.
     taken: u64,
 }
 

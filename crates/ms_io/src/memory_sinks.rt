@@ -1,10 +1,10 @@
-//! Sinks in memory.
+//! Sinks in memory, for tests: one that tells what was put to it and fails where it is told to, and one that never fails.
 ghost use Rattle.std.specs.Prelude.{◌≡◌, ℕ, ◌+◌, ◌<◌, ◌≤◌, ◌↔◌, ◌++◌, [], List, take, drop, length, min, Contains, Option, Some, None, IsOk, IsErr, OnOk, OnErr};
 ghost use Rattle.ms_io.specs.{Counts.{last_count, Rose}, Writing.{with_appended, AppendsPrefix}};
 
 use crate::{Sink, SinkFailed};
 
-/// Writes `bytes` over what stands at `at` and after.
+/// Writes `bytes` over what stands in `room` at `at` and after.
 fn write_at(room: &mut [u8], at: usize, bytes: &[u8])
     requires { at + length bytes.now ≤ length room.old }
     ensures { room.new ≡ take at room.old ++ (bytes.now ++ drop (at + length bytes.now) room.old) }
@@ -15,10 +15,15 @@ fn write_at(room: &mut [u8], at: usize, bytes: &[u8])
 /// A sink that writes into a buffer, from its first byte on, and tells the bytes put so far; for tests.
 #[derive(Debug, Drop)]
 pub struct MemSink {
+    /// The buffer.
     room: Vec<u8>,
+    /// How many of its bytes were written.
     used: usize,
+    /// The numbers, from 0, of the calls that fail.
     failing: Vec<u64>,
+    /// How many calls there were.
     calls: u64,
+    /// How many calls failed.
     faults: u64,
     ghost within: { used ≤ length room.items },
 }

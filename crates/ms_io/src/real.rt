@@ -15,7 +15,9 @@ const CHUNK: usize = 65536;
 /// What was met so far. Both counters stand still at their greatest number.
 #[derive(Debug, Drop)]
 struct Counters {
+    /// How many bytes were taken.
     taken: u64,
+    /// How many calls of the system failed.
     faults: u64,
 }
 
@@ -58,7 +60,7 @@ fn append_chunk<F: Read>(
     }
 }
 
-/// A law: what is read is bytes.
+/// A law: what is read is bytes, as each slice of `u8` is.
 fn law_in_range(bytes: &[u8])
     ensures { All (λ b. b < 2 ^ 8) bytes.now }
 {
@@ -85,6 +87,7 @@ fn read_to_end<F: Read>(
     ensures faults_never_fall { counters.old.faults ≤ counters.new.faults }
     ensures faults_end { counters.new.faults ≤ last_count }
 {
+    // Read for their ranges alone, which the contract needs.
     let (_taken, _faults) = (counters.taken, counters.faults);
     let Ok(mut chunk) = vec![in alloc; 0u8; CHUNK] else {
         return Err(FileError::NoMemory);
@@ -177,6 +180,7 @@ impl<R: rt::Files> Files for RealFiles<'_, R> {
 #[derive(Debug, Drop)]
 pub struct RealSink<W> {
     writer: W,
+    /// How many puts failed.
     faults: u64,
 }
 

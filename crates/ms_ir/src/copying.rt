@@ -1,4 +1,5 @@
-//! Equal copies of the parts of a module.
+//! Equal copies of the parts of a module. The pass copies names, types, globals, declarations and single instructions, `strip`
+//! what it leaves; a module with its functions and blocks is copied only where a pass inserts nothing, and in tests.
 ghost use Rattle.std.specs.Prelude.{◌≡◌, IfOk};
 ghost use Rattle.ms_ir.specs.declared.syntax.Operand.TheVariants as operand;
 
@@ -19,6 +20,7 @@ impl Duplicate for Name {
     }
 }
 
+/// A copy of a type; of what it holds the copies are made in the same way.
 #[cycle(copy_ty)]
 fn copy_ty(ty: &Ty, alloc: Global) -> Result<Ty, NoMemory>
     ensures { IfOk result (λ c. c ≡ ty.now) }
@@ -35,6 +37,7 @@ fn copy_ty(ty: &Ty, alloc: Global) -> Result<Ty, NoMemory>
     }
 }
 
+/// A copy of a list of types.
 #[cycle(copy_ty)]
 fn copy_tys(tys: &List<Ty>, alloc: Global) -> Result<List<Ty>, NoMemory>
     ensures { IfOk result (λ c. c ≡ tys.now) }
@@ -53,6 +56,7 @@ impl Duplicate for Ty {
     }
 }
 
+/// A copy of a constant address: its global and the steps from there.
 fn copy_offset(
     alloc: Global,
     name: &Boxed<Name>,
@@ -78,6 +82,7 @@ impl Duplicate for Operand {
     }
 }
 
+/// A copy of an initialiser; of what it holds the copies are made in the same way.
 #[cycle(copy_init)]
 fn copy_init(init: &Init, alloc: Global) -> Result<Init, NoMemory>
     ensures { IfOk result (λ c. c ≡ init.now) }
@@ -91,6 +96,7 @@ fn copy_init(init: &Init, alloc: Global) -> Result<Init, NoMemory>
     }
 }
 
+/// A copy of the items of an array, or the fields of a struct, with their types.
 #[cycle(copy_init)]
 fn copy_inits(inits: &List<(Ty, Init)>, alloc: Global) -> Result<List<(Ty, Init)>, NoMemory>
     ensures { IfOk result (λ c. c ≡ inits.now) }

@@ -1,4 +1,5 @@
-//! How many parts an instruction has (LLVM Language Reference, "Instruction Reference").
+//! How many parts an instruction has (LLVM Language Reference, "Instruction Reference"), for those who go through them by their
+//! places.
 ghost use Rattle.std.specs.Prelude.{◌≡◌, length};
 ghost use Rattle.ms_ir.specs.{Instructions.{operands}, Written.{labels, targets}};
 

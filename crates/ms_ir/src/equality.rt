@@ -20,7 +20,7 @@ impl Eq for Ty {
     ghost laws = { type_eq_equiv };
 }
 
-/// Whether two types are the same.
+/// Whether two types are the same. m and n are widths, or lengths of arrays; p and q say whether structs are packed.
 #[cycle(types)]
 fn same_type(a: &Ty, b: &Ty) -> bool
     ensures { result ≡ type_eq a.now b.now }
@@ -72,7 +72,7 @@ fn same_steps(steps: &List<(Ty, List<(Ty, u64)>)>, others: &List<(Ty, List<(Ty, 
     steps == others
 }
 
-/// Whether it is the integer.
+/// Whether an operand is this integer.
 fn is_int(other: &Operand, value: u64) -> bool
     ensures { result ≡ operand_eq (operand.Int value) other.now }
 {
@@ -82,7 +82,7 @@ fn is_int(other: &Operand, value: u64) -> bool
     }
 }
 
-/// Whether it is the null pointer.
+/// Whether an operand is the null pointer.
 fn is_null(other: &Operand) -> bool
     ensures { result ≡ operand_eq operand.Null other.now }
 {
@@ -92,7 +92,7 @@ fn is_null(other: &Operand) -> bool
     }
 }
 
-/// Whether it is the local.
+/// Whether an operand is the local of this name.
 fn is_local(other: &Operand, name: &Name) -> bool
     ensures { result ≡ operand_eq (operand.Local name.now) other.now }
 {
@@ -102,7 +102,7 @@ fn is_local(other: &Operand, name: &Name) -> bool
     }
 }
 
-/// Whether it is the address of the global.
+/// Whether an operand is the address of the global of this name.
 fn is_global(other: &Operand, name: &Name) -> bool
     ensures { result ≡ operand_eq (operand.Global name.now) other.now }
 {
@@ -112,7 +112,7 @@ fn is_global(other: &Operand, name: &Name) -> bool
     }
 }
 
-/// Whether it is the address that the steps lead to from the global.
+/// Whether an operand is the address to which the steps lead from the global of this name.
 fn is_offset(other: &Operand, name: &Name, steps: &List<(Ty, List<(Ty, u64)>)>) -> bool
     ensures { result ≡ operand_eq (operand.Offset name.now steps.now) other.now }
 {
@@ -122,7 +122,8 @@ fn is_offset(other: &Operand, name: &Name, steps: &List<(Ty, List<(Ty, u64)>)>) 
     }
 }
 
-/// Whether two operands of one type mean the same: `poison` is `undef` here, which `==` tells apart.
+/// Whether two operands of one type mean the same: `poison` is `undef` here, which `==` tells apart. Two edges of a phi from one
+/// block must have the same operand.
 pub fn same_operand(a: &Operand, b: &Operand) -> bool
     ensures { result ≡ operand_eq a.now b.now }
 {

@@ -1,8 +1,7 @@
-//! Sizes and alignments of types, and where their parts begin (LLVM Language Reference, "Data Layout" and
-//! "Type System").
+//! Sizes and alignments of types, and where their parts begin (LLVM Language Reference, "Data Layout" and "Type System").
 //!
-//! Nothing here takes memory, so nothing is kept: a named type is laid out again at each mention of it, and its
-//! name is looked up by a walk of the named types.
+//! Nothing here takes memory, so nothing is kept: a named type is laid out again at each mention of it, and its name is looked up
+//! by a walk of the named types. What checks and runs modules asks `Extents` of `ms_check_tables`, which keeps the layouts.
 ghost use Rattle.std.specs.Prelude.{◌≡◌, ◌+◌, ◌<◌, ◌≤◌, map, option_map, IsSome, IfSome, unwrap_or};
 ghost use Rattle.std.specs.Option.{option_copied};
 ghost use Rattle.ms_ir.specs.{declared.syntax.Ty.{Ptr}, Names.{lookup}};
@@ -24,7 +23,7 @@ fn find<'a>(types: &'a [(Name, Ty)], name: &Name) -> Option<&'a Ty>
     None
 }
 
-/// The layout of a type, where chains of named types are at most so long; none where a named type in it has
+/// The layout of a type, where chains of named types have at most `chain` links; none where a named type in it has
 /// none.
 #[cycle(types)]
 fn layout_of(types: &[(Name, Ty)], chain: u32, ty: &Ty) -> Option<Layout>
@@ -118,7 +117,7 @@ fn layout_or_empty(types: &[(Name, Ty)], ty: &Ty) -> Layout
     }
 }
 
-/// Where a field of a struct begins, by its number.
+/// Where the field of a struct with this number begins.
 fn field_offset(types: &[(Name, Ty)], packed: bool, fields: &[Ty], number: u32) -> u64
     ensures { limited result ≡ limited (field_offset types.now packed (extent 0 1) fields.now number) }
 {
@@ -139,7 +138,7 @@ fn field_offset(types: &[(Name, Ty)], packed: bool, fields: &[Ty], number: u32) 
     so_far.size
 }
 
-/// Where a part of an array or a struct begins, by its number.
+/// Where the item of an array or the field of a struct with this number begins.
 fn part_offset(types: &[(Name, Ty)], ty: &Ty, number: u32) -> u64
     ensures { limited result ≡ limited (part_offset types.now ty.now number) }
 {

@@ -10,7 +10,8 @@ use crate::rows::{ParamType, SignatureRow, named};
 use crate::syntax::{Decl, Name};
 use crate::word_externals;
 
-/// Each external that is no function of whole words.
+/// Each external that is no function of whole words, in the order of the variants. Parameters are those of the C function or of
+/// LLVM's, in its order; the `i1` of `llvm.memcpy`, `llvm.memmove` and `llvm.memset` is `volatile`.
 static EXTERNALS: [SignatureRow<External>; 28] = [
     SignatureRow {
         name: b"malloc",
@@ -238,7 +239,7 @@ impl External {
         )
     }
 
-    /// Whether a declaration has its types.
+    /// Whether a declaration has its types, which are those of its row.
     pub fn has_types_of(self, decl: &Decl) -> bool
         ensures { result ≡ signature_eq (decl_signature decl.now) (external_signature self) }
     {

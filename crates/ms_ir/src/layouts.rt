@@ -1,5 +1,6 @@
-//! What a type takes in memory, and that of an array or a struct by its parts (LLVM Language Reference, "Data
-//! Layout" and "Type System"). A size that is above the greatest is kept as the next number.
+//! What a type takes in memory, and that of an array or a struct by its parts (LLVM Language Reference, "Data Layout" and "Type
+//! System"). A size that is above the greatest is kept as the next number; contracts compare it with one that is limited in the
+//! same way.
 ghost use Rattle.std.specs.Prelude.{◌≡◌, ◌+◌, ◌*◌, ◌≤◌, ◌^◌, [], ◌∷◌, option_map, IfSome};
 ghost use Rattle.ms_ir.specs.Layout.{extent, int_align, round_up, place_field, array_extent};
 ghost use Rattle.ms_ir.specs.Extents.{IsLayout, limited, limit_extent, as_extent};

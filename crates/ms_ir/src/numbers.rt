@@ -40,6 +40,7 @@ pub fn sites_of_funcs(funcs: &[Func]) -> u32
     count
 }
 
+/// Whether instructions are numbered in 32 bits in each of the blocks.
 fn blocks_are_small(blocks: &[Block]) -> bool
     ensures { IsTrue result ↔ All (λ b. length b.insts < 2 ^ 32) blocks.now }
 {
@@ -51,6 +52,7 @@ fn blocks_are_small(blocks: &[Block]) -> bool
     true
 }
 
+/// Whether blocks, and instructions in them, are numbered in 32 bits in each of the functions.
 fn funcs_are_small(funcs: &[Func]) -> bool
     ensures { IsTrue result ↔ AreSmall funcs.now }
 {

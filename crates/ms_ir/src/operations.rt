@@ -1,5 +1,5 @@
-//! The parts of an instruction by their places, in written order (LLVM Language Reference, "Instruction Reference").
-//! Each answer takes constant time and no memory.
+//! The parts of an instruction by their places, in written order (LLVM Language Reference, "Instruction Reference"): checks, the
+//! pass and the followed run go through operands and targets in this way. Each answer takes constant time and no memory.
 ghost use Rattle.std.specs.{Prelude.{◌≡◌, [], ◌∷◌, map, slice_get}, Option.{option_copied}};
 ghost use Rattle.ms_ir.specs.{Instructions.{operands, is_phi}, Written.{labels, targets, own_types}};
 
@@ -7,12 +7,14 @@ use crate::syntax::{Name, Op, Operand, Ty};
 
 // ---- one of a few
 
+/// The value, where `k` is 0.
 fn of_one<T>(a: &T, k: usize) -> Option<&T>
     ensures { option_copied result ≡ slice_get (a.now ∷ []) k }
 {
     if k == 0 { Some(a) } else { None }
 }
 
+/// The one of two values with a place from 0, if there is one.
 fn of_two<'a, T>(a: &'a T, b: &'a T, k: usize) -> Option<&'a T>
     ensures { option_copied result ≡ slice_get (a.now ∷ b.now ∷ []) k }
 {
@@ -23,12 +25,14 @@ fn of_two<'a, T>(a: &'a T, b: &'a T, k: usize) -> Option<&'a T>
     }
 }
 
+/// The one of three values with a place from 0, if there is one.
 fn of_three<'a, T>(a: &'a T, b: &'a T, c: &'a T, k: usize) -> Option<&'a T>
     ensures { option_copied result ≡ slice_get (a.now ∷ b.now ∷ c.now ∷ []) k }
 {
     if k == 0 { Some(a) } else { of_two(b, c, k - 1) }
 }
 
+/// The first part of the pair with a place from 0, if there is one.
 fn first_of<A, B>(pairs: &[(A, B)], k: usize) -> Option<&A>
     ensures { option_copied result ≡ slice_get (map (λ p. p.0) pairs.now) k }
 {
@@ -38,6 +42,7 @@ fn first_of<A, B>(pairs: &[(A, B)], k: usize) -> Option<&A>
     }
 }
 
+/// The second part of the pair with a place from 0, if there is one.
 fn second_of<A, B>(pairs: &[(A, B)], k: usize) -> Option<&B>
     ensures { option_copied result ≡ slice_get (map (λ p. p.1) pairs.now) k }
 {
@@ -47,6 +52,7 @@ fn second_of<A, B>(pairs: &[(A, B)], k: usize) -> Option<&B>
     }
 }
 
+/// The one with a place from 0 among a value and, after it, the second parts of pairs.
 fn before_seconds<'a, A, B>(first: &'a B, pairs: &'a [(A, B)], k: usize) -> Option<&'a B>
     ensures { option_copied result ≡ slice_get (first.now ∷ map (λ p. p.1) pairs.now) k }
 {

@@ -1,4 +1,4 @@
-//! Copies of a few values at once, and at the end of a list.
+//! Copies of a few values at once, the parts of a larger one, and at the end of a list.
 ghost use Rattle.std.specs.Prelude.{◌≡◌, ◌++◌, ◌∷◌, [], IfOk};
 
 use ms_bits::{Duplicate, NoMemory};

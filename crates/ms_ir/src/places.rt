@@ -28,6 +28,7 @@ pub enum RootKind {
 /// written order.
 #[derive(Clone, Copy, Debug, PartialEq, Eq)]
 pub struct Root {
+    /// What makes them there.
     pub kind: RootKind,
     /// The site of its instruction.
     pub site: u32,

@@ -1,4 +1,5 @@
-//! The roots of a module: the instructions and operands that make uninitialised bytes or bits.
+//! The roots of a module: the instructions and operands that make uninitialised bytes or bits. A report names the root of what is
+//! poisoned.
 ghost use Rattle.std.specs.Prelude.{◌≡◌, ◌<◌, ◌^◌, ℕ, ◌+◌, ◌++◌, IfOk};
 ghost use Rattle.ms_ir.specs.Instructions.{func_index, one_unmarked, over_insts, over_blocks, over_funcs};
 ghost use Rattle.ms_ir.specs.Roots.{own_roots, inst_roots, insts_roots, blocks_roots, funcs_roots, roots_of};

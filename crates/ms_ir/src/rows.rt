@@ -1,4 +1,5 @@
-//! The rows of a table of functions, and how one is found by its name.
+//! The rows of a table of functions, and how one is found by its name. The tables are those of the externals (`externals.rt`), of
+//! the runtime functions and of those that move bits (`runtime.rt`).
 ghost use Rattle.std.specs.{Prelude.{◌≡◌, map, option_map, IfOk}, Option.{option_copied}};
 ghost use Rattle.ms_ir.specs.declared.syntax.Name.TheVariants as spelling;
 ghost use Rattle.ms_ir.specs.{Names.{lookup}, Equal.{type_eq, types_eq, result_type_eq}};
@@ -22,7 +23,7 @@ pub enum ParamType {
 pub struct SignatureRow<F> {
     /// Its name.
     pub name: &'static [u8],
-    /// Which it is.
+    /// The function as a variant.
     pub is: F,
     /// What it returns; none is `void`.
     pub ret: Option<ParamType>,
@@ -53,6 +54,7 @@ impl ParamType {
     }
 }
 
+/// Whether a type, or none for `void`, is what a function returns.
 fn is_result(ret: Option<ParamType>, ty: &Option<Ty>) -> bool
     ensures { result ≡ result_type_eq ty.now (option_map kind_type ret) }
 {
@@ -63,6 +65,7 @@ fn is_result(ret: Option<ParamType>, ty: &Option<Ty>) -> bool
     }
 }
 
+/// Whether these types of parameters are those that a function takes.
 fn are_params(kinds: &[ParamType], params: &[Ty]) -> bool
     ensures { result ≡ types_eq params.now (map kind_type kinds.now) }
 {
@@ -77,6 +80,7 @@ fn are_params(kinds: &[ParamType], params: &[Ty]) -> bool
     true
 }
 
+/// The types that a function takes.
 fn types_of(alloc: Global, kinds: &[ParamType]) -> Result<List<Ty>, NoMemory>
     ensures { IfOk result (λ ts. ts ≡ map kind_type kinds.now) }
 {
@@ -133,7 +137,7 @@ impl<F> SignatureRow<F> {
     }
 }
 
-/// The functions of a table as they are declared.
+/// The functions of a table as they are declared: those of the runtime, which the pass adds to a module.
 pub fn declarations_of<F>(alloc: Global, rows: &[SignatureRow<F>]) -> Result<List<Decl>, NoMemory>
     ensures { IfOk result (λ ds. ds ≡ map row_declaration rows.now) }
 {
@@ -144,7 +148,7 @@ pub fn declarations_of<F>(alloc: Global, rows: &[SignatureRow<F>]) -> Result<Lis
     Ok(List::from_vec(declarations))
 }
 
-/// The row with a name, if there is one.
+/// The row with a text as its name, if there is one.
 fn find<'r, F>(rows: &'r [SignatureRow<F>], text: &[u8]) -> Option<&'r SignatureRow<F>>
     ensures { option_copied result ≡ lookup (by_name rows.now) (spelling.Text text.now) }
 {
@@ -156,7 +160,7 @@ fn find<'r, F>(rows: &'r [SignatureRow<F>], text: &[u8]) -> Option<&'r Signature
     None
 }
 
-/// Which function has a name, if there is one.
+/// Which function of a table has a text as its name, if there is one.
 pub fn named<F: Copy>(rows: &[SignatureRow<F>], text: &[u8]) -> Option<F>
     ensures { result ≡ lookup (by_kind rows.now) (spelling.Text text.now) }
 {

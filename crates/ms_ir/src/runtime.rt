@@ -13,8 +13,10 @@ use crate::syntax::{Decl, Name, Ty};
 use ms_bits::{BitMove, List, NoMemory};
 use std::alloc::Global;
 
-/// Each function that marked calls alone reach.
+/// Each function that marked calls alone reach, in the order of the variants; above each row what its parameters are. Masks and
+/// lengths have 64 bits; origins, sites and kinds of uses 32.
 static RUNTIME_FUNCTIONS: [SignatureRow<RuntimeFn>; 13] = [
+    // Mask, width of the word, its origin, kind of the use, part of what is used, site.
     SignatureRow {
         name: b"__msan_check",
         is: RuntimeFn::Check,
@@ -28,6 +30,7 @@ static RUNTIME_FUNCTIONS: [SignatureRow<RuntimeFn>; 13] = [
             ParamType::Int(32),
         ],
     },
+    // Address, how many bytes, kind of the use, site.
     SignatureRow {
         name: b"__msan_check_memory",
         is: RuntimeFn::CheckMemory,
@@ -39,18 +42,21 @@ static RUNTIME_FUNCTIONS: [SignatureRow<RuntimeFn>; 13] = [
             ParamType::Int(32),
         ],
     },
+    // Address, site.
     SignatureRow {
         name: b"__msan_check_string",
         is: RuntimeFn::CheckString,
         ret: None,
         params: &[ParamType::Ptr, ParamType::Int(32)],
     },
+    // Mask.
     SignatureRow {
         name: b"__msan_blind",
         is: RuntimeFn::Blind,
         ret: None,
         params: &[ParamType::Int(64)],
     },
+    // Address; the first byte and the one after the last, counted from there; origin.
     SignatureRow {
         name: b"__msan_poison",
         is: RuntimeFn::Poison,
@@ -62,18 +68,21 @@ static RUNTIME_FUNCTIONS: [SignatureRow<RuntimeFn>; 13] = [
             ParamType::Int(32),
         ],
     },
+    // Address, how many bytes.
     SignatureRow {
         name: b"__msan_unpoison",
         is: RuntimeFn::Unpoison,
         ret: None,
         params: &[ParamType::Ptr, ParamType::Int(64)],
     },
+    // Address to copy to, address to copy from, how many bytes.
     SignatureRow {
         name: b"__msan_copy",
         is: RuntimeFn::Copy,
         ret: None,
         params: &[ParamType::Ptr, ParamType::Ptr, ParamType::Int(64)],
     },
+    // Address, how many bytes, mask and origin of the byte, site.
     SignatureRow {
         name: b"__msan_fill",
         is: RuntimeFn::Fill,
@@ -86,6 +95,7 @@ static RUNTIME_FUNCTIONS: [SignatureRow<RuntimeFn>; 13] = [
             ParamType::Int(32),
         ],
     },
+    // Address, mask and origin of the value, site.
     SignatureRow {
         name: b"__msan_store_origin",
         is: RuntimeFn::StoreOrigin,
@@ -97,18 +107,21 @@ static RUNTIME_FUNCTIONS: [SignatureRow<RuntimeFn>; 13] = [
             ParamType::Int(32),
         ],
     },
+    // Address, mask of the value.
     SignatureRow {
         name: b"__msan_load_origin",
         is: RuntimeFn::LoadOrigin,
         ret: Some(ParamType::Int(32)),
         params: &[ParamType::Ptr, ParamType::Int(64)],
     },
+    // Address.
     SignatureRow {
         name: b"__msan_size",
         is: RuntimeFn::Size,
         ret: Some(ParamType::Int(64)),
         params: &[ParamType::Ptr],
     },
+    // Address that the join stored to, number of the fiber, answer of the join, site.
     SignatureRow {
         name: b"__msan_thread_result",
         is: RuntimeFn::ThreadResult,
@@ -120,6 +133,7 @@ static RUNTIME_FUNCTIONS: [SignatureRow<RuntimeFn>; 13] = [
             ParamType::Int(32),
         ],
     },
+    // Address of the format, number of the argument, the argument, site.
     SignatureRow {
         name: b"__msan_check_format",
         is: RuntimeFn::CheckFormat,
@@ -133,7 +147,7 @@ static RUNTIME_FUNCTIONS: [SignatureRow<RuntimeFn>; 13] = [
     },
 ];
 
-/// Each function that moves bits, at the place of its variant.
+/// Each function that moves bits, at the place of its variant, with which the pass moves the bits of masks.
 static BIT_MOVES: [SignatureRow<RuntimeFn>; 15] = [
     SignatureRow {
         name: b"llvm.bswap.i16",

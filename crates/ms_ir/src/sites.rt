@@ -1,4 +1,4 @@
-//! Instructions by their sites, and sites by their instructions.
+//! Instructions by their sites, and sites by their instructions, in a module alone: the program counts sites as it goes.
 ghost use Rattle.std.specs.Prelude.{◌≡◌, ◌+◌, ◌<◌, ◌≤◌, ◌^◌, length, take, IfSome, IfNone};
 ghost use Rattle.ms_ir.specs.declared.places.Place.{Place};
 ghost use Rattle.ms_ir.specs.Instructions.{blocks_at, insts_at, one_unmarked, over_insts, over_blocks, over_funcs, site_at};
@@ -28,7 +28,7 @@ fn insts_of(m: &Module, func: u32, block: u32) -> &[Inst]
     }
 }
 
-/// The first items, so many of them.
+/// The first `count` items, or all where there are fewer.
 fn first<T>(items: &[T], count: u32) -> &[T]
     ensures { result.now ≡ take count items.now }
 {
@@ -63,11 +63,13 @@ pub fn site_of(m: &Module, place: Place) -> u32
 /// A part of a list, and which of its unmarked instructions is sought, counted from 0.
 #[derive(Clone, Copy)]
 struct Sought {
+    /// The place of the part in the list.
     index: u32,
+    /// Which unmarked instruction of the part.
     left: u32,
 }
 
-/// The unmarked instruction with a number among these, counted from 0.
+/// The place of unmarked instruction `number` among these, counted from 0.
 fn find_inst(insts: &[Inst], number: u32) -> Option<u32>
     requires { length insts.now < 2 ^ 32 }
     ensures found { IfSome result (FoundInst insts.now number) }
@@ -85,7 +87,7 @@ fn find_inst(insts: &[Inst], number: u32) -> Option<u32>
     None
 }
 
-/// The basic block with the unmarked instruction that has a number among those of all, counted from 0.
+/// The basic block that has unmarked instruction `number` of all of them, counted from 0, and which one of its own that is.
 fn find_block(blocks: &[Block], number: u32) -> Option<Sought>
     requires few { over_blocks one_unmarked blocks.now < 2 ^ 32 }
     requires short { length blocks.now < 2 ^ 32 }
@@ -104,7 +106,7 @@ fn find_block(blocks: &[Block], number: u32) -> Option<Sought>
     None
 }
 
-/// The function with the unmarked instruction that has a number among those of all, counted from 0.
+/// The function that has unmarked instruction `number` of all of them, counted from 0, and which one of its own that is.
 fn find_func(funcs: &[Func], number: u32) -> Option<Sought>
     requires few { over_funcs one_unmarked funcs.now < 2 ^ 32 }
     requires short { length funcs.now < 2 ^ 32 }

@@ -25,6 +25,7 @@ static SLOTS: [Slot; 4] = [
 /// How many arguments the slots of parameters hold.
 const ARGUMENTS: u64 = 100;
 
+/// The slot of that name as an array of words of `width` bits, one for each argument, all 0 at first.
 fn array_slot(alloc: Global, name: &[u8], width: u8) -> Result<GlobalVar, NoMemory>
     ensures { IfOk result (λ g. g ≡ variable (spelling.Text name.now) (type.Array 100 (type.Int width)) initial.Zero) }
 {
@@ -38,6 +39,7 @@ fn array_slot(alloc: Global, name: &[u8], width: u8) -> Result<GlobalVar, NoMemo
     })
 }
 
+/// The slot of that name as one word of `width` bits, 0 at first.
 fn word_slot(alloc: Global, name: &[u8], width: u8) -> Result<GlobalVar, NoMemory>
     ensures { IfOk result (λ g. g ≡ variable (spelling.Text name.now) (type.Int width) (initial.Value (constant.Int 0))) }
 {
@@ -136,6 +138,7 @@ pub fn is_slot(text: &[u8]) -> bool
     Slot::spelled(text).is_some()
 }
 
+/// These slots as they are declared.
 fn globals_of(alloc: Global, slots: &[Slot]) -> Result<List<GlobalVar>, NoMemory>
     ensures { IfOk result (λ gs. gs ≡ map slot_global slots.now) }
 {

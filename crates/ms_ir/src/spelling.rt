@@ -12,6 +12,7 @@ pub fn is_reserved(text: &[u8]) -> bool
     &text[..text.len().min(6)] == b"__msan".as_slice()
 }
 
+/// Whether each byte of a text is a decimal digit.
 fn are_digits(text: &[u8]) -> bool
     ensures { result ≡ list_all is_ascii_digit text.now }
 {

@@ -1,4 +1,5 @@
-//! What is left of a module without what was inserted.
+//! What is left of a module without what was inserted: of an instrumented module, the module it was made of. The promise of the
+//! pass speaks of it; the program itself doesn't strip.
 ghost use Rattle.std.specs.Prelude.{◌≡◌, IfOk, filter, map, not};
 ghost use Rattle.ms_ir.specs.{Instructions.{is_unmarked, strip, strip_block, strip_func}, Names.{is_reserved}};
 
@@ -7,6 +8,7 @@ use crate::{Block, Decl, Func, GlobalVar, Inst, Module};
 use ms_bits::{Duplicate, List, NoMemory};
 use std::alloc::Global;
 
+/// Copies of the unmarked instructions.
 fn strip_insts(alloc: Global, insts: &[Inst]) -> Result<List<Inst>, NoMemory>
     ensures { IfOk result (λ left. left ≡ filter is_unmarked insts.now) }
 {
@@ -19,6 +21,7 @@ fn strip_insts(alloc: Global, insts: &[Inst]) -> Result<List<Inst>, NoMemory>
     Ok(List::from_vec(left))
 }
 
+/// A copy of a basic block without its marked instructions.
 fn strip_block(alloc: Global, block: &Block) -> Result<Block, NoMemory>
     ensures { IfOk result (λ left. left ≡ strip_block block.now) }
 {
@@ -27,6 +30,7 @@ fn strip_block(alloc: Global, block: &Block) -> Result<Block, NoMemory>
     Ok(Block { name, insts })
 }
 
+/// Copies of basic blocks without their marked instructions.
 fn strip_blocks(alloc: Global, blocks: &[Block]) -> Result<List<Block>, NoMemory>
     ensures { IfOk result (λ left. left ≡ map strip_block blocks.now) }
 {
@@ -37,6 +41,7 @@ fn strip_blocks(alloc: Global, blocks: &[Block]) -> Result<List<Block>, NoMemory
     Ok(List::from_vec(left))
 }
 
+/// A copy of a function without its marked instructions.
 fn strip_func(alloc: Global, func: &Func) -> Result<Func, NoMemory>
     ensures { IfOk result (λ left. left ≡ strip_func func.now) }
 {
@@ -50,6 +55,7 @@ fn strip_func(alloc: Global, func: &Func) -> Result<Func, NoMemory>
     })
 }
 
+/// Copies of functions without their marked instructions.
 fn strip_funcs(alloc: Global, funcs: &[Func]) -> Result<List<Func>, NoMemory>
     ensures { IfOk result (λ left. left ≡ map strip_func funcs.now) }
 {
@@ -60,6 +66,7 @@ fn strip_funcs(alloc: Global, funcs: &[Func]) -> Result<List<Func>, NoMemory>
     Ok(List::from_vec(left))
 }
 
+/// Copies of the globals whose names aren't reserved: not of the slots.
 fn strip_globals(alloc: Global, globals: &[GlobalVar]) -> Result<List<GlobalVar>, NoMemory>
     ensures { IfOk result (λ left. left ≡ filter (λ g. not (is_reserved g.name)) globals.now) }
 {
@@ -72,6 +79,7 @@ fn strip_globals(alloc: Global, globals: &[GlobalVar]) -> Result<List<GlobalVar>
     Ok(List::from_vec(left))
 }
 
+/// Copies of the declarations whose names aren't reserved: not of the runtime functions.
 fn strip_decls(alloc: Global, decls: &[Decl]) -> Result<List<Decl>, NoMemory>
     ensures { IfOk result (λ left. left ≡ filter (λ d. not (is_reserved d.name)) decls.now) }
 {

@@ -189,6 +189,7 @@ pub struct Func {
     pub name: Name,
     /// The type of the result; none is `void`.
     pub ret: Option<Ty>,
+    /// The type and the name of each parameter.
     pub params: List<(Ty, Name)>,
     /// The first is the entry block.
     pub blocks: List<Block>,
@@ -199,6 +200,7 @@ pub struct Decl {
     pub name: Name,
     /// The type of the result; none is `void`.
     pub ret: Option<Ty>,
+    /// The types of the parameters.
     pub params: List<Ty>,
 }
 

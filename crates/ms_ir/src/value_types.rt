@@ -1,4 +1,4 @@
-//! The types of operands and results (LLVM Language Reference, "Instruction Reference").
+//! The types of operands, by their places, and of results (LLVM Language Reference, "Instruction Reference").
 ghost use Rattle.std.specs.Prelude.{◌≡◌, [], ◌∷◌, map, option_map, slice_get};
 ghost use Rattle.ms_ir.specs.declared.syntax.Ty as type;
 ghost use Rattle.ms_ir.specs.{Instructions.{operands}, Equal.{type_eq}, ValueTypes.{type_of}, Written.{result_type}};
@@ -64,12 +64,14 @@ impl<'m> ValueType<'m> {
     }
 }
 
+/// The type of the only operand, where `k` is 0.
 fn of_one(a: ValueType<'_>, k: usize) -> Option<ValueType<'_>>
     ensures { option_map type_of result ≡ slice_get (type_of a.entry ∷ []) k }
 {
     if k == 0 { Some(a) } else { None }
 }
 
+/// The type of one of two operands with a place from 0.
 fn of_two<'a>(a: ValueType<'a>, b: ValueType<'a>, k: usize) -> Option<ValueType<'a>>
     ensures { option_map type_of result ≡ slice_get (type_of a.entry ∷ type_of b.entry ∷ []) k }
 {
@@ -80,14 +82,14 @@ fn of_two<'a>(a: ValueType<'a>, b: ValueType<'a>, k: usize) -> Option<ValueType<
     }
 }
 
-/// The type of one operand, as it is written.
+/// The type of the only operand, as it is written, where `k` is 0.
 fn of_written(ty: &Ty, k: usize) -> Option<ValueType<'_>>
     ensures { option_map type_of result ≡ slice_get (ty.now ∷ []) k }
 {
     of_one(ValueType::Written(ty), k)
 }
 
-/// The type that two operands have, as it is written.
+/// The type that each of two operands has, as it is written; `k` is the operand's place.
 fn of_both(ty: &Ty, k: usize) -> Option<ValueType<'_>>
     ensures { option_map type_of result ≡ slice_get (ty.now ∷ ty.now ∷ []) k }
 {
@@ -112,6 +114,7 @@ fn of_edge<'a>(ty: &'a Ty, edges: &[(Operand, Name)], k: usize) -> Option<ValueT
     }
 }
 
+/// The type that stands beside the operand with a place, as in the arguments of a call.
 fn of_typed(typed: &[(Ty, Operand)], k: usize) -> Option<ValueType<'_>>
     ensures { option_map type_of result ≡ slice_get (map (λ o. o.0) typed.now) k }
 {

@@ -14,6 +14,7 @@ use ms_bits::{WordFn, WordWidth};
 /// A name, with the function and the width for which it stands.
 pub struct WordRow(pub &'static [u8], pub WordFn, pub WordWidth);
 
+/// Each function of whole words at each of its widths.
 static WORDS: [WordRow; 67] = [
     WordRow(b"llvm.ctpop.i8", WordFn::Ctpop, WordWidth::I8),
     WordRow(b"llvm.ctpop.i16", WordFn::Ctpop, WordWidth::I16),

@@ -6,21 +6,26 @@ ghost use Rattle.ms_lex.specs.Grammar.{Reads, Stops, done, fails, run};
 /// Something that has a grammar: over a type of tokens, with a type of reasons to stop at one and a type
 /// of the values that it reads. A token of its own stands for the end of a text.
 pub trait HasGrammar {
+    /// What texts of the grammar are lists of.
     type Token;
 
+    /// Why reading stops at a token.
     type Reason;
 
+    /// What a text reads as.
     type Value;
 
     ghost use Rattle.ms_lex.specs.Grammar.{Grammar};
 
+    /// The token that stands for the end of a text.
     ghost end: { Self → Self.Token };
 
+    /// The grammar as data.
     ghost grammar: { Self → Grammar Self.Token Self.Reason Self.Value };
 }
 
-/// From a list of tokens every grammar either reads one value, or stops at one token for one reason, and
-/// never both. The function `run` of its definition finds out which.
+/// From a list of tokens every grammar either reads one value, or stops at one token for one reason, and never both. The function
+/// `run` of its definition finds out which. ts are the tokens, x and y those that are left; a and b are values, d and e reasons.
 #[tactic(auto, using(crate::proofs::Relations::one_reading, crate::proofs::Relations::not_both, crate::proofs::Relations::either))]
 pub fn law_reads_or_stops<G: HasGrammar>(grammar: &G)
     ensures one_reading { (ts x y : List G.Token) (a b : G.Value)

@@ -11,6 +11,7 @@ use crate::scan::quote_place;
 use crate::spellings::spelling;
 use std::alloc::Global;
 
+/// The number that a hexadecimal digit stands for; none for another byte.
 fn hexadecimal_digit(b: u8) -> Option<u8>
     ensures some { IfSome result (λ d. (d ≡ digit_value b) × (d < 16)) }
     ensures yes { IfSome result (λ d. is_digit b 16 ≡ true) }
@@ -72,6 +73,7 @@ fn unescape(alloc: Global, text: &[u8]) -> Result<Vec<u8>, NoMemory>
     Ok(bytes)
 }
 
+/// A spelling without its sigil.
 fn without_first(text: &[u8]) -> &[u8]
     ensures { result.now ≡ drop 1 text.now }
 {
@@ -81,6 +83,7 @@ fn without_first(text: &[u8]) -> &[u8]
     }
 }
 
+/// A label's spelling without its colon.
 fn without_last(text: &[u8]) -> &[u8]
     ensures { result.now ≡ take (length text.now - 1) text.now }
 {
@@ -100,6 +103,7 @@ fn name_part(kind: Kind, spelling: &[u8]) -> &[u8]
     }
 }
 
+/// The name that a run of name bytes or a string is.
 fn decode(alloc: Global, part: &[u8]) -> Result<Vec<u8>, NoMemory>
     ensures { IfOk result (λ name. name.items ≡ decoded part.now) }
 {

@@ -24,6 +24,7 @@ pub fn decimal(digits: &[u8]) -> Option<u64>
     Some(n)
 }
 
+/// The number that digits spell, with or without a minus sign; none below -2^63 and above 2^64 - 1.
 fn signed(spelling: &[u8]) -> Option<i128>
     ensures value { IfSome result (λ n. n ≡ signed_decimal spelling.now) }
     ensures none { IfNone result (IsOutside (signed_decimal spelling.now)) }

@@ -1,4 +1,5 @@
-//! The token at the front of a text.
+//! The token at the front of a text. Parts of it are told by how many bytes they have; none where the text doesn't begin with
+//! such a part.
 
 ghost use Rattle.std.specs.Prelude.{◌≡◌, ◌≢◌, ◌<◌, ◌≤◌, ◌+◌, ◌^◌, ◌∷◌, codes, if◌then◌else◌, drop, length, slice_index, IfSome, true, false};
 ghost use Rattle.std.specs.{Char.{is_ascii_digit}, List.{list_all, position_or_len, prefix_len}, Option.{option_map}};
@@ -7,6 +8,7 @@ ghost use Rattle.ms_lex.specs.Tokens as spec;
 use crate::kinds::Kind;
 use crate::spellings::bytes_after;
 
+/// Whether a byte stands between tokens: a space, a tab, a carriage return or a newline.
 pub fn is_blank(b: u8) -> bool
     ensures { result ≡ spec.is_blank b }
 {
@@ -44,6 +46,7 @@ pub fn is_name_byte(b: u8) -> bool
     NAME_BYTES[b as usize]
 }
 
+/// Whether a byte is a token by itself.
 fn is_punctuation(b: u8) -> bool
     ensures { result ≡ spec.is_one_of spec.punctuation b }
 {
@@ -65,6 +68,7 @@ pub fn line_length(text: &[u8]) -> usize
     n
 }
 
+/// How many name bytes stand at the front.
 fn run_length(text: &[u8]) -> usize
     ensures value { result ≡ prefix_len spec.is_name_byte text.now }
     ensures within { result ≤ length text.now }
@@ -96,6 +100,7 @@ fn byte_at(text: &[u8], place: usize) -> u8
     if place < text.len() { text[place] } else { 0 }
 }
 
+/// The name bytes at the front, at least one.
 #[tactic(auto, unfolding(crate::specs::Tokens::run))]
 fn run(text: &[u8]) -> Option<usize>
     ensures value { result ≡ spec.run text.now }
@@ -115,6 +120,7 @@ fn up_to_quote(text: &[u8]) -> Option<usize>
     if n < text.len() { Some(n + 1) } else { None }
 }
 
+/// The string at the front, with both quotes.
 #[tactic(auto, unfolding(crate::specs::Tokens::string, crate::specs::Tokens::followed_by, crate::specs::Tokens::one_of))]
 fn string(text: &[u8]) -> Option<usize>
     ensures value { result ≡ spec.string text.now }
@@ -134,7 +140,7 @@ fn string(text: &[u8]) -> Option<usize>
     }
 }
 
-/// What a name is written as.
+/// What a name is written as: a run of name bytes or a string.
 #[tactic(auto, unfolding(crate::specs::Tokens::name, crate::specs::Tokens::or_else))]
 fn name(text: &[u8]) -> Option<usize>
     ensures value { result ≡ spec.name text.now }
@@ -146,6 +152,7 @@ fn name(text: &[u8]) -> Option<usize>
     }
 }
 
+/// Whether a run is `c` alone, which begins the bytes of an array.
 fn is_c(run: &[u8]) -> bool
     ensures { result ≡ spec.is_c run.now }
 {
@@ -155,12 +162,14 @@ fn is_c(run: &[u8]) -> bool
     }
 }
 
+/// Whether each byte of a run is a decimal digit.
 fn all_digits(run: &[u8]) -> bool
     ensures { result ≡ list_all is_ascii_digit run.now }
 {
     run.iter().all(|b| b.is_ascii_digit())
 }
 
+/// Whether a run is one decimal digit or more.
 fn is_digits(run: &[u8]) -> bool
     ensures { result ≡ spec.is_digits run.now }
 {
@@ -170,6 +179,7 @@ fn is_digits(run: &[u8]) -> bool
     }
 }
 
+/// Whether a run is a decimal number, with or without a minus sign.
 fn is_number(run: &[u8]) -> bool
     ensures { result ≡ spec.is_number run.now }
 {
@@ -185,6 +195,7 @@ fn is_number(run: &[u8]) -> bool
     }
 }
 
+/// Whether a run begins as a word does.
 fn begins_word(run: &[u8]) -> bool
     ensures { result ≡ spec.begins_word run.now }
 {
@@ -262,7 +273,7 @@ fn string_token(text: &[u8], rest: &[u8]) -> Option<(Kind, usize)>
     }
 }
 
-/// A token of one byte and what stands after that.
+/// A token of this kind: one byte, as `@`, and the bytes after it that belong to it; none where nothing after it does.
 fn after_byte(kind: Kind, length: Option<usize>) -> Option<(Kind, usize)>
     requires { IfSome length (λ n. n < 2 ^ 62) }
     ensures { result ≡ spec.or_next kind (option_map (λ m. 1 + m) length) None }

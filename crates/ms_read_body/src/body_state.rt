@@ -1,4 +1,5 @@
-//! The state of a body that is read, and what a line adds to it.
+//! The state of a body that is read, and what a line adds to it. An operation comes with whether it has the mark of inserted
+//! instructions.
 
 ghost use Rattle.std.specs.Prelude.{◌≡◌, ◌<◌, ◌+◌, ◌^◌, ◌++◌, ◌∷◌, [], IfOk};
 ghost use Rattle.ms_text_grammar.specs.Bodies as spec;
@@ -10,7 +11,7 @@ use ms_text_grammar::BodySoFar;
 use std::alloc::Global;
 use std::mem;
 
-/// The name, or where there is none the number.
+/// The name, or where there is none the number as a name.
 fn name_or(name: Option<Name>, number: u32) -> Name
     ensures { result ≡ spec.name_or name number }
 {
@@ -20,7 +21,7 @@ fn name_or(name: Option<Name>, number: u32) -> Name
     }
 }
 
-/// How many numbers a result of this name takes.
+/// How many of a function's successive numbers a result of this name takes: one where it has no name of text.
 fn numbers_of(name: &Option<Name>) -> u32
     ensures value { result ≡ spec.numbers_of name.now }
     ensures few { result < 2 }
@@ -31,7 +32,7 @@ fn numbers_of(name: &Option<Name>) -> u32
     }
 }
 
-/// Adds an instruction to the open block, whose result has this name.
+/// Adds an instruction to the open block, with the name of its result, if it has one.
 fn add(
     alloc: Global,
     body: &mut BodySoFar,
@@ -84,7 +85,7 @@ pub fn add_effect(
     add(alloc, body, operation, None)
 }
 
-/// Ends the open block.
+/// Ends the open block: its instructions so far are a block of the body.
 fn end_block(alloc: Global, body: &mut BodySoFar) -> Result<(), NoMemory>
     ensures { IfOk result (λ _. body.new ≡ record body.old { blocks = body.old.blocks ++ record { name = spec.name_or body.old.name 0; insts = body.old.insts } ∷ []; name = None; insts = [] }) }
 {

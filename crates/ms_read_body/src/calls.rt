@@ -1,4 +1,5 @@
-//! What the readers of a body offer to the reader of modules: parts of a text, each by one call, and errors with their place.
+//! What the readers of a body offer to who reads a module part by part: each part of a text by one call from a token on, and
+//! errors with their place. Numbers of refusals are those of `ReadError`.
 
 ghost use Rattle.std.specs.Prelude.{◌≡◌, ◌≤◌, ◌<◌, ◌^◌, length};
 ghost use Rattle.ms_text_grammar.specs.Skipped.{attributes as attributes_piece};
@@ -17,7 +18,7 @@ use ms_read_values::{attributes, operand, type_to};
 use ms_text_grammar::{Cause, Symbol};
 use std::alloc::Global;
 
-/// Arrays and structs that may be open at once.
+/// How many arrays and structs may be open at once.
 const MAX_DEPTH: u8 = 32;
 
 /// The byte at which a token begins. At the end of the text that is its length.
@@ -43,7 +44,8 @@ fn cursor_at<'a>(alloc: Global, text: &'a [u8], tokens: &'a [Token], at: u32) ->
     Tokens::at(alloc, text, tokens, at as usize)
 }
 
-/// What a call returns where a reader gave this, and so many tokens are left after it.
+/// What a call returns where a reader gave this, and so many tokens are left after it: the value with the number of the next
+/// token, or the error with its place.
 fn answer<A: Drop>(
     text: &[u8],
     tokens: &[Token],
@@ -60,7 +62,7 @@ fn answer<A: Drop>(
     }
 }
 
-/// The answer of a call whose value says nothing.
+/// The answer of a call whose value says nothing: the next token's number alone.
 fn next_token(answer: Result<((), u32), ReadError>) -> Result<u32, ReadError>
     ensures { with_nothing result ≡ answer }
 {

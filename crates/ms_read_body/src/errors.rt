@@ -35,7 +35,7 @@ pub enum ReadError {
     NoMemory,
 }
 
-/// What a cause names.
+/// What a refusal for this cause names beside its number.
 fn what_of(cause: Cause) -> What
     ensures { result ≡ spec.what_of cause }
 {

@@ -1,4 +1,5 @@
-//! Reads functions and declarations (LLVM Language Reference, "Functions").
+//! Reads functions and declarations (LLVM Language Reference, "Functions"). `before` is how many instructions the text has in
+//! front of the function.
 
 ghost use Rattle.std.specs.Prelude.{◌≡◌, IfOk, map};
 ghost use Rattle.ms_text_grammar.specs.Functions as spec;
@@ -85,7 +86,7 @@ pub fn declaration(tokens: &mut Tokens<'_>, form: Form) -> Result<Decl, Cause>
     declared(tokens, form, ret, name)
 }
 
-/// The body of a function, in front of which the text has so many instructions.
+/// The body of a function after its parameters, in which no block has begun; `before` counts towards the limit on instructions.
 fn body_after(alloc: Global, parameters: &Parameters, before: u32) -> BodySoFar
     ensures { result ≡ spec.body_after parameters.now before }
 {
@@ -150,7 +151,7 @@ fn named(
     bodied(tokens, form, before, ret, name, params)
 }
 
-/// Reads a function after `define`, in front of which the text has so many instructions.
+/// Reads a function after `define`, in front of which the text has `before` instructions.
 ///
 /// # Errors
 ///

@@ -1,4 +1,5 @@
-//! Reads instructions after their first word (LLVM Language Reference, "Instruction Reference").
+//! Reads instructions after their first word (LLVM Language Reference, "Instruction Reference"), and adds them to the body.
+//! `name` is the name of the result, where one stands in front, and is taken by the instruction.
 
 ghost use Rattle.std.specs.Prelude.{◌≡◌, ◌<◌, ◌+◌, ◌^◌};
 ghost use Rattle.ms_text_grammar.specs.Insts.{alloca_rule as alloca_piece, gep_rule as gep_piece};
@@ -16,7 +17,7 @@ use ms_read_insts::{alloca_rule, call_rule, gep_rule, phi_rule, with_suffixes};
 use ms_read_values::{binary_op, cast_op};
 use ms_text_grammar::{BodySoFar, Cause, Symbol};
 
-/// An instruction with a result.
+/// Reads an instruction with a result that takes any suffix, and adds it to the body.
 #[tactic(auto, unfolding(ms_text_grammar::specs::Lines::value_line))]
 fn value_line(
     tokens: &mut Tokens<'_>,
@@ -33,7 +34,7 @@ fn value_line(
     Ok(add_value(tokens.alloc(), body, name, false, read)?)
 }
 
-/// An `alloca`.
+/// Reads an `alloca`, and adds it to the body.
 #[tactic(auto, unfolding(ms_text_grammar::specs::Lines::marked_line))]
 fn alloca_line(
     tokens: &mut Tokens<'_>,
@@ -49,7 +50,7 @@ fn alloca_line(
     Ok(add_value(tokens.alloc(), body, name, false, read)?)
 }
 
-/// A `getelementptr`.
+/// Reads a `getelementptr`, and adds it to the body.
 #[tactic(auto, unfolding(ms_text_grammar::specs::Lines::marked_line))]
 fn gep_line(
     tokens: &mut Tokens<'_>,
@@ -65,7 +66,7 @@ fn gep_line(
     Ok(add_value(tokens.alloc(), body, name, false, read)?)
 }
 
-/// A phi, after which another may stand.
+/// Reads a phi, after which another may stand, and adds it to the body.
 #[tactic(auto, unfolding(ms_text_grammar::specs::Lines::phi_line))]
 fn phi_line(
     tokens: &mut Tokens<'_>,
@@ -81,7 +82,7 @@ fn phi_line(
     Ok(add_value(tokens.alloc(), body, name, true, read)?)
 }
 
-/// A call, which knows whether it has a name.
+/// Reads a call, whose reader must know whether a name stands in front, and adds it to the body.
 #[tactic(auto, unfolding(ms_text_grammar::specs::Lines::call_line))]
 fn call_line(
     tokens: &mut Tokens<'_>,
@@ -99,7 +100,7 @@ fn call_line(
     Ok(add_call(tokens.alloc(), body, name, read)?)
 }
 
-/// An instruction without a result.
+/// Reads an instruction without a result that ends no block, and adds it to the body.
 #[tactic(auto, unfolding(ms_text_grammar::specs::Lines::effect_line))]
 fn effect_line(
     tokens: &mut Tokens<'_>,
@@ -114,7 +115,7 @@ fn effect_line(
     Ok(add_effect(tokens.alloc(), body, read)?)
 }
 
-/// A terminator.
+/// Reads a terminator, adds it to the body, and ends the block.
 #[tactic(auto, unfolding(ms_text_grammar::specs::Lines::end_line))]
 fn end_line(
     tokens: &mut Tokens<'_>,
@@ -155,7 +156,7 @@ fn end_operation(symbol: Symbol) -> Option<EffectOperation>
     }
 }
 
-/// An instruction after a word that is none of the others.
+/// Reads an instruction after a word that names none of those above: a phi, an `alloca`, a `store`, a `getelementptr` or a call.
 fn further_instruction(
     tokens: &mut Tokens<'_>,
     form: Form,
@@ -179,7 +180,7 @@ fn further_instruction(
     }
 }
 
-/// An instruction after a word that names no binary operation and no cast.
+/// Reads an instruction after a word that names no binary operation and no cast.
 #[tactic(auto, using(crate::proofs::Words::by_value, crate::proofs::Words::by_end, crate::proofs::Words::by_further))]
 fn instruction_by(
     tokens: &mut Tokens<'_>,

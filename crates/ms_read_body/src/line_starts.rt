@@ -1,4 +1,5 @@
-//! Which token begins a line of a body, and what refuses it there.
+//! Which token begins a line of a body, and what refuses it there. A verdict is whether a token begins one, or why it can't
+//! stand; each test passes on the one it is given, unless it refuses.
 
 ghost use Rattle.std.specs.Prelude.{◌≡◌, ◌⊎◌, Ok, true};
 ghost use Rattle.ms_text_grammar.specs.Bodies as spec;
@@ -34,7 +35,7 @@ fn counted(form: Form, body: &BodySoFar, verdict: Result<bool, Cause>) -> Result
     }
 }
 
-/// A name that is short enough.
+/// That a name is short enough, or its refusal.
 fn short(text: &[u8]) -> Result<bool, Cause>
     ensures { result ≡ spec.short text.now }
 {
@@ -97,7 +98,7 @@ pub fn begins_instruction(symbol: Symbol) -> bool
     }
 }
 
-/// A label of text, where no block is open.
+/// Whether a label of text begins a line, where no block is open.
 fn label_begins(alloc: Global, form: Form, token: &Lexeme<'_>) -> Result<bool, Cause>
     ensures { Judges (spec.unreserved form (name_in token.now) (spec.short (name_in token.now))) result }
 {
@@ -106,7 +107,7 @@ fn label_begins(alloc: Global, form: Form, token: &Lexeme<'_>) -> Result<bool, C
     unreserved(form, text, short(text))
 }
 
-/// A result's name of text.
+/// Whether a result's name of text begins a line.
 fn name_begins(
     alloc: Global,
     form: Form,
@@ -120,7 +121,7 @@ fn name_begins(
     unreserved(form, text, counted(form, body, short(text)))
 }
 
-/// A word begins an instruction, if there is room for one.
+/// Whether a word begins an instruction, if there is room for one.
 fn word_begins(form: Form, body: &BodySoFar, symbol: Symbol) -> Result<bool, Cause>
     ensures { result ≡ spec.word_begins form body.now symbol }
 {
@@ -131,7 +132,7 @@ fn word_begins(form: Form, body: &BodySoFar, symbol: Symbol) -> Result<bool, Cau
     }
 }
 
-/// Whether a line begins with this token, as far as numbers go.
+/// Whether a line begins with this token, where numbers are left for it.
 fn line_begins_by(
     alloc: Global,
     form: Form,

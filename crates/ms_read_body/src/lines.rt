@@ -19,7 +19,7 @@ use ms_text_grammar::{BodySoFar, Cause, Symbol};
 use std::alloc::Global;
 use std::mem;
 
-/// Whether a word may stand after a result's name.
+/// Whether a word may stand after a result's name: one of an instruction with a result; `phi` only where phis may come.
 fn gives_value(phis: bool, symbol: Symbol) -> bool
     ensures { result ≡ spec.gives_value phis symbol }
 {
@@ -30,7 +30,7 @@ fn gives_value(phis: bool, symbol: Symbol) -> bool
     }
 }
 
-/// The word after a result's name, by its token.
+/// The word after a result's name, by its token, or why it can't stand there.
 fn value_word_of(phis: bool, token: &Lexeme<'_>) -> Result<Symbol, Cause>
     ensures { Judges (spec.value_word_of phis token.now) result }
 {
@@ -149,7 +149,7 @@ pub fn line(tokens: &mut Tokens<'_>, form: Form, body: &mut BodySoFar) -> Result
     }
 }
 
-/// Line after line.
+/// Line after line of a body.
 #[derive(Clone, Copy)]
 struct EachLine {
     form: Form,

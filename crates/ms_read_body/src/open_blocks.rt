@@ -8,7 +8,7 @@ use ms_ir::Name;
 use ms_text_grammar::BodySoFar;
 use std::alloc::Global;
 
-/// Whether a block is open.
+/// Whether a block is open, by the name of a body's open block; also whether a result has a name.
 pub fn is_open(name: &Option<Name>) -> bool
     ensures { result ≡ spec.is_open name.now }
 {
@@ -18,7 +18,7 @@ pub fn is_open(name: &Option<Name>) -> bool
     }
 }
 
-/// Begins a block under this name, which took so many numbers.
+/// Begins a block under this name, which takes so many of the function's successive numbers: one, or none for a name of text.
 pub fn open_as(alloc: Global, body: &mut BodySoFar, name: Name, numbers: u32)
     requires { body.old.next + numbers < 2 ^ 32 }
     ensures { body.new ≡ spec.opened_as body.old name numbers }
@@ -43,7 +43,7 @@ pub fn open(alloc: Global, body: &mut BodySoFar)
     }
 }
 
-/// The number of the next value, in whichever block it stands.
+/// The number of the next value: a block that must begin first takes one.
 #[tactic(auto, unfolding(ms_text_grammar::specs::Bodies::opened))]
 pub fn next_value(body: &BodySoFar) -> u64
     ensures { result ≡ (spec.opened body.now).next }
@@ -54,7 +54,7 @@ pub fn next_value(body: &BodySoFar) -> u64
     }
 }
 
-/// Whether a phi may come.
+/// Whether a phi may come: in a new block, or after another phi.
 #[tactic(auto, unfolding(ms_text_grammar::specs::Bodies::opened))]
 pub fn may_phi(body: &BodySoFar) -> bool
     ensures { result ≡ (spec.opened body.now).phis }

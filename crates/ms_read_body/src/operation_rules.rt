@@ -1,4 +1,4 @@
-//! The operations whose suffixes a line reads.
+//! The operations after which any suffix may stand: each is read by its rule, and the line reads the suffixes.
 
 ghost use Rattle.std.specs.Prelude.{◌≡◌, IfOk};
 ghost use Rattle.ms_ir.specs.declared.syntax.Op.TheVariants as operation;

@@ -1,5 +1,5 @@
 //! Reads the parameters of functions, whose unnamed ones have successive numbers (LLVM Language Reference, "Functions" and
-//! "Identifiers").
+//! "Identifiers"). `dotted` says whether it is a declaration of `printf`, whose list may end in `...`.
 
 ghost use Rattle.std.specs.Prelude.{◌≡◌, ◌<◌, IfOk, OnOk};
 ghost use Rattle.ms_text_grammar.specs.Functions as spec;
@@ -14,10 +14,10 @@ use ms_read_values::{ScalarType, attributes, value_type_of};
 use ms_text_grammar::{Cause, Limit, Parameters, Symbol};
 use std::alloc::Global;
 
-/// Parameters of a function.
+/// How many parameters a function may have.
 const MAX_PARAMETERS: usize = 100;
 
-/// Room for one more parameter; no more of them are unnamed than there are.
+/// Whether there is room for one more parameter; no more of them are unnamed than there are.
 fn has_room(parameters: &Parameters) -> bool
     ensures { result ≡ spec.has_room parameters.now }
 {
@@ -37,7 +37,7 @@ fn parameter_type_of(parameters: &Parameters, token: &Lexeme<'_>) -> Result<Scal
     }
 }
 
-/// A parameter's number as a token, which is the next one.
+/// The name of a parameter whose number a token is: the number must be the next one.
 fn numbered_name(expected: u32, token: &Lexeme<'_>) -> Result<Name, Cause>
     requires { token.now.symbol ≡ Symbol.NumberedLocal }
     ensures { Judges (spec.numbered_name expected token.now) result }
@@ -78,7 +78,7 @@ fn parameter_name(tokens: &mut Tokens<'_>, form: Form, number: u32) -> Result<Na
     }
 }
 
-/// The next number after a parameter.
+/// The next number after a parameter of this name.
 fn next_after(name: &Name, next: u32) -> u32
     requires { next < 100 }
     ensures { result ≡ spec.next_after name.now next }
@@ -89,7 +89,7 @@ fn next_after(name: &Name, next: u32) -> u32
     }
 }
 
-/// Adds a parameter.
+/// Adds a parameter to the others.
 fn add(
     alloc: Global,
     parameters: &mut Parameters,

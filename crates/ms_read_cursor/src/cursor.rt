@@ -1,4 +1,4 @@
-//! A cursor over the tokens of a text.
+//! A cursor over the tokens of a text, from which every reader takes what comes next.
 
 ghost use Rattle.std.specs.Prelude.{◌≡◌, ◌≢◌, ◌≤◌, drop, length};
 ghost use Rattle.ms_lex.specs.{Grammar.{tail}, Tokens.{InOrder}};
@@ -18,7 +18,9 @@ use std::marker::Model;
 #[derive(Drop)]
 pub struct Tokens<'a> {
     alloc: Global,
+    /// The whole text.
     text: &'a [u8],
+    /// The tokens that are left.
     rest: &'a [Token],
     /// The symbol of the next token, so that it is found once.
     symbol: Symbol,
@@ -57,7 +59,7 @@ fn tokens_after(tokens: &[Token], place: usize) -> &[Token]
 }
 
 impl<'a> Tokens<'a> {
-    /// The tokens of a text from this place on, which is the number of those before it.
+    /// The tokens of a text from token `place` on; so many stand before it.
     #[tactic(auto, using(crate::proofs::Places::lie_in, crate::proofs::Places::after))]
     pub fn at(alloc: Global, text: &'a [u8], tokens: &'a [Token], place: usize) -> Tokens<'a>
         requires in_order { InOrder tokens.now (length text.now) }

@@ -18,6 +18,7 @@ use std::marker::Model;
 /// A token of a text with its symbol, or the end of the text. Contracts see the grammar's lexeme.
 #[derive(Drop)]
 pub struct Lexeme<'a> {
+    /// The whole text.
     text: &'a [u8],
     token: Token,
     symbol: Symbol,
@@ -159,6 +160,7 @@ impl<'a> Lexeme<'a> {
         ensures value { result ≡ spec.width_in self.now }
         ensures narrow { (1 ≤ result) × (result ≤ 64) }
     {
+        // Tells the prover what holds of every lexeme.
         let _ = &self.text;
         match decimal(self.after_sign()) {
             Some(width) => width as u8,
@@ -172,6 +174,7 @@ impl<'a> Lexeme<'a> {
         ensures value { IfSome result (λ n. n ≡ decimal_of (spec.name_in self.now)) }
         ensures none { IfNone result (2 ^ 64 ≤ decimal_of (spec.name_in self.now)) }
     {
+        // Tells the prover what holds of every lexeme.
         let _ = &self.text;
         decimal(self.digits())
     }

@@ -1,4 +1,8 @@
 //! A cursor over the tokens of a text, and the loops and lists of every reader, proved exact against the grammar's pieces.
+//!
+//! Contracts of readers say: `Gives (run piece before) answer after`: of the tokens before it a reader takes what the piece
+//! takes, and answers what the piece gives, or why it stops; `Leaves`: so does one that adds to a value; `Judges verdict answer`:
+//! it answers what is said of one token.
 #![tactic(auto)]
 
 mod cursor;

@@ -10,13 +10,16 @@ use std::mem;
 
 /// What reads one item, which is a piece of the grammar.
 pub trait Rule {
+    /// What the item reads as.
     type Value: Drop;
 
     ghost use Rattle.ms_text_grammar.specs.Steps.{Rule as Piece};
     ghost use Rattle.ms_read_cursor.specs.Reading.{Gives, run};
 
+    /// The piece of the grammar that it reads.
     ghost piece: { Self → Piece Self.Value };
 
+    /// Reads the item, or says why its next token can't stand.
     fn read(&self, tokens: &mut Tokens<'_>) -> Result<Self::Value, Cause>
         ensures { Gives (run (piece self.now) tokens.old) result tokens.new };
 }

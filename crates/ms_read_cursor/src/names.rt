@@ -1,4 +1,5 @@
-//! Names where they are written (LLVM Language Reference, "Identifiers"), and which are kept for what is inserted.
+//! Names where they are written (LLVM Language Reference, "Identifiers"), and which are kept for what is inserted. `form` says
+//! which texts are read, a program or one with inserted code.
 
 ghost use Rattle.std.specs.Prelude.{◌≡◌, ◌⊎◌};
 ghost use Rattle.ms_text_grammar.specs.Lexemes.{name_in};
@@ -14,7 +15,7 @@ use ms_ir::{Form, Name, RuntimeFn, is_slot};
 use ms_text_grammar::{Cause, Limit, Symbol};
 use std::alloc::Global;
 
-/// Whether a global can't have this name in the form.
+/// Whether a global or a function can't have this name in a text of the form.
 #[tactic(auto, unfolding(ms_text_grammar::specs::Names::reserved_global))]
 pub fn reserved_global(form: Form, text: &[u8]) -> bool
     ensures { result ≡ spec.reserved_global form text.now }
@@ -27,7 +28,7 @@ pub fn reserved_global(form: Form, text: &[u8]) -> bool
     }
 }
 
-/// Whether a local or a block can't have this name in the form.
+/// Whether a local or a block can't have this name in a text of the form.
 #[tactic(auto, unfolding(ms_text_grammar::specs::Names::reserved_local))]
 pub fn reserved_local(form: Form, text: &[u8]) -> bool
     ensures { result ≡ spec.reserved_local form text.now }
@@ -103,7 +104,7 @@ pub fn number_name(token: &Lexeme<'_>) -> Result<Name, Cause>
     }
 }
 
-/// A local as a token: a name or a number.
+/// The name of the local that a token is: a name or a number.
 pub fn local_by(alloc: Global, form: Form, token: &Lexeme<'_>) -> Result<Name, Cause>
     ensures { Judges (spec.local_by form token.now.symbol token.now) result }
 {
@@ -114,7 +115,7 @@ pub fn local_by(alloc: Global, form: Form, token: &Lexeme<'_>) -> Result<Name, C
     }
 }
 
-/// A global as a token.
+/// The name of the global that a token is.
 pub fn global_by(alloc: Global, form: Form, token: &Lexeme<'_>) -> Result<Name, Cause>
     ensures { Judges (spec.global_by form token.now.symbol token.now) result }
 {

@@ -1,4 +1,4 @@
-//! The constructs that are left out.
+//! The constructs of LLVM's language that are left out, by which a refusal says more than that a token can't stand.
 
 ghost use Rattle.std.specs.Prelude.{◌≡◌};
 ghost use Rattle.ms_text_grammar.specs.Steps as spec;

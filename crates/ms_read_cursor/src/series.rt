@@ -18,14 +18,17 @@ pub trait Series {
     ghost use Rattle.ms_text_grammar.specs.Steps.{Rule as Piece};
     ghost use Rattle.ms_read_cursor.specs.Reading.{Gives, run};
 
+    /// Whether a further item may come after what was read.
     ghost more: { Self → Self.State → Bool };
 
+    /// The piece of the grammar that goes on from what was read by one item.
     ghost item: { Self → Self.State → Piece Self.State };
 
     /// Whether a further item may come.
     fn has_more(&self, state: &Self::State) -> bool
         ensures { result ≡ more self.now state.now };
 
+    /// Reads one item, and gives the state after it.
     fn read(&self, state: Self::State, tokens: &mut Tokens<'_>) -> Result<Self::State, Cause>
         ensures { Gives (run (item self.now state) tokens.old) result tokens.new };
 }

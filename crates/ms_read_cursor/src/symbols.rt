@@ -20,7 +20,7 @@ pub fn same_symbol(a: Symbol, b: Symbol) -> bool
     a == b
 }
 
-/// The symbol beside a word in a table, or else another.
+/// The symbol beside a word in a table; `other` where the table hasn't the word.
 fn lookup(mut table: &[Keyword], word: &[u8], other: Symbol) -> Symbol
     ensures { result ≡ symbol_in (rows_of table.entry.now) other word.now }
 {
@@ -33,7 +33,7 @@ fn lookup(mut table: &[Keyword], word: &[u8], other: Symbol) -> Symbol
     other
 }
 
-/// What `i` and these digits are.
+/// What the word `i` with these digits is: an integer type, one of more than 64 bits, or, as `i0`, a plain word.
 fn int_symbol(digits: &[u8]) -> Symbol
     ensures { result ≡ spec.int_symbol (numbers.decimal digits.now) }
 {
@@ -67,6 +67,7 @@ fn type_or_plain(word: &[u8]) -> Symbol
     }
 }
 
+/// What a word is: a keyword, an integer type or a plain word.
 #[tactic(auto, using(crate::proofs::FirstBytes::by_first), unfolding(ms_text_grammar::specs::Lexemes::word_symbol))]
 fn word_symbol(word: &[u8]) -> Symbol
     ensures { result ≡ spec.word_symbol word.now }
@@ -77,6 +78,7 @@ fn word_symbol(word: &[u8]) -> Symbol
     }
 }
 
+/// Whether a label is a number or a name.
 fn label_symbol(spelling: &[u8]) -> Symbol
     ensures { result ≡ spec.label_symbol spelling.now }
 {
@@ -87,6 +89,7 @@ fn label_symbol(spelling: &[u8]) -> Symbol
     }
 }
 
+/// Whether a local is a number or a name.
 fn local_symbol(spelling: &[u8]) -> Symbol
     ensures { result ≡ spec.local_symbol spelling.now }
 {
@@ -102,7 +105,7 @@ fn local_symbol(spelling: &[u8]) -> Symbol
     }
 }
 
-/// Whether a digit, or a minus sign and a digit, stands in front.
+/// Whether a spelling begins with a digit, or with a minus sign and a digit.
 fn begins_number(spelling: &[u8]) -> bool
     ensures { result ≡ spec.begins_number spelling.now }
 {
@@ -119,6 +122,7 @@ fn begins_number(spelling: &[u8]) -> bool
     }
 }
 
+/// Whether a spelling begins with `$`, as the name of a comdat.
 fn begins_dollar(spelling: &[u8]) -> bool
     ensures { result ≡ bytes_eq (take 1 spelling.now) (codes "$") }
 {
@@ -128,6 +132,7 @@ fn begins_dollar(spelling: &[u8]) -> bool
     }
 }
 
+/// What a run of name bytes is that is neither a word nor a number.
 fn other_symbol(spelling: &[u8]) -> Symbol
     ensures { result ≡ spec.other_symbol spelling.now }
 {
@@ -142,6 +147,7 @@ fn other_symbol(spelling: &[u8]) -> Symbol
     }
 }
 
+/// Whether a name of metadata is the mark.
 fn meta_symbol(spelling: &[u8]) -> Symbol
     ensures { result ≡ spec.meta_symbol spelling.now }
 {
@@ -152,6 +158,7 @@ fn meta_symbol(spelling: &[u8]) -> Symbol
     }
 }
 
+/// Whether a group is one of attributes or begins a debug record.
 fn group_symbol(spelling: &[u8]) -> Symbol
     ensures { result ≡ spec.group_symbol spelling.now }
 {
@@ -162,6 +169,7 @@ fn group_symbol(spelling: &[u8]) -> Symbol
     }
 }
 
+/// Which sign of punctuation a token is.
 fn punctuation_symbol(spelling: &[u8]) -> Symbol
     ensures { result ≡ symbol_in spec.punctuation_symbols Symbol.Other spelling.now }
 {

@@ -16,8 +16,10 @@ pub trait Turn {
     ghost use Rattle.ms_text_grammar.specs.{Lexemes.{Lexeme as Seen}, Steps.{Rule as Piece, Verdict}};
     ghost use Rattle.ms_read_cursor.specs.Reading.{Gives, Judges, run};
 
+    /// Whether a token begins a turn after what was read, or why it can't stand.
     ghost begins: { Self → Self.State → Seen → Verdict Bool };
 
+    /// The piece of the grammar that goes on from what was read by the turn that a token begins.
     ghost body: { Self → Self.State → Seen → Piece Self.State };
 
     /// Whether the next token begins a turn, or why it can't stand.
@@ -30,7 +32,7 @@ pub trait Turn {
         ensures { Gives (run (body self.now state (front tokens.old)) (tail tokens.old)) result tokens.new };
 }
 
-/// Turn after turn, as long as the next token begins one.
+/// Reads turn after turn, from this state on, as long as the next token begins one.
 #[tactic(auto, using(ms_lex::proofs::Loops::loop_goes, ms_lex::proofs::Loops::loop_ends, ms_lex::proofs::Loops::loop_stops, ms_lex::proofs::Loops::loop_moves, ms_lex::proofs::Loops::loop_all))]
 pub fn repeat<T: Turn>(
     tokens: &mut Tokens<'_>,

@@ -1,4 +1,4 @@
-//! The words that mean something by themselves, by their first letters.
+//! The words that mean something by themselves, each with the symbol that it is to the grammar: a table for each first letter.
 
 ghost use Rattle.std.specs.Prelude.{◌≡◌};
 ghost use Rattle.ms_text_grammar.specs.Lexemes.{keywords};
@@ -202,7 +202,7 @@ const Z_WORDS: [(&[u8], Symbol); 2] = [
     (b"zext", Symbol::Zext),
 ];
 
-/// Punctuation.
+/// The signs of punctuation, each with its symbol.
 pub const PUNCTUATION: [(&[u8], Symbol); 13] = [
     (b"(", Symbol::OpenParen),
     (b")", Symbol::CloseParen),

@@ -1,4 +1,4 @@
-//! What stands after the arguments of a call: attributes, perhaps a debug record, and what is attached.
+//! Reads what stands after the arguments of a call: attributes, perhaps a debug record, and what is attached.
 
 ghost use Rattle.std.specs.Prelude.{◌≡◌};
 ghost use Rattle.ms_text_grammar.specs.Insts as spec;
@@ -9,7 +9,7 @@ use ms_read_cursor::{Tokens, Turn, repeat};
 use ms_read_values::{attribute_rest, balanced, is_attribute, suffixes_from};
 use ms_text_grammar::{Cause, Outside, Symbol};
 
-/// Reads on after a debug group. It is a record where `(` is after it, and else an attribute.
+/// Reads on after a debug group. It is a record where `(` is after it, and else an attribute. Gives whether it is a record.
 #[tactic(auto, unfolding(ms_text_grammar::specs::Insts::debug_rest))]
 fn debug_rest(tokens: &mut Tokens<'_>, form: Form) -> Result<bool, Cause>
     ensures { Gives (run (spec.debug_rest form) tokens.old) result tokens.new }
@@ -22,7 +22,7 @@ fn debug_rest(tokens: &mut Tokens<'_>, form: Form) -> Result<bool, Cause>
     Ok(true)
 }
 
-/// Reads on after the first token of an attribute or a record, and finds whether it is a record.
+/// Reads on after the first token of an attribute or a record, which is this symbol. Gives whether it is a record.
 fn call_attribute(tokens: &mut Tokens<'_>, form: Form, symbol: Symbol) -> Result<bool, Cause>
     ensures { Gives (run (spec.call_attribute form symbol) tokens.old) result tokens.new }
 {

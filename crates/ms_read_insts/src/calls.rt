@@ -1,4 +1,6 @@
-//! Reads calls (LLVM Language Reference, "'call' Instruction").
+//! Reads calls (LLVM Language Reference, "'call' Instruction"). `named` says whether the result has a name, `dotted` whether
+//! `(ptr, ...)` stood in front of the callee, `counted` whether there may be at most 100 arguments, as of `printf`; `found` are
+//! the arguments so far.
 
 ghost use Rattle.std.specs.{Prelude.{◌≡◌, IfOk, codes, length}, Str.{bytes_eq}};
 ghost use Rattle.ms_ir.specs.declared.syntax.Op.TheVariants as operation;
@@ -18,7 +20,7 @@ use ms_read_values::{
 use ms_text_grammar::{Cause, Limit, Outside, Symbol};
 use std::alloc::Global;
 
-/// How many arguments a call of `printf` may have.
+/// How many arguments a call of `printf` may have; those of other functions are as many as their parameters.
 const MAX_PARAMETERS: usize = 100;
 
 /// Takes the result's type of a call. A call whose result has a name isn't `void`.
@@ -43,7 +45,7 @@ fn is_i32(ty: Option<ScalarType>) -> bool
     }
 }
 
-/// Takes `(ptr, ...)`.
+/// Takes `(ptr, ...)`, the type of `printf`.
 #[tactic(auto, unfolding(ms_text_grammar::specs::Insts::variadic_type))]
 fn variadic_type(tokens: &mut Tokens<'_>) -> Result<bool, Cause>
     ensures { Gives (run spec.variadic_type tokens.old) result tokens.new }
@@ -56,7 +58,7 @@ fn variadic_type(tokens: &mut Tokens<'_>) -> Result<bool, Cause>
     Ok(true)
 }
 
-/// Takes the type of a callee, where it is written; that of `printf` alone may be.
+/// Takes the type of a callee, where it is written; that of `printf` alone may be. Gives whether it was.
 #[tactic(auto, unfolding(ms_text_grammar::specs::Insts::callee_type))]
 fn callee_type(tokens: &mut Tokens<'_>, ty: Option<ScalarType>) -> Result<bool, Cause>
     ensures { Gives (run (spec.callee_type ty) tokens.old) result tokens.new }
@@ -129,7 +131,7 @@ pub fn names_printf(name: &Name) -> bool
     }
 }
 
-/// The type of an argument in front of which so many stand. Only where they are counted is their number limited here.
+/// The type of an argument in front of which `before` others stand. Only where they are counted is their number limited here.
 fn argument_type_of(counted: bool, before: usize, token: &Lexeme<'_>) -> Result<ScalarType, Cause>
     ensures { Judges (spec.argument_type_of counted before token.now) result }
 {
@@ -183,6 +185,7 @@ fn argument(
     argument_rest(tokens, form, ty, found)
 }
 
+/// Argument after argument.
 #[derive(Clone, Copy)]
 struct ArgumentSeries {
     form: Form,
@@ -236,7 +239,7 @@ fn call_word(tokens: &mut Tokens<'_>, first: Symbol) -> Result<(), Cause>
     }
 }
 
-/// A call.
+/// A call as an operation.
 fn call_of(
     alloc: Global,
     ret: Option<ScalarType>,
@@ -255,7 +258,7 @@ fn call_of(
     )
 }
 
-/// Reads what stands after the arguments of a call.
+/// Reads what stands after the arguments of a call, and gives the call and whether it has the mark.
 fn call_marked(
     tokens: &mut Tokens<'_>,
     form: Form,

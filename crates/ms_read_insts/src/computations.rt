@@ -16,7 +16,7 @@ use ms_read_values::{ScalarType, int_type, value, value_type, value_type_of};
 use ms_text_grammar::{Cause, Symbol};
 use std::alloc::Global;
 
-/// The part of a two-operand operation that stands before its type.
+/// The part of a two-operand operation that stands before its type: a binary operation or an `icmp`.
 #[derive(Clone, Copy)]
 enum OnTwo {
     Binary(BinOp, Flags),
@@ -150,7 +150,7 @@ pub fn compare_rule(tokens: &mut Tokens<'_>, form: Form) -> Result<Boxed<Op>, Ca
     two_operands(tokens, form, OnTwo::Compare(pred, flags), ty)
 }
 
-/// A cast.
+/// A cast as an operation.
 fn cast_of(
     alloc: Global,
     op: CastOp,
@@ -253,11 +253,12 @@ fn same_type_of(ty: ScalarType, token: &Lexeme<'_>) -> Result<(), Cause>
     if spells(ty, token) {
         return Ok(());
     }
+    // What is no type of a value at all is refused for what it is.
     let _other = value_type_of(token)?;
     Err(token.refusal())
 }
 
-/// Takes this type of a value, and no other.
+/// Takes this type of a value, and no other: the second type of a `select`.
 #[tactic(auto, unfolding(ms_text_grammar::specs::Insts::same_type))]
 fn same_type(tokens: &mut Tokens<'_>, ty: ScalarType) -> Result<(), Cause>
     ensures { Gives (run (spec.same_type ty) tokens.old) result tokens.new }
@@ -267,7 +268,7 @@ fn same_type(tokens: &mut Tokens<'_>, ty: ScalarType) -> Result<(), Cause>
     Ok(())
 }
 
-/// A `select`.
+/// A `select` as an operation.
 fn select_of(
     alloc: Global,
     cond: Boxed<Operand>,

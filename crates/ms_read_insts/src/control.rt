@@ -18,7 +18,7 @@ use std::alloc::Global;
 /// The cases of a `switch`: the words and the labels.
 type Cases = List<(u64, Name)>;
 
-/// Reads the block that control comes from, and `]`.
+/// Reads the block that control comes from, and `]`, after the value of an edge.
 fn edge_end(
     tokens: &mut Tokens<'_>,
     form: Form,
@@ -45,7 +45,7 @@ fn edge(
     edge_end(tokens, form, operand)
 }
 
-/// The state after one edge more.
+/// The edges with one more after them.
 fn with_edge(
     found: List<(Operand, Name)>,
     edge: (Boxed<Operand>, Name),
@@ -80,6 +80,7 @@ fn edge_turn(
     }
 }
 
+/// Edge after edge of a phi of this type.
 #[derive(Clone, Copy)]
 struct EdgeTurn {
     form: Form,
@@ -106,14 +107,14 @@ impl Turn for EdgeTurn {
     }
 }
 
-/// The state after the first edge.
+/// The edges of a phi after its first one.
 fn first_edges(alloc: Global, first: (Boxed<Operand>, Name)) -> Result<PhiEdges, NoMemory>
     ensures { IfOk result (λ edges. edges ≡ record { found = first ∷ []; ended = false }) }
 {
     with_edge(List::from_vec(Vec::new(alloc)), first)
 }
 
-/// A phi.
+/// A phi as an operation.
 fn phi_of(
     alloc: Global,
     ty: ScalarType,
@@ -163,7 +164,7 @@ fn target(tokens: &mut Tokens<'_>, form: Form) -> Result<Name, Cause>
     local(tokens, form)
 }
 
-/// A `br` on a condition.
+/// A `br` on a condition as an operation.
 fn branch_of(
     alloc: Global,
     cond: Boxed<Operand>,
@@ -235,7 +236,7 @@ pub fn branch_rule(tokens: &mut Tokens<'_>, form: Form) -> Result<Boxed<Op>, Cau
     Ok(Boxed::new(tokens.alloc(), Op::Br { to })?)
 }
 
-/// Reads `, label %to` after the number of a case.
+/// Reads `, label %to` after the number `n` of a case, and adds the case to those in front.
 fn case_end(tokens: &mut Tokens<'_>, form: Form, n: u64, found: Cases) -> Result<Cases, Cause>
     ensures { Gives (run (rest.case_end form n found) tokens.old) result tokens.new }
 {
@@ -254,7 +255,7 @@ fn case_rest(tokens: &mut Tokens<'_>, form: Form, width: u8, found: Cases) -> Re
     case_end(tokens, form, n, found)
 }
 
-/// The cases of a `switch` of this width.
+/// Case after case of a `switch` on a value of this width.
 #[derive(Drop)]
 struct CaseTurn {
     form: Form,
@@ -281,7 +282,7 @@ impl Turn for CaseTurn {
     }
 }
 
-/// A `switch` on a value of this width.
+/// A `switch` on a value of this width as an operation.
 fn switch_of(
     alloc: Global,
     width: u8,
@@ -362,7 +363,7 @@ pub fn switch_rule(tokens: &mut Tokens<'_>, form: Form) -> Result<Boxed<Op>, Cau
     switch_rest(tokens, form, width, value)
 }
 
-/// A `ret` of a value.
+/// A `ret` of a value as an operation.
 fn ret_of(alloc: Global, ty: ScalarType, value: Boxed<Operand>) -> Result<Boxed<Op>, NoMemory>
     ensures { IfOk result (λ o. o ≡ operation.Ret (Some (ty, value))) }
 {

@@ -18,7 +18,7 @@ pub enum Carrier {
     Compare,
 }
 
-/// Whether a flag was read.
+/// Whether a flag was read already.
 fn is_set(flags: Flags, symbol: Symbol) -> bool
     ensures { result ≡ spec.is_set flags symbol }
 {
@@ -33,7 +33,7 @@ fn is_set(flags: Flags, symbol: Symbol) -> bool
     }
 }
 
-/// One flag more.
+/// The flags with the one that this word names.
 fn with_flag(mut flags: Flags, symbol: Symbol) -> Flags
     ensures { result ≡ spec.with_flag flags symbol }
 {
@@ -49,13 +49,14 @@ fn with_flag(mut flags: Flags, symbol: Symbol) -> Flags
     flags
 }
 
-/// Whether a word is a flag of neither wrapping.
+/// Whether a word is `nuw` or `nsw`.
 fn is_wrap_flag(symbol: Symbol) -> bool
     ensures { result ≡ spec.is_wrap_flag symbol }
 {
     matches!(symbol, Symbol::Nuw | Symbol::Nsw)
 }
 
+/// Whether a binary operation may carry the flag of this word.
 #[tactic(auto, unfolding(ms_text_grammar::specs::Insts::binary_carries))]
 fn binary_carries(op: BinOp, symbol: Symbol) -> bool
     ensures { result ≡ spec.binary_carries op symbol }
@@ -68,6 +69,7 @@ fn binary_carries(op: BinOp, symbol: Symbol) -> bool
     }
 }
 
+/// Whether a cast may carry the flag of this word.
 #[tactic(auto, unfolding(ms_text_grammar::specs::Insts::cast_carries))]
 fn cast_carries(op: CastOp, symbol: Symbol) -> bool
     ensures { result ≡ spec.cast_carries op symbol }
@@ -92,6 +94,7 @@ impl Carrier {
     }
 }
 
+/// Flag after flag, each once.
 #[derive(Clone, Copy)]
 struct FlagTurn {
     carrier: Carrier,

@@ -1,4 +1,6 @@
-//! Readers of the instructions and the terminators of a body, proved exact against the grammar's pieces.
+//! Readers of the instructions and the terminators of a body, proved exact against the grammar's pieces. A rule reads what stands
+//! after an instruction's first word; one that gives a `bool` besides also reads what is attached, and says whether that has the
+//! mark of inserted instructions.
 #![tactic(auto)]
 
 mod call_ends;

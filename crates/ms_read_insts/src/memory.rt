@@ -21,7 +21,7 @@ use std::alloc::Global;
 /// How many arrays and structs may be open at once.
 const MAX_DEPTH: u8 = 32;
 
-/// Takes `ptr` and an address after a comma.
+/// Takes `, ptr` and an address.
 #[tactic(auto, unfolding(ms_text_grammar::specs::Insts::address))]
 fn address(tokens: &mut Tokens<'_>, form: Form) -> Result<Boxed<Operand>, Cause>
     ensures { Gives (run (spec.address form) tokens.old) result tokens.new }
@@ -49,7 +49,7 @@ pub fn load_rule(tokens: &mut Tokens<'_>, form: Form) -> Result<Boxed<Op>, Cause
     Ok(Boxed::new(tokens.alloc(), read)?)
 }
 
-/// A `store`.
+/// A `store` as an operation.
 fn store_of(
     alloc: Global,
     ty: ScalarType,
@@ -83,7 +83,7 @@ pub fn store_rule(tokens: &mut Tokens<'_>, form: Form) -> Result<Boxed<Op>, Caus
     Ok(store_of(tokens.alloc(), ty, value, addr)?)
 }
 
-/// Before the first index.
+/// The indices before the first one.
 fn no_indices(alloc: Global) -> Indices
     ensures { result ≡ spec.no_indices }
 {
@@ -93,7 +93,7 @@ fn no_indices(alloc: Global) -> Indices
     }
 }
 
-/// The width of an index in front of which so many stand.
+/// Takes the type of an index in front of which `before` others stand, by its width.
 fn index_width(tokens: &mut Tokens<'_>, before: usize) -> Result<u8, Cause>
     ensures { Gives (run (one (values.index_type_of before)) tokens.old) result tokens.new }
 {
@@ -141,6 +141,7 @@ fn index_turn(
     }
 }
 
+/// Index after index of a `getelementptr`.
 #[derive(Clone, Copy)]
 struct IndexTurn {
     form: Form,
@@ -166,7 +167,7 @@ impl Turn for IndexTurn {
     }
 }
 
-/// A `getelementptr`.
+/// A `getelementptr` as an operation.
 fn step_of(
     alloc: Global,
     ty: Boxed<Ty>,
@@ -185,7 +186,7 @@ fn step_of(
     )
 }
 
-/// Reads what is attached after the indices.
+/// Reads what is attached after the indices, and gives the `getelementptr` and whether it has the mark.
 fn step_end(
     tokens: &mut Tokens<'_>,
     form: Form,
@@ -229,6 +230,7 @@ pub fn gep_rule(tokens: &mut Tokens<'_>, form: Form) -> Result<(Boxed<Op>, bool)
     step_rest(tokens, form, ty, base)
 }
 
+/// The count of an `alloca`, read as its one index.
 #[derive(Clone, Copy)]
 struct CountTurn {
     form: Form,

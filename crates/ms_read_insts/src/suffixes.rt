@@ -1,4 +1,4 @@
-//! Reads what is attached to an operation.
+//! Reads what is attached to an operation, after its parts.
 
 ghost use Rattle.std.specs.Prelude.{◌≡◌, false};
 ghost use Rattle.ms_lex.specs.Grammar.{give, seq};
@@ -12,8 +12,8 @@ use ms_read_cursor::{Rule, Tokens};
 use ms_read_values::suffixes_from;
 use ms_text_grammar::Cause;
 
-/// Reads what is attached to what was read before it. It serves every type, so that nothing is said of how an operation is
-/// let go.
+/// Reads what is attached to what was read before it, and gives that and whether it has the mark. It serves every type, so that
+/// nothing is said of how an operation is let go.
 fn attached_to<T: Drop>(tokens: &mut Tokens<'_>, form: Form, read: T) -> Result<(T, bool), Cause>
     ensures { Gives (run (seq (skipped.suffixes_from form false) (λ marked. give (read, marked))) tokens.old) result tokens.new }
 {

@@ -15,7 +15,7 @@ use ms_read_cursor::Tokens;
 use ms_text_grammar::Cause;
 use std::alloc::Global;
 
-/// The error for a cause at the first of so many tokens that are left of a text.
+/// The error for a cause at the first of the `left` tokens that are left of a text.
 fn error_for(text: &[u8], tokens: &[Token], cause: Cause, left: usize) -> ReadError
     requires short { length text.now < 2 ^ 32 }
     requires few { length tokens.now < 2 ^ 32 }
@@ -25,7 +25,7 @@ fn error_for(text: &[u8], tokens: &[Token], cause: Cause, left: usize) -> ReadEr
     error_at(cause, token as u32, place_of(text, tokens, token))
 }
 
-/// Reads the tokens of a text.
+/// Reads the tokens of a text, which has these, as a module.
 #[tactic(auto, using(crate::proofs::Told::told_reads, crate::proofs::Told::told_stops, crate::proofs::Told::few_tokens, crate::proofs::Told::short_text))]
 fn answer(alloc: Global, text: &[u8], tokens: &[Token], form: Form) -> Result<Module, ReadError>
     requires has { HasTokens form text.now tokens.now }

@@ -1,4 +1,4 @@
-//! Which token begins an entity, and what refuses it there.
+//! Which token begins an entity of a module, and what refuses it there.
 
 ghost use Rattle.ms_text_grammar.specs.Modules as spec;
 ghost use Rattle.ms_read_cursor.specs.Reading.{Judges, front};
@@ -7,10 +7,10 @@ use ms_ir::{Form, Module};
 use ms_read_cursor::{Tokens, local_by, name_fits, reserved_global};
 use ms_text_grammar::{Cause, Limit, ModuleSoFar, Symbol};
 
-/// Functions and declarations of a module together.
+/// How many functions and declarations a module may have together.
 const MAX_FUNCTIONS: usize = 16384;
 
-/// Globals of a module.
+/// How many globals a module may have.
 const MAX_GLOBALS: usize = 16384;
 
 /// Whether there is room for one more function or declaration after this module.

@@ -18,7 +18,7 @@ use std::alloc::Global;
 /// How many arrays and structs may be open at once.
 const MAX_DEPTH: u8 = 32;
 
-/// Words of linkage.
+/// Word of linkage after word of linkage, which are read over.
 #[derive(Clone, Copy)]
 struct EachLinkageWord {}
 
@@ -42,7 +42,7 @@ impl Turn for EachLinkageWord {
     }
 }
 
-/// Whether a global is constant, by its token.
+/// Whether a global is constant, by the token `global` or `constant`.
 fn global_kind_of(token: &Lexeme<'_>) -> Result<bool, Cause>
     ensures { Judges (spec.global_kind_of token.now) result }
 {

@@ -22,7 +22,7 @@ pub fn source_filename(tokens: &mut Tokens<'_>) -> Result<(), Cause>
     tokens.word(Symbol::Str)
 }
 
-/// That a token is one of two.
+/// That a token is one of two symbols, or why it can't stand.
 pub fn either(token: &Lexeme<'_>, one: Symbol, other: Symbol) -> Result<(), Cause>
     ensures { Judges (if is one token.now || is other token.now then Ok tt else Err (refusal token.now)) result }
 {

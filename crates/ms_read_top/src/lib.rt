@@ -1,4 +1,4 @@
-//! The reader of whole texts, exact against the grammar of modules.
+//! The reader of whole texts, exact against the grammar of modules: entity after entity, each by the token that begins it.
 #![tactic(auto)]
 
 mod answers;

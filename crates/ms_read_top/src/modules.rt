@@ -15,7 +15,7 @@ use ms_read_cursor::{Lexeme, Tokens};
 use ms_text_grammar::{Cause, ModuleSoFar, Symbol};
 use std::alloc::Global;
 
-/// Before the first entity.
+/// The parts of a module before its first entity.
 pub fn no_parts(alloc: Global) -> ModuleSoFar
     ensures { result ≡ spec.no_parts }
 {
@@ -43,7 +43,7 @@ fn entities(tokens: &mut Tokens<'_>, form: Form, parts: &mut ModuleSoFar) -> Res
     Ok(())
 }
 
-/// The end of the text, and nothing else.
+/// That a token is the end of the text, or why it can't stand.
 fn end_of(token: &Lexeme<'_>) -> Result<(), Cause>
     ensures { Judges (spec.end_of token.now) result }
 {

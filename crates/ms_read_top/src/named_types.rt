@@ -10,7 +10,7 @@ use ms_read_cursor::Tokens;
 use ms_read_values::struct_type;
 use ms_text_grammar::{Cause, Symbol};
 
-/// Reads the struct that a type of this name is, after `type`.
+/// Reads the struct that a named type stands for, after `type`.
 fn named_struct(tokens: &mut Tokens<'_>, form: Form, name: Name) -> Result<Boxed<(Name, Ty)>, Cause>
     ensures { Gives (run (after.named_struct form name) tokens.old) result tokens.new }
 {

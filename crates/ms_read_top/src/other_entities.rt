@@ -19,7 +19,7 @@ use ms_read_cursor::{Lexeme, Tokens, local_by};
 use ms_text_grammar::{Cause, ModuleSoFar, Symbol};
 use std::alloc::Global;
 
-/// The name of a type that a token is, which may stand. The one error is running out of memory.
+/// The name of a type that a token is, which was judged before. The one error is running out of memory.
 #[tactic(auto, using(crate::proofs::Named::named, crate::proofs::Named::not_refused))]
 fn type_name(alloc: Global, form: Form, token: &Lexeme<'_>) -> Result<Name, Cause>
     requires { judge_map (λ n. true) (names.local_by form token.now.symbol token.now) ≡ Ok true }

@@ -1,4 +1,4 @@
-//! Reads attributes (LLVM Language Reference, "Parameter Attributes" and "Function Attributes").
+//! Reads over attributes (LLVM Language Reference, "Parameter Attributes" and "Function Attributes"): nothing is kept of them.
 
 ghost use Rattle.ms_text_grammar.specs.Functions as functions;
 ghost use Rattle.ms_text_grammar.specs.Skipped as spec;
@@ -66,6 +66,7 @@ fn tail_rest(tokens: &mut Tokens<'_>, form: Form, symbol: Symbol) -> Result<(), 
 /// What may stand among attributes.
 #[derive(Clone, Copy)]
 enum Among {
+    /// Attributes alone.
     Nothing,
     /// Words of linkage, in front of a function's type.
     Linkage,

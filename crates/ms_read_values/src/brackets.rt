@@ -1,4 +1,4 @@
-//! Reads over tokens in which brackets match.
+//! Reads over tokens in which brackets match: arguments of attributes, metadata, debug records.
 
 ghost use Rattle.ms_text_grammar.specs.Skipped as spec;
 ghost use Rattle.ms_read_cursor.specs.Reading.{Gives, Judges, run};
@@ -9,7 +9,7 @@ use ms_read_cursor::{Lexeme, Tokens, Turn, global_name, local_name, repeat};
 use ms_text_grammar::{Cause, Symbol};
 use std::alloc::Global;
 
-/// A name is judged also where it is read over.
+/// That a token may be read over: every one may, but a name is judged also there.
 fn may_skip(alloc: Global, form: Form, token: &Lexeme<'_>) -> Result<bool, Cause>
     ensures { Judges (spec.may_skip form token.now.symbol token.now) result }
 {

@@ -1,4 +1,5 @@
-//! Reads initialisers (LLVM Language Reference, "Complex Constants").
+//! Reads initialisers of globals (LLVM Language Reference, "Complex Constants"). `depth` is how many arrays and structs may still
+//! open.
 
 ghost use Rattle.std.specs.Prelude.{◌≡◌, false};
 ghost use Rattle.ms_text_grammar.specs.{Lexemes.{is}, Steps.{items, refuse}};
@@ -16,7 +17,7 @@ use ms_text_grammar::{Cause, Limit, Symbol};
 /// The parts of an initial value, with their types.
 type Parts = List<(Ty, Init)>;
 
-/// What opens no bracket.
+/// An initialiser that opens no bracket, of a type.
 fn flat_init(tokens: &mut Tokens<'_>, form: Form, depth: u8, ty: &Ty) -> Result<Init, Cause>
     ensures { Gives (run (spec.flat_init form depth ty.now (front tokens.old).symbol) tokens.old) result tokens.new }
 {
@@ -37,7 +38,7 @@ fn flat_init(tokens: &mut Tokens<'_>, form: Form, depth: u8, ty: &Ty) -> Result<
     }
 }
 
-/// Takes an initialiser of a type, below so many arrays and structs that may still open.
+/// Takes an initialiser of a type, in which at most `depth` arrays and structs may still open.
 ///
 /// # Errors
 ///
@@ -78,6 +79,7 @@ fn nested_init(tokens: &mut Tokens<'_>, form: Form, depth: u8) -> Result<Init, C
     }
 }
 
+/// The items of an array, after `[`.
 #[cycle(inits)]
 #[tactic(auto, unfolding(ms_text_grammar::specs::Values::array_init))]
 fn array_init(tokens: &mut Tokens<'_>, form: Form, depth: u8) -> Result<Init, Cause>
@@ -87,6 +89,7 @@ fn array_init(tokens: &mut Tokens<'_>, form: Form, depth: u8) -> Result<Init, Ca
     Ok(Init::Array(all))
 }
 
+/// The fields of a struct, after `{`.
 #[cycle(inits)]
 #[tactic(auto, unfolding(ms_text_grammar::specs::Values::struct_init))]
 fn struct_init(tokens: &mut Tokens<'_>, form: Form, depth: u8) -> Result<Init, Cause>
@@ -96,6 +99,7 @@ fn struct_init(tokens: &mut Tokens<'_>, form: Form, depth: u8) -> Result<Init, C
     Ok(Init::Struct(false, all))
 }
 
+/// `{`, the fields of a packed struct and `}>`, after `<`.
 #[cycle(inits)]
 #[tactic(auto, unfolding(ms_text_grammar::specs::Values::packed_init))]
 fn packed_init(tokens: &mut Tokens<'_>, form: Form, depth: u8) -> Result<Init, Cause>
@@ -107,7 +111,7 @@ fn packed_init(tokens: &mut Tokens<'_>, form: Form, depth: u8) -> Result<Init, C
     Ok(Init::Struct(true, all))
 }
 
-/// A type and the initialiser after it.
+/// An item of an array or a field of a struct: a type and the initialiser after it.
 #[cycle(inits)]
 #[tactic(auto, unfolding(crate::specs::Parts::part_of))]
 fn part(tokens: &mut Tokens<'_>, form: Form, depth: u8) -> Result<(Ty, Init), Cause>
@@ -118,7 +122,7 @@ fn part(tokens: &mut Tokens<'_>, form: Form, depth: u8) -> Result<(Ty, Init), Ca
     Ok((ty.into_inner(), init))
 }
 
-/// Reads further parts after commas.
+/// Reads further parts after commas, and adds them to those in front.
 #[cycle(inits)]
 #[tactic(auto, using(ms_read_cursor::proofs::ItemLoops::more_goes, ms_read_cursor::proofs::ItemLoops::more_stops, ms_read_cursor::proofs::ItemLoops::more_ends, ms_read_cursor::proofs::ItemLoops::turn_shorter))]
 fn more_parts(tokens: &mut Tokens<'_>, form: Form, depth: u8, start: Parts) -> Result<Parts, Cause>

@@ -1,6 +1,6 @@
-//! Readers of types and values, and of what is read over: tokens between brackets, attributes, and metadata after an
-//! instruction. Each is proved exact against the piece of the grammar of its name; one that takes an allocator may also
-//! answer `NoMemory`.
+//! Readers of types and values, and of what is read over: tokens between brackets, attributes, and metadata after an instruction.
+//! Each is proved exact against the piece of the grammar of its name; one that takes an allocator may also answer `NoMemory`.
+//! `form` says which texts are read, `depth` how many arrays and structs may still open, `locals` whether a local may stand.
 #![tactic(auto)]
 
 mod attribute_lists;

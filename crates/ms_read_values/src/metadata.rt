@@ -1,4 +1,5 @@
-//! Reads names of metadata (LLVM Language Reference, "Metadata").
+//! Reads names of metadata (LLVM Language Reference, "Metadata"), and over what is attached. The mark is `!nosanitize`, which
+//! only a text with inserted code has.
 
 ghost use Rattle.ms_text_grammar.specs.Skipped as spec;
 ghost use Rattle.ms_read_cursor.specs.Reading.{Gives, Judges, run};
@@ -7,7 +8,7 @@ use ms_ir::Form;
 use ms_read_cursor::{Lexeme, Tokens, Turn, repeat};
 use ms_text_grammar::{Cause, Symbol};
 
-/// Whether the mark may be attached.
+/// Whether a text of this form may have the mark.
 fn mark_allowed(form: Form) -> Result<bool, Cause>
     ensures { Judges (spec.mark_allowed form) result }
 {
@@ -17,7 +18,7 @@ fn mark_allowed(form: Form) -> Result<bool, Cause>
     }
 }
 
-/// Whether metadata is attached, which its kind begins.
+/// Whether a symbol begins attached metadata, which a name of its kind does.
 ///
 /// # Errors
 ///
@@ -64,7 +65,7 @@ pub fn kind_of(form: Form, token: &Lexeme<'_>) -> Result<bool, Cause>
     }
 }
 
-/// Attachment after attachment.
+/// Attachment after attachment: a kind and a name of metadata.
 #[derive(Clone, Copy)]
 struct OneAttachment {
     form: Form,

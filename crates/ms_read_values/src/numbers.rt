@@ -54,6 +54,7 @@ pub fn number_by(width: u8, token: &Lexeme<'_>) -> Result<u64, Cause>
     }
 }
 
+/// The number that a token is, kept modulo 2^width.
 fn number_of(width: u8, token: &Lexeme<'_>) -> Result<u64, Cause>
     requires { IsWidth width }
     ensures { Judges (spec.number_of width token.now) result }

@@ -1,4 +1,6 @@
-//! Reads constant `getelementptr` (LLVM Language Reference, "Constant Expressions").
+//! Reads constant `getelementptr` (LLVM Language Reference, "Constant Expressions"), each a step from its base: a type and
+//! indices. `depth` is how many arrays and structs may still open in a type, `within` how many more `getelementptr` may stand in
+//! the base, one within another.
 
 ghost use Rattle.std.specs.Prelude.{◌≡◌, ◌∷◌, IfOk, length, true};
 ghost use Rattle.ms_lex.specs.Grammar.{give};
@@ -15,6 +17,7 @@ use ms_ir::{Form, Name, Operand, Ty};
 use ms_read_cursor::{Lexeme, Tokens, Turn, global, repeat, with_last};
 use ms_text_grammar::{Cause, Limit, Symbol};
 
+/// Whether a word may stand after `getelementptr`.
 fn is_gep_word(symbol: Symbol) -> bool
     ensures { result ≡ spec.is_gep_word symbol }
 {
@@ -49,7 +52,7 @@ pub fn gep_words(tokens: &mut Tokens<'_>) -> Result<(), Cause>
     repeat(tokens, &StepWords, ())
 }
 
-/// The type of an index in front of which so many stand.
+/// The type of an index in front of which `before` others stand.
 ///
 /// # Errors
 ///
@@ -66,7 +69,7 @@ pub fn index_type_of(before: usize, token: &Lexeme<'_>) -> Result<u8, Cause>
     }
 }
 
-/// Reads the number of an index of this width.
+/// Reads the number of an index of this width, and adds it to the indices in front.
 fn index_rest(
     tokens: &mut Tokens<'_>,
     width: u8,
@@ -79,7 +82,7 @@ fn index_rest(
     Ok(with_last(found, (Ty::Int(width), n))?)
 }
 
-/// An index with its type.
+/// Reads an index with its type, and adds it to the indices in front.
 #[tactic(auto, unfolding(ms_text_grammar::specs::Values::constant_index))]
 fn constant_index(tokens: &mut Tokens<'_>, found: List<(Ty, u64)>) -> Result<List<(Ty, u64)>, Cause>
     ensures { Gives (run (spec.constant_index found) tokens.old) result tokens.new }
@@ -113,6 +116,7 @@ impl Turn for ConstantIndices {
     }
 }
 
+/// The indices after the base, each after a comma.
 #[tactic(auto, unfolding(ms_text_grammar::specs::Values::constant_indices))]
 fn constant_indices(tokens: &mut Tokens<'_>) -> Result<List<(Ty, u64)>, Cause>
     ensures { Gives (run spec.constant_indices tokens.old) result tokens.new }
@@ -124,7 +128,7 @@ fn constant_indices(tokens: &mut Tokens<'_>) -> Result<List<(Ty, u64)>, Cause>
 /// A global, and the steps that lead on from it, the outermost first.
 type Stepped = (Boxed<Name>, List<(Ty, List<(Ty, u64)>)>);
 
-/// An address with one step more around the others.
+/// An address with one step more in front of the others: that of a `getelementptr` round them.
 fn around(address: Stepped, ty: Ty, indices: List<(Ty, u64)>) -> Result<Stepped, NoMemory>
     ensures { IfOk result (λ a. a ≡ (address.0, (ty, indices) ∷ address.1)) }
 {
@@ -160,7 +164,7 @@ fn step_rest(
     step_end(tokens, ty, from)
 }
 
-/// What stands after `getelementptr` in a constant, in whose base so many more may stand.
+/// What stands after `getelementptr` in a constant, in whose base `within` more may stand.
 #[cycle(bases)]
 #[tactic(auto, unfolding(ms_text_grammar::specs::Values::gep_from))]
 fn gep_from(tokens: &mut Tokens<'_>, form: Form, depth: u8, within: u8) -> Result<Stepped, Cause>
@@ -172,7 +176,7 @@ fn gep_from(tokens: &mut Tokens<'_>, form: Form, depth: u8, within: u8) -> Resul
     step_rest(tokens, form, depth, within, ty)
 }
 
-/// Another `getelementptr` as a base, where so many may stand.
+/// Another `getelementptr` as a base, where `within` may stand.
 #[cycle(bases)]
 #[tactic(auto, using(crate::proofs::Bases::inner_ends, crate::proofs::Bases::inner_goes))]
 fn inner_step(tokens: &mut Tokens<'_>, form: Form, depth: u8, within: u8) -> Result<Stepped, Cause>
@@ -193,7 +197,7 @@ fn global_base(tokens: &mut Tokens<'_>, form: Form) -> Result<Stepped, Cause>
     Ok((base, List::from_vec(Vec::new(tokens.alloc()))))
 }
 
-/// The base of a `getelementptr`, in which so many more may stand within one another.
+/// The base of a `getelementptr`, in which `within` more may stand, one within another.
 ///
 /// # Errors
 ///
@@ -209,7 +213,7 @@ fn base_to(tokens: &mut Tokens<'_>, form: Form, depth: u8, within: u8) -> Result
     }
 }
 
-/// What stands after `getelementptr` in a constant.
+/// What stands after `getelementptr` in a constant: at most 64 of them one within another.
 #[tactic(auto, unfolding(ms_text_grammar::specs::Values::offset))]
 pub fn offset(tokens: &mut Tokens<'_>, form: Form, depth: u8) -> Result<Operand, Cause>
     ensures { Gives (run (spec.offset form depth) tokens.old) result tokens.new }

@@ -61,7 +61,8 @@ impl Awaited {
         }
     }
 
-    /// Goes past a token of this symbol.
+    /// Goes past a token of this symbol: after an opening bracket its closing one is awaited, and a closing one is awaited no
+    /// more.
     pub fn take(&mut self, symbol: Symbol) -> Result<(), AllocError>
         ensures { OnOk result (self.new ≡ spec.awaits self.old symbol) }
     {

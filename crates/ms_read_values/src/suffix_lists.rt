@@ -1,5 +1,5 @@
-//! What may stand after an instruction: its alignment and attached metadata, one kind of which marks an inserted
-//! instruction.
+//! What may stand after an instruction: its alignment and attached metadata, one kind of which, the mark, shows an inserted
+//! instruction. `marked` says whether the mark was read, `marks` whether the kind just read is the mark.
 
 ghost use Rattle.std.specs.Prelude.{cond, false};
 ghost use Rattle.ms_lex.specs.Grammar.{give};
@@ -13,7 +13,7 @@ use ms_ir::Form;
 use ms_read_cursor::{Tokens, Turn, repeat};
 use ms_text_grammar::{Cause, Symbol};
 
-/// Reads tokens between braces, where metadata is written in place.
+/// Reads over `{`, tokens and `}`, where metadata is written in place. The mark stays as it was.
 fn in_place(tokens: &mut Tokens<'_>, form: Form, marked: bool) -> Result<bool, Cause>
     ensures { Gives (run (rest.in_place form marked) tokens.old) result tokens.new }
 {
@@ -22,7 +22,7 @@ fn in_place(tokens: &mut Tokens<'_>, form: Form, marked: bool) -> Result<bool, C
     Ok(marked)
 }
 
-/// Reads a name of metadata, and tokens in parentheses where they come.
+/// Reads a name of metadata, and tokens in parentheses where they come. Gives whether the instruction is marked.
 fn by_name(tokens: &mut Tokens<'_>, form: Form, marked: bool, marks: bool) -> Result<bool, Cause>
     ensures { Gives (run (rest.by_name form marked marks) tokens.old) result tokens.new }
 {
@@ -119,7 +119,7 @@ pub fn suffixes(tokens: &mut Tokens<'_>, form: Form, marked: bool) -> Result<boo
     repeat(tokens, &OneSuffix { form }, marked)
 }
 
-/// The suffix whose comma was read already, if one was.
+/// Reads the suffix whose comma was read already, if one was. Gives whether the instruction is marked.
 fn first_suffix(tokens: &mut Tokens<'_>, form: Form, begun: bool) -> Result<bool, Cause>
     ensures { Gives (run (cond begun (spec.suffix form false) (give false)) tokens.old) result tokens.new }
 {

@@ -1,4 +1,4 @@
-//! Reads types (LLVM Language Reference, "Type System").
+//! Reads types (LLVM Language Reference, "Type System"). `depth` is how many arrays and structs may still open.
 
 ghost use Rattle.std.specs.Prelude.{◌≡◌, IfOk, false};
 ghost use Rattle.ms_text_grammar.specs.{declared.symbols.Symbol.TheVariants.{CloseBrace}, Lexemes.{is}, Steps.{items}};
@@ -102,6 +102,7 @@ fn count_of(token: &Lexeme<'_>) -> Result<u64, Cause>
     }
 }
 
+/// Takes how many items an array has.
 #[tactic(auto, unfolding(ms_text_grammar::specs::Types::count))]
 fn count(tokens: &mut Tokens<'_>) -> Result<u64, Cause>
     ensures { Gives (run spec.count tokens.old) result tokens.new }
@@ -111,7 +112,7 @@ fn count(tokens: &mut Tokens<'_>) -> Result<u64, Cause>
     Ok(n)
 }
 
-/// What opens no bracket.
+/// A type that opens no bracket.
 fn flat(tokens: &mut Tokens<'_>, form: Form) -> Result<Ty, Cause>
     ensures { Gives (run (spec.flat form (front tokens.old).symbol) tokens.old) result tokens.new }
 {
@@ -128,6 +129,7 @@ fn flat(tokens: &mut Tokens<'_>, form: Form) -> Result<Ty, Cause>
     }
 }
 
+/// Whether a symbol opens an array, a struct or a packed struct.
 pub fn opens(symbol: Symbol) -> bool
     ensures { result ≡ spec.opens symbol }
 {
@@ -137,6 +139,7 @@ pub fn opens(symbol: Symbol) -> bool
     )
 }
 
+/// A type where no more arrays and structs may open.
 fn too_deep(tokens: &mut Tokens<'_>, form: Form) -> Result<Ty, Cause>
     ensures { Gives (run (spec.too_deep form (front tokens.old).symbol) tokens.old) result tokens.new }
 {
@@ -146,6 +149,7 @@ fn too_deep(tokens: &mut Tokens<'_>, form: Form) -> Result<Ty, Cause>
     flat(tokens, form)
 }
 
+/// That the token after `<` is `{`, which begins a packed struct; a number would begin a vector.
 fn brace_of(token: &Lexeme<'_>) -> Result<(), Cause>
     ensures { Judges (spec.brace_of token.now) result }
 {
@@ -172,7 +176,7 @@ pub fn packed_brace(tokens: &mut Tokens<'_>) -> Result<(), Cause>
     Ok(())
 }
 
-/// Takes a type in which at most so many arrays and structs may still open.
+/// Takes a type in which at most `depth` arrays and structs may still open.
 ///
 /// # Errors
 ///
@@ -188,7 +192,7 @@ pub fn type_to(tokens: &mut Tokens<'_>, form: Form, depth: u8) -> Result<Ty, Cau
     nested(tokens, form, depth - 1)
 }
 
-/// Takes a type in which at most so many arrays and structs may still open, onto the heap. Its errors are those of `type_to`.
+/// Takes a type in which at most `depth` arrays and structs may still open, onto the heap. Its errors are those of `type_to`.
 pub fn boxed_type(tokens: &mut Tokens<'_>, form: Form, depth: u8) -> Result<Boxed<Ty>, Cause>
     ensures { Gives (run (spec.type_to form depth) tokens.old) result tokens.new }
 {
@@ -228,6 +232,7 @@ fn array_item(tokens: &mut Tokens<'_>, form: Form, depth: u8, n: u64) -> Result<
     Ok(Ty::Array(n, item))
 }
 
+/// An array after `[`: how many items, `x`, their type and `]`.
 #[cycle(types)]
 #[tactic(auto, unfolding(ms_text_grammar::specs::Types::array_rest))]
 fn array_rest(tokens: &mut Tokens<'_>, form: Form, depth: u8) -> Result<Ty, Cause>
@@ -238,6 +243,7 @@ fn array_rest(tokens: &mut Tokens<'_>, form: Form, depth: u8) -> Result<Ty, Caus
     array_item(tokens, form, depth, n)
 }
 
+/// A struct after `{`.
 #[cycle(types)]
 #[tactic(auto, unfolding(ms_text_grammar::specs::Types::struct_rest))]
 fn struct_rest(tokens: &mut Tokens<'_>, form: Form, depth: u8) -> Result<Ty, Cause>
@@ -247,6 +253,7 @@ fn struct_rest(tokens: &mut Tokens<'_>, form: Form, depth: u8) -> Result<Ty, Cau
     Ok(Ty::Struct(false, all))
 }
 
+/// A packed struct after `<`.
 #[cycle(types)]
 #[tactic(auto, unfolding(ms_text_grammar::specs::Types::packed_rest))]
 fn packed_rest(tokens: &mut Tokens<'_>, form: Form, depth: u8) -> Result<Ty, Cause>
@@ -258,7 +265,7 @@ fn packed_rest(tokens: &mut Tokens<'_>, form: Form, depth: u8) -> Result<Ty, Cau
     Ok(Ty::Struct(true, all))
 }
 
-/// Reads further types after commas.
+/// Reads further types after commas, and adds them to those in front.
 #[cycle(types)]
 #[tactic(auto, using(ms_read_cursor::proofs::ItemLoops::more_goes, ms_read_cursor::proofs::ItemLoops::more_stops, ms_read_cursor::proofs::ItemLoops::more_ends, ms_read_cursor::proofs::ItemLoops::turn_shorter))]
 fn more_fields(
@@ -278,7 +285,7 @@ fn more_fields(
     Ok(found)
 }
 
-/// Types with commas between, up to `}`, which doesn't come first.
+/// Types of fields with commas between, up to `}`, which doesn't come first.
 #[cycle(types)]
 #[tactic(auto, using(ms_read_cursor::proofs::ItemLoops::items_whole, ms_read_cursor::proofs::ItemLoops::items_cut, ms_read_cursor::proofs::ItemLoops::items_open, ms_read_cursor::proofs::ItemLoops::items_stop))]
 fn some_fields(tokens: &mut Tokens<'_>, form: Form, depth: u8) -> Result<List<Ty>, Cause>
@@ -292,7 +299,7 @@ fn some_fields(tokens: &mut Tokens<'_>, form: Form, depth: u8) -> Result<List<Ty
     Ok(all)
 }
 
-/// No type, or types with commas between, up to `}`.
+/// No type, or types of fields with commas between, up to `}`.
 #[cycle(types)]
 #[tactic(auto, using(ms_read_cursor::proofs::ItemLoops::items_empty))]
 fn fields(tokens: &mut Tokens<'_>, form: Form, depth: u8) -> Result<List<Ty>, Cause>
@@ -306,7 +313,7 @@ fn fields(tokens: &mut Tokens<'_>, form: Form, depth: u8) -> Result<List<Ty>, Ca
     }
 }
 
-/// Takes the struct that a named type is.
+/// Takes the struct that a named type is. In it 31 arrays and structs may open.
 #[tactic(auto, unfolding(ms_text_grammar::specs::Types::struct_type))]
 pub fn struct_type(tokens: &mut Tokens<'_>, form: Form) -> Result<Ty, Cause>
     ensures { Gives (run (spec.struct_type form) tokens.old) result tokens.new }

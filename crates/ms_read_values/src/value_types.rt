@@ -1,4 +1,5 @@
 //! `ScalarType`: the types that values have, `iN` and `ptr`, as readers hand them on (LLVM Language Reference, "Type System").
+//! Contracts see a `Ty`, and the width inside is found again from it.
 
 ghost use Rattle.std.specs.Prelude.{◌≡◌, IfSome, IfNone};
 

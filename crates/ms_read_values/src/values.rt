@@ -15,7 +15,7 @@ use ms_read_cursor::{Lexeme, Tokens, global_by, local_by};
 use ms_text_grammar::{Cause, Outside, Symbol};
 use std::alloc::Global;
 
-/// The number that a token spells, after an integer type of this width, which is one that a type may have.
+/// The number that a token spells, after an integer type of this width; none is one after a width that no type has.
 fn int_of(width: u8, token: &Lexeme<'_>) -> Result<Operand, Cause>
     ensures { Judges (spec.int_value (Some width) token.now) result }
 {
@@ -36,7 +36,7 @@ fn int_value(ty: &Ty, token: &Lexeme<'_>) -> Result<Operand, Cause>
     }
 }
 
-/// `true` or `false`, after `i1` alone.
+/// `true` or `false`, which is `bit`, after `i1` alone.
 fn truth_value(ty: &Ty, bit: u64, token: &Lexeme<'_>) -> Result<Operand, Cause>
     ensures { Judges (spec.truth_value ty.now bit token.now) result }
 {
@@ -62,7 +62,7 @@ fn null_value(ty: &Ty, token: &Lexeme<'_>) -> Result<Operand, Cause>
     }
 }
 
-/// A local, which is no constant.
+/// A local, which is no constant: only where locals may stand.
 fn local_value(
     alloc: Global,
     form: Form,
@@ -132,7 +132,7 @@ fn simple_value(
     Ok(value)
 }
 
-/// Takes a value of this type, below so many arrays and structs that may still open.
+/// Takes a value of this type, in which at most `depth` arrays and structs may still open.
 #[tactic(auto, unfolding(ms_text_grammar::specs::Values::value_within))]
 pub fn value_within(
     tokens: &mut Tokens<'_>,
@@ -152,7 +152,7 @@ pub fn value_within(
     }
 }
 
-/// Takes a value of any type, where a local may stand.
+/// Takes a value of any type, where a local may stand. In a constant address 32 arrays and structs may open.
 pub fn operand(tokens: &mut Tokens<'_>, form: Form, ty: &Ty) -> Result<Operand, Cause>
     ensures { Gives (run (spec.value form ty.now) tokens.old) result tokens.new }
 {

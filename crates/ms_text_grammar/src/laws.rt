@@ -1,4 +1,5 @@
-//! Laws of the grammar: each text has one reading or one stop, within the limits; a plain text is an instrumented one.
+//! Laws of the grammar: each text has one reading or one stop, within the limits; a plain text is an instrumented one. j and k
+//! are places of tokens, c and d causes.
 
 ghost use Rattle.std.specs.Prelude.{◌≡◌, ◌≤◌, ◌↔◌, ◌⊎◌, ℕ, ◌+◌, List, length};
 ghost use Rattle.ms_lex.specs.{declared.kinds.Token.{Token}, Tokens.{Text}};
@@ -28,7 +29,7 @@ pub fn law_answers_are_exact()
         → length text ≤ max_bytes form → (answer_of form text ≡ stops k c) ↔ Stops form text k c }
 {}
 
-/// What is read keeps the limits on what is counted.
+/// What is read keeps the limits on what is counted. `before` is how many instructions stand in front of a function.
 pub fn law_limits_are_kept()
     ensures of_a_module { (form : Form) (text : Text) (m : Module) → Reads form text m → WithinLimits form m }
     ensures of_a_function { (form : Form) (before : ℕ) (ts : List Lexeme) (f : Func) (rest : List Lexeme)

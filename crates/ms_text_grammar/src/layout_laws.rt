@@ -1,4 +1,5 @@
-//! Laws of the layout's bytes: cut into tokens again they are the pieces that were written.
+//! Laws of the layout's bytes: cut into tokens again they are the pieces that were written. A piece is here a token with the
+//! bytes from it to the next one.
 
 ghost use Rattle.std.specs.Prelude.{◌≡◌, ◌≤◌, ◌++◌, ℕ, List, IsTrue, length, Ok};
 ghost use Rattle.ms_lex.specs.{Names.{decoded}, Tokens.{Text, tokens_of}};

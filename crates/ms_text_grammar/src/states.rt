@@ -1,4 +1,4 @@
-//! What was read so far, between two turns of a list or of a body.
+//! What readers have read so far, between two turns of a list or of a body.
 
 use ms_bits::List;
 use ms_ir::{Block, Inst, Module, Name, Operand, Ty};
@@ -6,6 +6,7 @@ use ms_ir::{Block, Inst, Module, Name, Operand, Ty};
 /// The edges of a phi, as far as they are read. A comma begins either an edge or the metadata after the phi.
 #[derive(Drop)]
 pub struct PhiEdges {
+    /// Each value with the block that control comes from.
     pub found: List<(Operand, Name)>,
     /// A comma was read, and no edge stands after it.
     pub ended: bool,
@@ -15,6 +16,7 @@ pub struct PhiEdges {
 /// the instruction.
 #[derive(Drop)]
 pub struct Indices {
+    /// Each with its type; of an `alloca`'s count none or one.
     pub found: List<(Ty, Operand)>,
     /// A comma was read, and no index stands after it.
     pub ended: bool,
@@ -23,6 +25,7 @@ pub struct Indices {
 /// The parameters of a function.
 #[derive(Drop)]
 pub struct Parameters {
+    /// The type and the name of each.
     pub found: List<(Ty, Name)>,
     /// The number of the next unnamed parameter or block.
     pub next: u32,
@@ -50,6 +53,7 @@ pub struct BodySoFar {
 /// The entities of a module, as far as they are read.
 #[derive(Drop)]
 pub struct ModuleSoFar {
+    /// The module of these entities.
     pub module: Module,
     /// The instructions of its functions.
     pub count: u32,

@@ -1,4 +1,5 @@
-//! Laws of the layout: a module's text is read as that module, and no two modules have one text.
+//! Laws of the layout: a module's text is read as that module, and no two modules have one text. `tokens_in (module_pieces m)`
+//! are the tokens that a module is written as, `written m` is its text.
 
 ghost use Rattle.std.specs.Prelude.{◌≡◌, ◌<◌, ◌≤◌, ◌^◌, ℕ, [], Err, decimal};
 ghost use Rattle.ms_bits.specs.Signed.{signed, wrap};
@@ -33,8 +34,8 @@ pub fn layouts_are_injective()
     ensures texts { (m n : Module) → Formed m → Formed n → written m ≡ written n → m ≡ n }
 {}
 
-/// What is written of a formed module is never misread, whatever its size: an instrumented text reads as that module or as none, and
-/// it is refused for a limit or for numbering alone. So it has too many tokens, or it stops at one for such a cause.
+/// What is written of a formed module is never misread, whatever its size: an instrumented text reads as that module or as none,
+/// and it is refused for a limit or for numbering alone. So it has too many tokens, or it stops at one for such a cause.
 pub fn layouts_are_never_misread()
     ensures reads { (m : Module) → Formed m → (k : Module) → Reads Instrumented (written m) k → k ≡ m }
     ensures stops { (m : Module) → Formed m → (token : ℕ) (cause : Cause) → Stops Instrumented (written m) token cause → NamesLimit cause }

@@ -204,6 +204,7 @@ fn is_written(alloc: Global, frame: &Frame, case: &Case, found: &[u8]) -> bool {
     }
 }
 
+/// Whether a case is answered as it is wanted, in the text that is read.
 fn is_answer<R: Eprint>(rt: &R, alloc: Global, frame: &Frame, case: &Case, text: &[u8]) -> bool {
     match rewritten(alloc, text, case.0) {
         Ok(found) => { is_written(alloc, frame, case, &found) || is_otherwise(rt, case, &found) }
@@ -214,6 +215,7 @@ fn is_answer<R: Eprint>(rt: &R, alloc: Global, frame: &Frame, case: &Case, text:
     }
 }
 
+/// Whether a case is answered as it is wanted, with its frame around it.
 fn agrees<R: Eprint>(rt: &R, alloc: Global, frame: &Frame, case: &Case) -> bool {
     match joined(alloc, frame.head, case.1, frame.tail) {
         Ok(text) => is_answer(rt, alloc, frame, case, &text),

@@ -5,6 +5,7 @@ ghost use Rattle.ms_lex.specs.{Grammar.{done, fails, run}, Sums.{sum}};
 
 use ms_lex::{HasGrammar, law_reads_or_stops};
 
+/// The grammar of sums of digits up to a `;`, at which the laws are tried.
 struct Sums;
 
 impl HasGrammar for Sums {

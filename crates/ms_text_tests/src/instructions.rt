@@ -146,6 +146,7 @@ pub static MEMORY: [Case; 20] = [
     ),
 ];
 
+/// Calls.
 pub static CALLS: [Case; 22] = [
     Case(
         Plain,

@@ -311,6 +311,7 @@ fn push_all(text: &mut Vec<u8>, piece: &str, count: u32) -> Result<(), NoMemory>
     Ok(())
 }
 
+/// The text of a row, put together.
 fn text_of(alloc: Global, row: &Long) -> Result<Vec<u8>, NoMemory> {
     let mut text = row.1.as_bytes().to_vec(alloc)?;
     push_all(&mut text, row.2, row.3)?;
@@ -320,6 +321,7 @@ fn text_of(alloc: Global, row: &Long) -> Result<Vec<u8>, NoMemory> {
     Ok(text)
 }
 
+/// Whether the text of a row is answered as is wanted.
 fn is_answer<R: Eprint>(rt: &R, alloc: Global, row: &Long, text: &[u8]) -> bool {
     match rewritten(alloc, text, row.0) {
         Ok(found) => match &row.7 {
@@ -331,6 +333,7 @@ fn is_answer<R: Eprint>(rt: &R, alloc: Global, row: &Long, text: &[u8]) -> bool 
     }
 }
 
+/// Whether the text of a row, put together, is answered as is wanted.
 fn agrees<R: Eprint>(rt: &R, alloc: Global, row: &Long) -> bool {
     match text_of(alloc, row) {
         Ok(text) => is_answer(rt, alloc, row, &text),

@@ -167,6 +167,7 @@ static SHOWN: [Shown; 4] = [
     Shown(LexError::NoMemory, "out of memory"),
 ];
 
+/// The tokens of a text, where it isn't too long.
 fn tokens_of(alloc: Global, text: &[u8], limit: u32) -> Result<Vec<Token>, LexError> {
     if text.len() > 1 << 27 {
         return Err(LexError::NoMemory);
@@ -179,6 +180,7 @@ fn is_token(token: &Token, span: &Span) -> bool {
     token.kind == span.0 && token.start == span.1 && token.end == span.2
 }
 
+/// Whether tokens are of these kinds and stand there.
 fn are_tokens(found: &[Token], spans: &[Span]) -> bool {
     if found.len() != spans.len() {
         return false;
@@ -191,6 +193,7 @@ fn are_tokens(found: &[Token], spans: &[Span]) -> bool {
     true
 }
 
+/// Whether a text has its tokens.
 fn is_cut<R: Eprint>(rt: &R, alloc: Global, row: &Cut) -> bool {
     match tokens_of(alloc, row.0.as_bytes(), 100) {
         Ok(found) => are_tokens(&found, row.1) || differs(rt, row.0, row, &found),
@@ -198,6 +201,7 @@ fn is_cut<R: Eprint>(rt: &R, alloc: Global, row: &Cut) -> bool {
     }
 }
 
+/// Whether a text has no tokens, for its reason.
 fn is_refused<R: Eprint>(rt: &R, alloc: Global, row: &Refused) -> bool {
     match tokens_of(alloc, row.0.as_bytes(), row.1) {
         Ok(found) => differs(rt, row.0, row, &found),
@@ -205,6 +209,7 @@ fn is_refused<R: Eprint>(rt: &R, alloc: Global, row: &Refused) -> bool {
     }
 }
 
+/// Whether the name of a token is this one.
 fn is_name(alloc: Global, text: &[u8], token: &Token, want: &[u8]) -> bool {
     if token.start > token.end || token.end as usize > text.len() {
         return false;
@@ -215,6 +220,7 @@ fn is_name(alloc: Global, text: &[u8], token: &Token, want: &[u8]) -> bool {
     }
 }
 
+/// Whether the token of a text has its name.
 fn is_named<R: Eprint>(rt: &R, alloc: Global, row: &Named) -> bool {
     match tokens_of(alloc, row.0.as_bytes(), 1) {
         Ok(found) => {
@@ -225,10 +231,12 @@ fn is_named<R: Eprint>(rt: &R, alloc: Global, row: &Named) -> bool {
     }
 }
 
+/// Whether the number of a token is this one.
 fn is_number(text: &[u8], token: &Token, want: Option<i128>) -> bool {
     token.start <= token.end && token.end as usize <= text.len() && number_of(text, token) == want
 }
 
+/// Whether the token of a text has its number.
 fn is_numbered<R: Eprint>(rt: &R, alloc: Global, row: &Numbered) -> bool {
     match tokens_of(alloc, row.0.as_bytes(), 1) {
         Ok(found) => {
@@ -239,6 +247,7 @@ fn is_numbered<R: Eprint>(rt: &R, alloc: Global, row: &Numbered) -> bool {
     }
 }
 
+/// Whether an error is shown so.
 fn is_shown<R: Eprint>(rt: &R, alloc: Global, row: &Shown) -> bool {
     let error = row.0;
     match format!(in alloc; "{error}") {

@@ -46,6 +46,7 @@ use Answer::{Next, Not};
 /// A piece in a form, a text, the token from which it is read, and the answer.
 struct Part(Piece, Form, &'static str, u32, Answer);
 
+/// A function of two instructions, at the limit on them and past it.
 const MAIN: &str = r#"define i32 @main() {
   %1 = add i32 1, 2
   ret i32 0
@@ -269,6 +270,7 @@ fn next_of<A: Drop>(read: Result<(A, u32), ReadError>) -> Result<u32, ReadError>
     }
 }
 
+/// Reads a value after the type that the piece stands for, and gives the number of the token after it.
 fn value_after(
     alloc: Global,
     text: &[u8],
@@ -288,6 +290,7 @@ fn value_after(
     }
 }
 
+/// Reads a piece from token `at`, and gives the number of the token after it.
 fn read(
     alloc: Global,
     text: &[u8],
@@ -308,6 +311,7 @@ fn read(
     }
 }
 
+/// Whether a piece was read as is wanted.
 fn is_answer(found: &Result<u32, ReadError>, want: &Answer) -> bool {
     match (found, want) {
         (Ok(next), Next(wanted)) => *next == *wanted,
@@ -316,6 +320,7 @@ fn is_answer(found: &Result<u32, ReadError>, want: &Answer) -> bool {
     }
 }
 
+/// Whether a row has its answer.
 fn agrees<R: Eprint>(rt: &R, alloc: Global, part: &Part) -> bool {
     let text = part.2.as_bytes();
     if text.len() > 1 << 27 {

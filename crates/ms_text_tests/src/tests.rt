@@ -8,6 +8,7 @@ use ms_ir::Form;
 use std::alloc::Global;
 use std::test::Fail;
 
+/// Texts that are written as they are read.
 static LAYOUTS: [&str; 10] = [
     layouts::ODD_NAMES,
     layouts::MANY_PARTS,
@@ -21,8 +22,10 @@ static LAYOUTS: [&str; 10] = [
     layouts::STORE_TO_SHADOW,
 ];
 
+/// One with inserted code.
 static MARKED_LAYOUTS: [&str; 1] = [layouts::MARKED_PARTS];
 
+/// Texts that are written otherwise than they are read.
 static OTHER_LAYOUTS: [&str; 5] = [
     other_layouts::SHARED_CELL,
     other_layouts::LOST_IN_ADDITION,

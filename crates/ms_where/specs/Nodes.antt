@@ -8,7 +8,7 @@ use Rattle.ms_lex.specs.declared.kinds.Kind.TheVariants as k
 use Rattle.ms_lex.specs.Tokens.{Text, is_digits}
 use Rattle.ms_lex.specs.Names.{decoded}
 use Rattle.ms_lex.specs.Numbers.{decimal}
-use Rattle.ms_where_places.specs.declared.marks.MarkKind.{MarkKind as What}
+use Rattle.ms_where_places.specs.declared.marks.MarkKind.{MarkKind}
 use Rattle.ms_where_places.specs.declared.marks.MarkKind.TheVariants as what
 use Rattle.ms_where_places.specs.declared.marks.Mark.{Mark}
 use Rattle.ms_where_places.specs.Told.{Told, lexeme_at, spelling_at}
@@ -32,7 +32,7 @@ unfoldable pub node_number : Text → Option ℕ
 node_number [] = None
 node_number (b ∷ digits) = if b == 33 then small_number digits else None
 
-abbrev pub number_if : What → Option ℕ → Option ℕ
+abbrev pub number_if : MarkKind → Option ℕ → Option ℕ
 number_if what.Node number = number
 number_if kind number = None
 

@@ -1,4 +1,6 @@
 //! Where each site of a module stands: its line in the text, and its positions in the source that the debug information names.
+//! For `--where`, by which these lines follow each line that names a site. A mark is here a `Mark` of `ms_where_places`,
+//! successive tokens that are one thing.
 //!
 //! In the text of `clang -O0 -g` neither an `alloca` nor the store of a parameter says where it stands in the source. The record
 //! `#dbg_declare(ptr %x, ..)` in the same function does, for the variable at `%x` ("Source Level Debugging with LLVM", "Debug

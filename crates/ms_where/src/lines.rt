@@ -1,4 +1,4 @@
-//! How many lines end before each token.
+//! How many lines end before each token of a text, from which the number of its line follows.
 
 ghost use Rattle.std.specs.Prelude.{◌≡◌, ◌≤◌, IfOk, length, count_by};
 ghost use Rattle.ms_lex.specs.Tokens.{InOrder, is_newline};

@@ -1,4 +1,5 @@
-//! The nodes of metadata of a text, by their numbers, and their fields.
+//! The nodes of metadata of a text, by their numbers, and their fields, such as `scope:`. A token is told by its number in the
+//! text, a node by its `Mark`.
 
 ghost use Rattle.std.specs.Prelude.{◌≡◌, ℕ, ◌<◌, ◌≤◌, length, replicate, slice_index, if◌then◌else◌, IfOk, option_copied};
 ghost use Rattle.std.specs.Str.{bytes_eq};
@@ -10,13 +11,14 @@ ghost use Rattle.ms_where.specs.Nodes as spec;
 use ms_bits::{Bytes, List, NoMemory};
 use ms_lex::{Kind, Token, name_of};
 use ms_read_cursor::{decimal, is_digits};
-use ms_where_places::{Mark, MarkKind as What, MarkedText};
+use ms_where_places::{Mark, MarkKind, MarkedText};
 use std::alloc::Global;
 use std::marker::Model;
 
 /// A text with what stands in it, and where the nodes of its metadata are. Contracts see the text with what stands in it.
 #[derive(Drop)]
 pub struct Debug<'a> {
+    /// The text with its marks.
     marked: MarkedText<'a>,
     /// Of each number below that of the marks, the place of the first node that has it, or the number of the marks.
     nodes: Vec<usize>,
@@ -57,17 +59,17 @@ fn node_number(name: &[u8]) -> Option<u64>
     }
 }
 
-/// The number of what is of this kind and has this name, if it is a node.
-fn number_if(kind: What, name: &[u8]) -> Option<u64>
+/// The number of the node that a mark of this kind, whose first token is this name, is; none if it is no node.
+fn number_if(kind: MarkKind, name: &[u8]) -> Option<u64>
     ensures { result ≡ spec.number_if kind (spec.node_number name.now) }
 {
     match kind {
-        What::Node => node_number(name),
+        MarkKind::Node => node_number(name),
         _ => None,
     }
 }
 
-/// Keeps a place under a number, if the table has it.
+/// Keeps the place of a mark under a node's number, if there is one and the table has it.
 fn keep(nodes: &mut [usize], number: Option<u64>, place: usize)
     ensures { (n : ℕ) → n < length nodes.old → slice_index nodes.new n ≡ (if spec.is_number n number then place else slice_index nodes.old n) }
 {
@@ -78,7 +80,7 @@ fn keep(nodes: &mut [usize], number: Option<u64>, place: usize)
     }
 }
 
-/// A table of so many numbers that no node has.
+/// A table for so many marks in which no number has a node: each has the number of the marks, which is no place.
 fn no_nodes(alloc: Global, count: usize) -> Result<Vec<usize>, NoMemory>
     ensures { IfOk result (λ nodes. nodes.items ≡ replicate count count) }
 {

@@ -10,7 +10,7 @@ use ms_where_places::Mark;
 use ms_write_values::push_number;
 use std::alloc::Global;
 
-/// How many scopes, and how many calls that were inlined, are followed, so that a cycle ends.
+/// How many scopes, and how many inlined calls, are followed at most, so that a cycle of nodes ends.
 const MOST: u32 = 64;
 
 /// A position in the source.
@@ -53,7 +53,7 @@ fn push_column(out: &mut Vec<u8>, column: u64) -> Result<(), NoMemory>
     push_number(out, column)
 }
 
-/// Adds a line and a column.
+/// Adds a line and a column, each after a colon.
 fn push_place(out: &mut Vec<u8>, line: u64, column: u64) -> Result<(), NoMemory>
     ensures { IfOk result (λ _. out.new.items ≡ out.old.items ++ 58 ∷ decimal line ++ spec.column_text column) }
 {
@@ -71,7 +71,7 @@ fn push_position(out: &mut Vec<u8>, position: &Position) -> Result<(), NoMemory>
     push_place(out, position.line, position.column)
 }
 
-/// Adds what is said of a position, if anything is.
+/// Adds a remark on a position, if there is one.
 fn push_remark(out: &mut Vec<u8>, remark: Option<&[u8]>) -> Result<(), NoMemory>
     ensures { IfOk result (λ _. out.new.items ≡ out.old.items ++ spec.remark_text (option_copied remark.entry)) }
 {
@@ -84,7 +84,7 @@ fn push_remark(out: &mut Vec<u8>, remark: Option<&[u8]>) -> Result<(), NoMemory>
     }
 }
 
-/// Adds a position in a line of its own, with what is said of it.
+/// Adds a position in a line of its own, with a remark on it, if there is one.
 #[tactic(auto, unfolding(crate::specs::Positions::position_line))]
 fn push_position_line(
     out: &mut Vec<u8>,
@@ -158,7 +158,7 @@ impl<'a> Debug<'a> {
         }
     }
 
-    /// Adds the line of a location's own position, if it has one.
+    /// Adds the line of a location's own position, if it has one, with a remark.
     #[tactic(auto, unfolding(crate::specs::Positions::line_of))]
     fn push_line(
         &self,

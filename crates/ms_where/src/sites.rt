@@ -1,4 +1,4 @@
-//! The mark of each site: which of a text's marks are instructions that have one.
+//! The mark of each site: which of a text's marks are instructions that have a site. An inserted instruction has none.
 
 ghost use Rattle.std.specs.{Prelude.{◌≡◌, ◌++◌, IfOk, map, filter, flat_map}, List.{zip}};
 ghost use Rattle.ms_ir.specs.Instructions.{is_unmarked};
@@ -60,7 +60,7 @@ fn is_instruction(mark: &Mark) -> bool
     }
 }
 
-/// The places of the instructions among marks.
+/// The places, in the list of marks, of those that are instructions.
 fn instruction_places(alloc: Global, marks: &[Mark]) -> Result<Vec<usize>, NoMemory>
     ensures { IfOk result (λ found. found.items ≡ spec.instruction_places marks.now) }
 {
@@ -72,7 +72,7 @@ fn instruction_places(alloc: Global, marks: &[Mark]) -> Result<Vec<usize>, NoMem
         .collect(alloc)
 }
 
-/// The places of instructions, without those that have no site.
+/// The places of instructions, without those that have no site; both lists are in written order.
 fn with_sites(alloc: Global, have_sites: &[bool], places: &[usize]) -> Result<Vec<usize>, NoMemory>
     ensures { IfOk result (λ found. found.items ≡ map (λ p. p.1) (filter (λ p. p.0) (zip have_sites.now places.now))) }
 {

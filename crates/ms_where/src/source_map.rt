@@ -22,7 +22,9 @@ use std::marker::Model;
 pub struct SourceMap<'a> {
     /// The name of the text's file.
     file: &'a [u8],
+    /// The nodes of the text's metadata.
     debug: Debug<'a>,
+    /// The debug record of each instruction's variable.
     variables: Variables<'a>,
     /// Of each site, the place of its mark.
     sites: Vec<usize>,
@@ -42,7 +44,7 @@ impl<'a> Model for SourceMap<'a> {
     ghost invariant = { IsReady };
 }
 
-/// Adds the lines of the instruction whose mark has this place.
+/// Adds the lines of the instruction whose mark has this place: that of the text, and those of the source.
 #[tactic(auto, unfolding(crate::specs::Lines::lines_of_instruction))]
 fn push_instruction(
     out: &mut Vec<u8>,
@@ -67,7 +69,7 @@ fn push_instruction(
 }
 
 impl<'a> SourceMap<'a> {
-    /// Finds where each site of a module stands, whose text this is with its tokens and what they are. The file's name is shown as
+    /// Finds where each site of a module stands, whose text this is with its tokens and its marks. The file's name is shown as
     /// it is given. Takes a time linear in the text and the module.
     #[tactic(auto, unfolding(crate::specs::Lines::lines_of_site))]
     pub fn new(

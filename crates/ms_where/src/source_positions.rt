@@ -1,4 +1,5 @@
-//! The positions of an instruction in the source.
+//! The positions of an instruction in the source: that of its `!dbg`, or else that of its variable's debug record, as
+//! `#dbg_declare(ptr %x, !5, !DIExpression(), !9)`.
 
 ghost use Rattle.std.specs.{Prelude.{◌≡◌, ◌++◌, Some, IfOk}, Option.{option_and_then}};
 ghost use Rattle.ms_where_places.specs.Told.{mark_at};
@@ -9,7 +10,7 @@ use ms_bits::{Bytes, NoMemory};
 use ms_where_places::Mark;
 use std::alloc::Global;
 
-/// Which token of a debug record names the variable.
+/// Which token of a debug record names the variable, counted from 0: `!5` above.
 const VARIABLE: u32 = 5;
 
 /// The name of the variable that a debug record declares.
@@ -32,6 +33,7 @@ fn push_variable(out: &mut Vec<u8>, debug: &Debug<'_>, declaration: &Mark) -> Re
     ensures { IfOk result (λ _. out.new.items ≡ out.old.items ++ spec.variable_lines debug.now (Some declaration.now)) }
 {
     let alloc = *out.allocator();
+    // The last token before the parenthesis: `!9` above.
     let location = declaration.after.saturating_sub(2);
     match variable_name(alloc, debug, declaration)? {
         None => debug.push_location(out, None, location),
@@ -39,7 +41,7 @@ fn push_variable(out: &mut Vec<u8>, debug: &Debug<'_>, declaration: &Mark) -> Re
     }
 }
 
-/// Adds the lines of the variable that the record at this place declares.
+/// Adds the lines of the variable that the record at this place declares, if there is one.
 fn push_declared(out: &mut Vec<u8>, debug: &Debug<'_>, place: Option<usize>) -> Result<(), NoMemory>
     ensures { IfOk result (λ _. out.new.items ≡ out.old.items ++ spec.variable_lines debug.now (option_and_then (mark_at debug.now) place)) }
 {

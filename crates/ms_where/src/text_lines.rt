@@ -1,4 +1,5 @@
-//! The line of an instruction in its text.
+//! The line of an instruction in its text: the file's name, the number of the line, and the instruction up to what is attached to
+//! it.
 
 ghost use Rattle.std.specs.Prelude.{◌≡◌, ◌+◌, ◌<◌, ◌^◌, ◌++◌, IfOk, drop, position, slice_range, take};
 ghost use Rattle.ms_where.specs.Shown as spec;
@@ -100,14 +101,14 @@ fn line_end(bytes: &[u8]) -> Option<usize>
     bytes.iter().position(|byte| ends_line(*byte))
 }
 
-/// How many of these bytes are shown.
+/// How many of these bytes are shown: those of the first line, at most 100.
 fn shown_length(bytes: &[u8]) -> usize
     ensures { result ≡ spec.shown_length bytes.now }
 {
     line_end(bytes).unwrap_or(bytes.len()).min(MOST)
 }
 
-/// Adds bytes as they are shown.
+/// Adds bytes as they are shown, with dots after them where some are left out.
 #[tactic(auto, unfolding(crate::specs::Shown::shown_bytes))]
 fn push_shown(out: &mut Vec<u8>, bytes: &[u8]) -> Result<(), NoMemory>
     ensures { IfOk result (λ _. out.new.items ≡ out.old.items ++ spec.shown_bytes bytes.now) }
@@ -140,7 +141,7 @@ fn push_numbered_line(
     Ok(())
 }
 
-/// Adds the line of an instruction in its text, which has so many newlines in front of each token.
+/// Adds the line of an instruction in its text. `newlines` has for each token how many newlines stand in front of it.
 #[tactic(auto, unfolding(crate::specs::Shown::text_line))]
 pub fn push_text_line(
     out: &mut Vec<u8>,

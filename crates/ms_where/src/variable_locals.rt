@@ -1,4 +1,5 @@
-//! The locals that the instructions and the debug records of a text are about.
+//! The locals that the instructions and the debug records of a text are about: `%x` of `%x = alloca ..`, `store .. ptr %x` and
+//! `#dbg_declare(ptr %x, ..)`.
 
 ghost use Rattle.std.specs.{Prelude.{◌≡◌}, Option.{option_copied}};
 ghost use Rattle.ms_where.specs.Variables as spec;

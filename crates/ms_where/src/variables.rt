@@ -1,4 +1,4 @@
-//! The debug record of each instruction, found once.
+//! The debug record of each instruction that makes room for a variable or stores to it, found once for all of a text.
 
 ghost use Rattle.std.specs.Prelude.{◌≡◌, ◌+◌, ◌≤◌, ◌<◌, ◌^◌, length, if◌then◌else◌, IfOk, OnOk};
 ghost use Rattle.std.specs.Option.{option_and_then};
@@ -16,7 +16,7 @@ use std::marker::Model;
 /// address, as it is spelled.
 type Records<'a> = HashMap<(usize, &'a [u8]), usize>;
 
-/// The function of the marks that follow this one.
+/// The number of the function of the marks that follow this one: a function's mark stands after those of its lines.
 fn function_after(function: usize, mark: &Mark) -> usize
     requires { function < 2 ^ 63 }
     ensures { result ≡ function + (if spec.is_function mark.now.kind then 1 else 0) }
@@ -72,7 +72,7 @@ fn first_records<'a>(alloc: Global, marked: &MarkedText<'a>) -> Result<Records<'
     Ok(records)
 }
 
-/// The record of what a mark of this function is about.
+/// The place of the record of the variable that a mark of this function is about.
 fn record_for<'a>(
     records: &Records<'a>,
     marked: &MarkedText<'a>,
@@ -88,7 +88,7 @@ fn record_for<'a>(
     }
 }
 
-/// The records of all marks.
+/// Of each mark the place of the record of what it is about, if there is one.
 fn all_records(alloc: Global, marked: &MarkedText<'_>) -> Result<Vec<Option<usize>>, NoMemory>
     ensures { IfOk result (λ records. IsTable marked.now records.items) }
 {
@@ -108,6 +108,7 @@ fn all_records(alloc: Global, marked: &MarkedText<'_>) -> Result<Vec<Option<usiz
 #[derive(Drop)]
 pub struct Variables<'a> {
     marked: MarkedText<'a>,
+    /// Of each mark, the place of the record of what it is about.
     records: Vec<Option<usize>>,
 }
 

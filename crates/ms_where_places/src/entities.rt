@@ -1,4 +1,6 @@
-//! Marks the functions, nodes of metadata and lines of a whole text.
+//! Marks the functions, nodes of metadata and lines of a whole text. `total` is how many tokens the text has, `before` how many
+//! instructions stand in front of a function, `found` the marks so far. An error of a text that reads is want of memory alone
+//! (`OnlyMemory`).
 
 ghost use Rattle.std.specs.Prelude.{◌≡◌, ◌≤◌, ◌<◌, ◌^◌, IfErr, IfOk, IsErr, Ok, true, length};
 ghost use Rattle.ms_lex.specs.{Grammar.{Ends, done, loop, tail}, Tokens.{InOrder}};
@@ -19,7 +21,7 @@ use ms_read_top::{entity, entity_begins, no_parts};
 use ms_text_grammar::{Cause, ModuleSoFar, Symbol};
 use std::alloc::Global;
 
-/// Marks the lines of an entity, whose first token comes next and has this symbol.
+/// Marks the lines of an entity, whose first token comes next and has this symbol: only a function has some.
 #[tactic(auto, using(crate::proofs::Growing::function_inner))]
 fn inner_lines(
     total: usize,
@@ -44,8 +46,7 @@ fn inner_lines(
     }
 }
 
-/// Reads an entity, which the next token begins, and marks its lines and then the entity. `total` is the number of the text's
-/// tokens.
+/// Reads an entity, which the next token begins, and marks its lines and then the entity.
 #[tactic(auto, using(crate::proofs::Growing::entity_adds, crate::proofs::Memory::gave, crate::proofs::Memory::is_only, crate::proofs::Memory::inner_not_read))]
 fn one_entity(
     total: usize,

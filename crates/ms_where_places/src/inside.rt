@@ -1,4 +1,6 @@
-//! Marks the instructions and debug records of one function's text.
+//! Marks the instructions and debug records of one function's text. `total` is how many tokens the text has, `before` how many
+//! instructions stand in front of the function, `found` the marks so far. An error of a text that reads is want of memory alone
+//! (`OnlyMemory`).
 
 ghost use Rattle.std.specs.Prelude.{◌≡◌, ◌++◌, ◌<◌, ◌^◌, IfErr, IfOk, Ok, true};
 ghost use Rattle.ms_lex.specs.Grammar.{Ends, done, loop, tail};
@@ -24,7 +26,7 @@ fn read_line(tokens: &mut Tokens<'_>, form: Form, body: &mut BodySoFar) -> Resul
     line(tokens, form, body)
 }
 
-/// Reads a line, which the next token begins, and marks it. `total` is the number of the text's tokens.
+/// Reads a line, which the next token begins, and marks it, unless it is a label.
 #[tactic(auto, using(crate::proofs::Memory::gave, crate::proofs::Memory::is_only))]
 fn one_line(
     total: usize,
@@ -69,8 +71,7 @@ fn all_lines(
     Ok(())
 }
 
-/// Reads a function after `define` up to the brace after its lines, and marks the lines. The text has so many instructions
-/// before it.
+/// Reads a function after `define` up to the brace after its lines, and marks the lines.
 #[tactic(auto, using(crate::proofs::Growing::function_has, crate::proofs::Memory::heading_not_read, crate::proofs::Memory::lines_not_read))]
 pub fn function_lines(
     total: usize,

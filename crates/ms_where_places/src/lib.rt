@@ -1,4 +1,5 @@
-//! Where the functions, the instructions, the debug records and the nodes of metadata of a text stand.
+//! Where the functions, the instructions, the debug records and the nodes of metadata of a text stand: a `Mark` for each, which
+//! has nothing to do with the mark of inserted instructions. For `--where`.
 #![tactic(auto)]
 
 mod entities;

@@ -1,4 +1,4 @@
-//! A text with its tokens and what stands in it.
+//! A text with its tokens and its marks: what stands at which tokens.
 
 ghost use Rattle.std.specs.Prelude.{◌≡◌, ◌≤◌, IfSome, length, option_copied, slice_get};
 ghost use Rattle.std.specs.Str.{bytes_eq};
@@ -9,7 +9,7 @@ use crate::marks::Mark;
 use ms_lex::Token;
 use std::marker::Model;
 
-/// A text with its tokens and what stands in it. Contracts see the three together.
+/// A text with its tokens and its marks. Contracts see the three together.
 #[derive(Drop)]
 pub struct MarkedText<'a> {
     text: &'a [u8],
@@ -30,7 +30,7 @@ impl<'a> Model for MarkedText<'a> {
 }
 
 impl<'a> MarkedText<'a> {
-    /// A text with its tokens and what stands in it.
+    /// A text with its tokens and its marks.
     pub fn new(text: &'a [u8], tokens: &'a [Token], marks: &'a [Mark]) -> MarkedText<'a>
         requires in_order { InOrder tokens.now (length text.now) }
         ensures { result ≡ record { text = text.now; tokens = tokens.now; marks = marks.now } }
@@ -56,7 +56,7 @@ impl<'a> MarkedText<'a> {
         self.tokens
     }
 
-    /// What stands in the text.
+    /// The marks of the text.
     pub fn marks(&self) -> &'a [Mark]
         ensures { result.now ≡ self.now.marks }
     {

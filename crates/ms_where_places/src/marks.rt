@@ -53,7 +53,7 @@ pub fn entity_kind(symbol: Symbol) -> Option<MarkKind>
     }
 }
 
-/// The number of the next token, counted from 0, of a text of so many.
+/// The number of the next token, counted from 0, of a text of `total` tokens.
 pub fn place(total: usize, tokens: &Tokens<'_>) -> u32
     requires { total < 2 ^ 32 }
     ensures { result ≡ total - length tokens.now }
@@ -61,7 +61,7 @@ pub fn place(total: usize, tokens: &Tokens<'_>) -> u32
     total.saturating_sub(tokens.left()) as u32
 }
 
-/// Adds a mark of this kind, if there is one, from one token up to another.
+/// Adds a mark of this kind, if there is one, from token `first` up to but not including token `after`.
 pub fn push_mark(
     found: &mut Vec<Mark>,
     kind: Option<MarkKind>,

@@ -1,4 +1,6 @@
-//! Accepted words, read by `clap`: they are spelled in one form, in which its result is known for every value.
+//! Accepted words, read by `clap`: they are spelled in one form, in which its result is known for every value. `app_for command`
+//! is the command as it is described to `clap`, each of its options and its files by a rule; `spelled` are the words in that
+//! form, and `matches_of` what `clap` finds in them.
 ghost use Rattle.std.specs.Prelude.{◌≡◌, ◌++◌, ◌∷◌, [], true, false, Some as Held, IfOk, map, option_map, string_bytes};
 ghost use Rattle.clap.specs.Words.{rule_of, app_of, rows_of, found_of, matches_of, takes as takes_words};
 ghost use Rattle.ms_words.specs.ClapForm.{option_rule, files_rule, app_for, spelled, spelled_option, spelled_options};
@@ -10,7 +12,7 @@ use clap::{Arg, ArgAction, ArgMatches};
 use ms_bits::{NoMemory, Text};
 use std::alloc::{AllocError, Global};
 
-/// An option, by its long name.
+/// An option as it is described to `clap`: by its long name, with a value or without.
 fn option_arg<'a>(alloc: Global, option: OptionName) -> Arg<'a>
     ensures rule { rule_of result ≡ option_rule option }
     ensures local { result.global ≡ false }
@@ -24,7 +26,7 @@ fn option_arg<'a>(alloc: Global, option: OptionName) -> Arg<'a>
     }
 }
 
-/// The files, one or more.
+/// The files as they are described to `clap`: one or more.
 fn files_arg<'a>(alloc: Global) -> Arg<'a>
     ensures rule { rule_of result ≡ files_rule }
     ensures local { result.global ≡ false }
@@ -33,7 +35,7 @@ fn files_arg<'a>(alloc: Global) -> Arg<'a>
     Arg::new(alloc, word).num_args(1..)
 }
 
-/// The command of `clap` that reads a command's words.
+/// A command as it is described to `clap`: its options, and its files.
 fn clap_command<'a>(alloc: Global, command: CommandName) -> Result<clap::Command<'a>, NoMemory>
     ensures { IfOk result (λ c. app_of c ≡ app_for command) }
 {

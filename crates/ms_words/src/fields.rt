@@ -1,4 +1,5 @@
-//! The fields of a command, made of the values that `clap` found for its options.
+//! The fields of a command, made of the values that `clap` found for its options: `found` are these. In contracts `first_value`
+//! is the value that was found for an option, and `options_by` and `command_by` are the fields by such values.
 ghost use Rattle.std.specs.{Prelude.{◌≡◌, ◌-◌, ◌^◌, IfOk, unwrap_or, [], codes, map, drop}, Option.{option_map_or}};
 ghost use Rattle.clap.specs.Words.{found_of, first_value};
 ghost use Rattle.ms_words.specs.{Table.{option_word}, Values.{hex_bytes as hex_bytes_of}};
@@ -32,7 +33,7 @@ fn small_number_in(found: &ArgMatches, option: OptionName) -> u32
     number_in(found, option) as u32
 }
 
-/// The number of workers that was found.
+/// The number that `--workers` was found with.
 fn workers_in(found: &ArgMatches) -> u8
     requires { IsNumber 8 (first_value (found_of found.now) (option_word OptionName.Workers)) }
     ensures { result ≡ number_by (first_value (found_of found.now) (option_word OptionName.Workers)) }
@@ -40,7 +41,7 @@ fn workers_in(found: &ArgMatches) -> u8
     number_in(found, OptionName::Workers) as u8
 }
 
-/// The greatest number of runs that was found.
+/// The number that `--schedules` was found with: the greatest number of runs.
 fn runs_in(found: &ArgMatches) -> u32
     requires { IsNumber 1000000 (first_value (found_of found.now) (option_word OptionName.Schedules)) }
     ensures { result ≡ number_by (first_value (found_of found.now) (option_word OptionName.Schedules)) }
@@ -116,7 +117,7 @@ fn no_schedule(alloc: Global) -> Result<Bytes, NoMemory>
     Ok(Bytes::from_vec(vec![in alloc; 0u8]?))
 }
 
-/// The options of a run with this input, this limit of reports and this schedule, by what was found.
+/// The options of a run, by what was found but for the input, the limit of reports and the schedule, which are given.
 fn options_with(
     alloc: Global,
     found: &ArgMatches,
@@ -138,7 +139,7 @@ fn options_with(
     })
 }
 
-/// The options of a run with this limit of reports and this schedule, by what was found.
+/// The options of a run, by what was found but for the limit of reports and the schedule, which are given.
 fn options_in(
     alloc: Global,
     found: &ArgMatches,
@@ -152,7 +153,7 @@ fn options_in(
     options_with(alloc, found, input, reports, schedule)
 }
 
-/// The limit of reports that was found.
+/// The number that `--reports` was found with: the limit of reports.
 fn reports_in(found: &ArgMatches) -> u32
     requires { FitsReports (found_value (found_of found.now)) }
     ensures { result ≡ number_by (found_value (found_of found.now) OptionName.Reports) }
@@ -160,7 +161,7 @@ fn reports_in(found: &ArgMatches) -> u32
     small_number_in(found, OptionName::Reports)
 }
 
-/// The file with the options of a run with this limit of reports and this schedule, by what was found.
+/// The file with the options of a run, by what was found but for the limit of reports and the schedule, which are given.
 fn file_and_options(
     alloc: Global,
     found: &ArgMatches,

@@ -1,4 +1,5 @@
-//! The usage, made from the rows of commands and options, and the version.
+//! The usage, which `help` prints, made from the rows of commands and options; and the version. What is added is added to the
+//! text so far.
 ghost use Rattle.std.specs.Prelude.{◌≡◌, ◌++◌, IfOk, decimal, map};
 ghost use Rattle.ms_words.specs.Table.{default_of, least_files, most_files, options};
 ghost use Rattle.ms_words.specs.Usage.{about_command, about_option, about_topic, value_name, bounds_text, default_text, option_form, first_column, option_about, option_line, option_lines, up_to_column, is_wanted, option_use, option_uses, files_text, inputs_text, synopsis, command_about, command_lines, all_command_lines, topic_words, topic_line, topic_lines, lines_of, commands_text, options_text, statuses, statuses_text, usage as usage_text, version_line};
@@ -31,7 +32,7 @@ static STATUSES: [&str; 11] = [
 ];
 
 impl CommandName {
-    /// What it does.
+    /// What it does, as the usage says.
     fn about(self) -> &'static str
         ensures { result.now ≡ about_command self }
     {
@@ -53,7 +54,7 @@ impl CommandName {
 }
 
 impl OptionName {
-    /// What its value is.
+    /// What its value is, or what it does, as the usage says.
     fn about(self) -> &'static str
         ensures { result.now ≡ about_option self }
     {
@@ -76,7 +77,7 @@ impl OptionName {
 }
 
 impl Topic {
-    /// What the program does where it is asked for.
+    /// What the program does where it is asked for, as the usage says.
     fn about(self) -> &'static str
         ensures { result.now ≡ about_topic self }
     {
@@ -101,7 +102,7 @@ impl Takes {
     }
 }
 
-/// Adds a text.
+/// Adds a text, as bytes.
 fn push_text(text: &mut Vec<u8>, more: &str) -> Result<(), NoMemory>
     ensures { IfOk result (λ _. text.new.items ≡ text.old.items ++ more.now) }
 {
@@ -116,7 +117,7 @@ fn push_number(text: &mut Vec<u8>, number: u64) -> Result<(), NoMemory>
     text.extend_from_slice(buffer.format(number).as_bytes())
 }
 
-/// Adds an option with the name of its value.
+/// Adds an option with the name of its value: `--steps N`.
 fn push_form(text: &mut Vec<u8>, option: OptionName) -> Result<(), NoMemory>
     ensures { IfOk result (λ _. text.new.items ≡ text.old.items ++ option_form option) }
 {
@@ -125,7 +126,7 @@ fn push_form(text: &mut Vec<u8>, option: OptionName) -> Result<(), NoMemory>
     push_text(text, option.takes().value_name())
 }
 
-/// Adds the least and the greatest value.
+/// Adds the least and the greatest value that an option takes.
 fn push_bounds(text: &mut Vec<u8>, takes: Takes) -> Result<(), NoMemory>
     ensures { IfOk result (λ _. text.new.items ≡ text.old.items ++ bounds_text takes) }
 {
@@ -146,7 +147,7 @@ fn push_bounds(text: &mut Vec<u8>, takes: Takes) -> Result<(), NoMemory>
     }
 }
 
-/// Adds the value of an option where it isn't given.
+/// Adds the value that an option has where it isn't given.
 fn push_default(text: &mut Vec<u8>, option: OptionName) -> Result<(), NoMemory>
     ensures { IfOk result (λ _. text.new.items ≡ text.old.items ++ default_text (default_of option)) }
 {
@@ -233,7 +234,7 @@ fn push_uses(
     Ok(())
 }
 
-/// The files of a command.
+/// The files that a command takes, as the usage names them.
 fn files_of(command: CommandName) -> &'static str
     ensures { result.now ≡ files_text (most_files command) }
 {
@@ -332,7 +333,7 @@ fn push_topics(text: &mut Vec<u8>, topics: &[Topic]) -> Result<(), NoMemory>
     Ok(())
 }
 
-/// Adds lines.
+/// Adds texts as lines.
 fn push_lines(text: &mut Vec<u8>, lines: &[&str]) -> Result<(), NoMemory>
     ensures { IfOk result (λ _. text.new.items ≡ text.old.items ++ lines_of (map (λ l. l.now) lines.now)) }
 {
@@ -343,7 +344,7 @@ fn push_lines(text: &mut Vec<u8>, lines: &[&str]) -> Result<(), NoMemory>
     Ok(())
 }
 
-/// Adds the part on commands.
+/// Adds the part of the usage on commands.
 fn push_commands_text(text: &mut Vec<u8>) -> Result<(), NoMemory>
     ensures { IfOk result (λ _. text.new.items ≡ text.old.items ++ commands_text) }
 {
@@ -362,7 +363,7 @@ fn push_all_options(alloc: Global, text: &mut Vec<u8>) -> Result<(), NoMemory>
     push_options(alloc, text, &OPTIONS)
 }
 
-/// Adds the part on options.
+/// Adds the part of the usage on options.
 fn push_options_text(alloc: Global, text: &mut Vec<u8>) -> Result<(), NoMemory>
     ensures { IfOk result (λ _. text.new.items ≡ text.old.items ++ options_text) }
 {
@@ -377,7 +378,7 @@ fn push_statuses(text: &mut Vec<u8>) -> Result<(), NoMemory>
     push_lines(text, &STATUSES)
 }
 
-/// Adds the part on statuses.
+/// Adds the part of the usage on statuses.
 fn push_statuses_text(text: &mut Vec<u8>) -> Result<(), NoMemory>
     ensures { IfOk result (λ _. text.new.items ≡ text.old.items ++ statuses_text) }
 {

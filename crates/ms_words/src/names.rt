@@ -1,9 +1,10 @@
-//! The names of commands and of their options: one row each.
+//! The names of commands and of their options, and what each takes: one row each, from which words are read and the usage is
+//! made.
 ghost use Rattle.std.specs.Prelude.{◌≡◌, ◌&&◌, not, find, option_map};
 ghost use Rattle.ms_words.specs.Table.{commands, command_word, default_of, option_word, options_of, wanted_of, wanted_with_workers, excluded_by, takes as takes_of, least_files as least_files_of, most_files as most_files_of};
 ghost use Rattle.ms_words.specs.{Reading.{same, takes_nothing}, Usage.{is_wanted}};
 
-/// A command.
+/// A command, by its word. What each does says the usage.
 #[derive(Clone, Copy)]
 pub enum CommandName {
     Instrument,
@@ -14,7 +15,7 @@ pub enum CommandName {
     Gen,
 }
 
-/// An option of a command.
+/// An option of a command, by its word: `--input` and so on. What each is says the usage.
 #[derive(Clone, Copy)]
 pub enum OptionName {
     Input,
@@ -26,6 +27,7 @@ pub enum OptionName {
     Workers,
     Seed,
     Functions,
+    /// `--run` of `gen`, which checks the module.
     Run,
     Where,
 }
@@ -68,8 +70,10 @@ pub static OPTIONS: [OptionName; 11] = [
     OptionName::Where,
 ];
 
+/// The options of a command that has none, or must have none.
 static NO_OPTIONS: [OptionName; 0] = [];
 
+/// The options that `run` may have.
 static RUN_OPTIONS: [OptionName; 6] = [
     OptionName::Input,
     OptionName::Fill,
@@ -79,6 +83,7 @@ static RUN_OPTIONS: [OptionName; 6] = [
     OptionName::Where,
 ];
 
+/// The options that `check` may have.
 static CHECK_OPTIONS: [OptionName; 8] = [
     OptionName::Input,
     OptionName::Fill,
@@ -90,6 +95,7 @@ static CHECK_OPTIONS: [OptionName; 8] = [
     OptionName::Where,
 ];
 
+/// The options that `explain` may have.
 static EXPLAIN_OPTIONS: [OptionName; 4] = [
     OptionName::Input,
     OptionName::Fill,
@@ -97,6 +103,7 @@ static EXPLAIN_OPTIONS: [OptionName; 4] = [
     OptionName::Where,
 ];
 
+/// The options that `corpus` may have.
 static CORPUS_OPTIONS: [OptionName; 5] = [
     OptionName::Workers,
     OptionName::Fill,
@@ -105,10 +112,13 @@ static CORPUS_OPTIONS: [OptionName; 5] = [
     OptionName::Where,
 ];
 
+/// The options that `gen` may have.
 static GEN_OPTIONS: [OptionName; 3] = [OptionName::Seed, OptionName::Functions, OptionName::Run];
 
+/// Those that it must have.
 static GEN_WANTED: [OptionName; 2] = [OptionName::Seed, OptionName::Functions];
 
+/// Those that `check` must have beside a number of workers.
 static CHECK_WANTED: [OptionName; 1] = [OptionName::Schedules];
 
 impl CommandName {
@@ -185,7 +195,7 @@ impl CommandName {
             .any(|wanted| wanted.word() == option.word())
     }
 
-    /// How many files it has at least.
+    /// How many files it has at least: a corpus has a module and an input.
     pub fn least_files(self) -> usize
         ensures { result ≡ least_files_of self }
     {
@@ -196,7 +206,7 @@ impl CommandName {
         }
     }
 
-    /// How many files it has at most.
+    /// How many files it has at most: a corpus has a module and up to 256 inputs.
     pub fn most_files(self) -> usize
         ensures { result ≡ most_files_of self }
     {

@@ -1,4 +1,6 @@
-//! The words after the command, read from left to right to the first fault.
+//! The words after the command, read from left to right to the first fault. `place` is the place of a word among all words,
+//! counted from 0. `Answers outcome result given`: a reader returns what may come next, or the fault, and leaves what is given so
+//! far.
 ghost use Rattle.std.specs.Prelude.{◌≡◌, ◌+◌, ◌<◌, ◌^◌, ◌&&◌, IfOk, MatchResult, Ok as Fine, Err as Wrong, length, option_map};
 ghost use Rattle.std.specs.List.{list_all};
 ghost use Rattle.ms_words.specs.{Table.{takes as takes_of}, Words.{value_of}};
@@ -26,6 +28,7 @@ pub enum Next {
 /// What the words so far have given, in their order.
 #[derive(Drop)]
 pub struct Accepted {
+    /// Each option with its value, which is empty where it takes none.
     options: Vec<(OptionName, Text)>,
     files: Vec<Text>,
 }
@@ -62,7 +65,7 @@ impl Accepted {
         false
     }
 
-    /// Whether one is given that the option can't stand beside.
+    /// Whether an option is given that this one can't stand beside.
     fn excludes(&self, option: OptionName) -> bool
         ensures { result ≡ is_excluded option self.now }
     {
@@ -101,7 +104,7 @@ impl Accepted {
         }
     }
 
-    /// The option has this value.
+    /// Adds an option with this value to those that are given.
     fn add_option(&mut self, alloc: Global, option: OptionName, value: &str) -> Result<(), NoMemory>
         ensures { IfOk result (λ _. self.new ≡ with_option option value.now self.old) }
     {
@@ -109,7 +112,7 @@ impl Accepted {
         Ok(())
     }
 
-    /// The value of an option, which must have no fault.
+    /// Reads the value of an option, which must have no fault; the word at `place` has it.
     fn read_value(
         &mut self,
         alloc: Global,
@@ -126,7 +129,7 @@ impl Accepted {
         Ok(Next::AnOption)
     }
 
-    /// An option that wasn't given before, with the value after `=` where there is one.
+    /// Reads an option that wasn't given before, with the value after `=` where there is one.
     fn begin_option(
         &mut self,
         alloc: Global,
@@ -149,7 +152,7 @@ impl Accepted {
         }
     }
 
-    /// The option that a word names, if there is one.
+    /// Reads the option that a word names, if there is one: it must be known, not given before, and not excluded.
     fn read_known(
         &mut self,
         alloc: Global,
@@ -173,7 +176,7 @@ impl Accepted {
         }
     }
 
-    /// What follows two dashes.
+    /// Reads what follows two dashes: an option's name, with or without `=` and a value.
     fn read_option(
         &mut self,
         alloc: Global,
@@ -195,7 +198,7 @@ impl Accepted {
         }
     }
 
-    /// One more file.
+    /// Adds a file to those that are given.
     fn add_file(&mut self, alloc: Global, word: &str) -> Result<(), NoMemory>
         ensures { IfOk result (λ _. self.new ≡ with_file word.now self.old) }
     {
@@ -203,7 +206,7 @@ impl Accepted {
         Ok(())
     }
 
-    /// A file, unless the command has all of its files.
+    /// Reads a word as a file, unless the command has all of its files.
     fn read_file(
         &mut self,
         alloc: Global,
@@ -221,7 +224,7 @@ impl Accepted {
         }
     }
 
-    /// A word that isn't `--`, where options haven't ended: a file, `-` too, or an option.
+    /// Reads a word that isn't `--`, where options haven't ended: a file, `-` too, or an option.
     fn read_plain(
         &mut self,
         alloc: Global,
@@ -243,7 +246,7 @@ impl Accepted {
         }
     }
 
-    /// The word at a place, by what may come there; then what may come after it.
+    /// Reads the word at a place, by what may come there, and gives what may come after it.
     fn read_word(
         &mut self,
         alloc: Global,
@@ -280,7 +283,7 @@ impl Accepted {
         true
     }
 
-    /// What is missing where the words end, first an option.
+    /// What the words have given, or what is missing where they end, first an option.
     fn end_words(self, command: CommandName, place: u32) -> Result<Accepted, WordsError>
         ensures { result ≡ end_words_of command place self }
     {
@@ -304,7 +307,7 @@ impl Accepted {
     }
 }
 
-/// The words after the command.
+/// Reads the words after the command: what they give, or the first fault.
 #[tactic(auto, using(crate::proofs::Placing::first_place, crate::proofs::Placing::next_place))]
 pub fn accept(alloc: Global, command: CommandName, words: &[Text]) -> Result<Accepted, WordsError>
     ensures { AnswersAll (read_words_from command Next.AnOption 1 nothing words.now) result }

@@ -14,6 +14,7 @@ pub enum Topic {
     Version,
 }
 
+/// The topics, in the order of the usage.
 pub static TOPICS: [Topic; 2] = [Topic::Help, Topic::Version];
 
 impl Topic {
@@ -67,7 +68,7 @@ impl Topic {
         }
     }
 
-    /// The command.
+    /// The command that answers it.
     pub fn command(self) -> Command
         ensures command { result ≡ asked self }
         ensures limits { IsWithinLimits result }

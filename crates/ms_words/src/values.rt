@@ -77,7 +77,7 @@ pub fn hex_bytes(alloc: Global, word: &[u8]) -> Result<Vec<u8>, NoMemory>
     Ok(bytes)
 }
 
-/// What is wrong with a number that is to be within these.
+/// What is wrong with a number that is to be from `least` to `most`.
 fn number_fault(least: u64, most: u64, place: u32, value: &str) -> Option<WordsError>
     ensures { result ≡ value_fault_of (Number least most) place value.now }
 {
@@ -109,7 +109,7 @@ fn hex_fault(most: usize, place: u32, value: &str) -> Option<WordsError>
     None
 }
 
-/// What is wrong with the value of an option at a place.
+/// What is wrong with the value of an option, by what the option takes; the word at `place` has it.
 pub fn value_fault(takes: Takes, place: u32, value: &str) -> Option<WordsError>
     ensures { result ≡ value_fault_of takes place value.now }
 {

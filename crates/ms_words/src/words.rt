@@ -1,4 +1,5 @@
-//! The public call that reads the words of the command line: a command, or the first fault.
+//! The public call that reads the words of the command line: a command, or the first fault. They are judged here, and what is
+//! accepted is read once more by `clap`.
 ghost use Rattle.std.specs.Prelude.{◌≡◌, IfOk};
 ghost use Rattle.ms_words.specs.{Words.{IsAnswer, command_given}, Limits.{IsWithinLimits}, Accepted.{Whole}};
 
@@ -26,15 +27,14 @@ fn with_fields(
     command_in(alloc, command, &found)
 }
 
-/// The command that the words ask for: `words` are those after the program's name, the first names the command. Its
-/// fields are within their limits. After `help`, `--help`, `-h`, `version`, `--version` or `-V` as the first word all
-/// others are ignored.
+/// The command that the words ask for: `words` are those after the program's name, the first names the command. Its fields are
+/// within their limits. After `help`, `--help`, `-h`, `version`, `--version` or `-V` as the first word all others are ignored.
 ///
 /// # Errors
 ///
 /// The first fault from left to right, with its place; at one option first that it isn't known, then that it is repeated, that
-/// another one excludes it, that its value is missing, that this is no number or no hexadecimal digits, and that it is out of range. Or
-/// `NoMemory`, where it runs out of memory.
+/// another one excludes it, that its value is missing, that this is no number or no hexadecimal digits, and that it is out of
+/// range. Or `NoMemory`, where it runs out of memory.
 pub fn read_words(alloc: Global, words: &[Text]) -> Result<Command, WordsError>
     ensures answer { IsAnswer words.now result }
     ensures limits { IfOk result IsWithinLimits }

@@ -1,4 +1,5 @@
-//! Writes functions with their blocks (LLVM Language Reference, "Functions").
+//! Writes functions with their blocks (LLVM Language Reference, "Functions"). `dotted` says whether calls of `printf` are written
+//! with `(ptr, ...)`.
 ghost use Rattle.std.specs.Prelude.{◌≡◌, [], ◌∷◌, ◌++◌, IfOk, codes, flat_map, map};
 ghost use Rattle.ms_text_grammar.specs.LayoutModules.{parameter_tokens, head_line, entry_label, body_lines, block_lines, blocks_lines, function_lines};
 ghost use Rattle.ms_text_grammar.specs.LayoutNames.{global_token};
@@ -11,7 +12,7 @@ use ms_bits::NoMemory;
 use ms_ir::{Block, Func, Name, Ty};
 use ms_write_values::Writer;
 
-/// Writes a parameter's name after its type.
+/// Writes a parameter: its type and its name.
 #[tactic(auto, using(ms_write_values::proofs::Puts::put_append))]
 fn write_parameter(writer: &mut Writer, parameter: &(Ty, Name)) -> Result<(), NoMemory>
     ensures { IfOk result (λ _. writer.new ≡ put writer.old (parameter_tokens parameter.now)) }
@@ -57,7 +58,7 @@ fn write_parameter_list(writer: &mut Writer, parameters: &[(Ty, Name)]) -> Resul
     writer.token(b")")
 }
 
-/// Writes the tokens of the head of a function.
+/// Writes the tokens of the head of a function, from `define` to `{`.
 #[tactic(auto, using(ms_write_values::proofs::Puts::put_append))]
 fn write_head(writer: &mut Writer, func: &Func) -> Result<(), NoMemory>
     ensures { IfOk result (λ _. writer.new ≡ put writer.old (word (codes "define") ∷ (result_tokens func.now.ret ++ global_token func.now.name ∷ (enclosed (codes "(") (codes ")") (map parameter_tokens func.now.params) ++ sign (codes "{") ∷ [])))) }
@@ -69,7 +70,7 @@ fn write_head(writer: &mut Writer, func: &Func) -> Result<(), NoMemory>
     writer.token(b"{")
 }
 
-/// Writes the head of a function.
+/// Writes the head of a function in a line of its own.
 #[tactic(auto, unfolding(ms_text_grammar::specs::LayoutModules::head_line))]
 fn write_head_line(writer: &mut Writer, func: &Func) -> Result<(), NoMemory>
     ensures { IfOk result (λ _. writer.new ≡ put_line writer.old (head_line func.now)) }
@@ -143,7 +144,7 @@ fn write_last_line(writer: &mut Writer) -> Result<(), NoMemory>
     writer.end_line()
 }
 
-/// Writes a function; `dotted` says whether calls of `printf` have three dots.
+/// Writes a function: its head, its blocks, and the last line.
 #[tactic(auto, using(ms_write_values::proofs::Puts::put_lines_append), unfolding(ms_text_grammar::specs::LayoutModules::function_lines))]
 pub fn write_function_lines(writer: &mut Writer, dotted: bool, func: &Func) -> Result<(), NoMemory>
     ensures { IfOk result (λ _. writer.new ≡ put_lines writer.old (function_lines dotted func.now)) }

@@ -1,4 +1,4 @@
-//! The writer: modules as the text of their layout.
+//! The writer of modules, whose text `instrument` and `gen` print: line by line, of the tokens that `ms_write_values` writes.
 #![tactic(auto)]
 
 mod functions;

@@ -42,7 +42,7 @@ fn is_dotted(decl: &Decl) -> bool
     names_printf(&decl.name) && gives_i32(&decl.ret) && is_one_pointer(decl.params.as_slice())
 }
 
-/// Whether calls of `printf` are written with dots: such a one is declared.
+/// Whether calls of `printf` are written with `(ptr, ...)`: it is declared, with `...`.
 #[tactic(auto, unfolding(ms_text_grammar::specs::LayoutModules::has_dots))]
 fn has_dots(m: &Module) -> bool
     ensures { result ≡ has_dots_of m.now }
@@ -75,13 +75,14 @@ fn has_mark(m: &Module) -> bool
     m.funcs.as_slice().iter().any(|func| has_mark_in(func))
 }
 
-/// The word of a global.
+/// The word that says whether a global is constant.
 fn global_word(constant: bool) -> &'static [u8]
     ensures { result.now ≡ global_word_of constant }
 {
     if constant { b"constant" } else { b"global" }
 }
 
+/// Writes a named type in a line of its own.
 #[tactic(auto, unfolding(ms_text_grammar::specs::LayoutModules::type_line))]
 fn write_type_line(writer: &mut Writer, named: &(Name, Ty)) -> Result<(), NoMemory>
     ensures { IfOk result (λ _. writer.new ≡ put_line writer.old (type_line named.now)) }
@@ -94,6 +95,7 @@ fn write_type_line(writer: &mut Writer, named: &(Name, Ty)) -> Result<(), NoMemo
     writer.end_line()
 }
 
+/// Writes named types, a line each.
 fn write_type_lines(writer: &mut Writer, types: &[(Name, Ty)]) -> Result<(), NoMemory>
     ensures { IfOk result (λ _. writer.new ≡ put_lines writer.old (map type_line types.now)) }
 {
@@ -115,6 +117,7 @@ fn write_global(writer: &mut Writer, global: &GlobalVar) -> Result<(), NoMemory>
     writer.init(&global.ty, &global.init)
 }
 
+/// Writes a global in a line of its own.
 #[tactic(auto, unfolding(ms_text_grammar::specs::LayoutModules::global_line))]
 fn write_global_line(writer: &mut Writer, global: &GlobalVar) -> Result<(), NoMemory>
     ensures { IfOk result (λ _. writer.new ≡ put_line writer.old (global_line global.now)) }
@@ -124,6 +127,7 @@ fn write_global_line(writer: &mut Writer, global: &GlobalVar) -> Result<(), NoMe
     writer.end_line()
 }
 
+/// Writes globals, a line each.
 fn write_global_lines(writer: &mut Writer, globals: &[GlobalVar]) -> Result<(), NoMemory>
     ensures { IfOk result (λ _. writer.new ≡ put_lines writer.old (map global_line globals.now)) }
 {
@@ -166,6 +170,7 @@ fn write_declaration(writer: &mut Writer, decl: &Decl) -> Result<(), NoMemory>
     write_parameter_types(writer, decl)
 }
 
+/// Writes a declaration in a line of its own.
 #[tactic(auto, unfolding(ms_text_grammar::specs::LayoutModules::declaration_line))]
 fn write_declaration_line(writer: &mut Writer, decl: &Decl) -> Result<(), NoMemory>
     ensures { IfOk result (λ _. writer.new ≡ put_line writer.old (declaration_line decl.now)) }
@@ -175,6 +180,7 @@ fn write_declaration_line(writer: &mut Writer, decl: &Decl) -> Result<(), NoMemo
     writer.end_line()
 }
 
+/// Writes declarations, a line each.
 fn write_declaration_lines(writer: &mut Writer, decls: &[Decl]) -> Result<(), NoMemory>
     ensures { IfOk result (λ _. writer.new ≡ put_lines writer.old (map declaration_line decls.now)) }
 {
@@ -184,6 +190,7 @@ fn write_declaration_lines(writer: &mut Writer, decls: &[Decl]) -> Result<(), No
     Ok(())
 }
 
+/// Writes functions one after the other; `dotted` says whether calls of `printf` are written with `(ptr, ...)`.
 #[tactic(auto, using(ms_write_values::proofs::Puts::put_lines_append))]
 fn write_functions(writer: &mut Writer, dotted: bool, funcs: &[Func]) -> Result<(), NoMemory>
     ensures { IfOk result (λ _. writer.new ≡ put_lines writer.old (flat_map (function_lines dotted) funcs.now)) }
@@ -194,6 +201,7 @@ fn write_functions(writer: &mut Writer, dotted: bool, funcs: &[Func]) -> Result<
     Ok(())
 }
 
+/// Writes the lines of a module: types, globals, declarations, functions.
 #[tactic(auto, using(ms_write_values::proofs::Puts::put_lines_append), unfolding(ms_text_grammar::specs::LayoutModules::module_lines))]
 fn write_module_lines(writer: &mut Writer, m: &Module) -> Result<(), NoMemory>
     ensures { IfOk result (λ _. writer.new ≡ put_lines writer.old (module_lines m.now)) }
@@ -204,7 +212,7 @@ fn write_module_lines(writer: &mut Writer, m: &Module) -> Result<(), NoMemory>
     write_functions(writer, has_dots(m), m.funcs.as_slice())
 }
 
-/// Writes the metadata that every mark names.
+/// Writes the node of metadata that every mark names, if some instruction is marked.
 #[tactic(auto, unfolding(ms_text_grammar::specs::LayoutModules::mark_pieces))]
 fn write_marks(writer: &mut Writer, marked: bool) -> Result<(), NoMemory>
     ensures { IfOk result (λ _. writer.new ≡ grown writer.old (render (mark_pieces marked))) }

@@ -1,4 +1,4 @@
-//! Writes what instructions do (LLVM Language Reference, "Instruction Reference").
+//! Writes what instructions do (LLVM Language Reference, "Instruction Reference"), up to what is attached.
 ghost use Rattle.std.specs.Prelude.{◌≡◌, ◌&&◌, Bool, [], ◌∷◌, ◌++◌, IfOk, codes, flat_map, map};
 ghost use Rattle.ms_text_grammar.specs.Types.{int_width, is_width};
 ghost use Rattle.ms_text_grammar.specs.Insts.{is_i32 as is_i32_result, names_printf as names_printf_of};
@@ -76,6 +76,7 @@ fn write_target(writer: &mut Writer, to: &Name) -> Result<(), NoMemory>
     writer.local(to)
 }
 
+/// Writes a binary operation.
 #[tactic(auto, using(ms_write_values::proofs::Puts::put_append))]
 fn write_binary(
     writer: &mut Writer,
@@ -92,6 +93,7 @@ fn write_binary(
     writer.two(ty, a, b)
 }
 
+/// Writes an `icmp`.
 #[tactic(auto, using(ms_write_values::proofs::Puts::put_append))]
 fn write_icmp(
     writer: &mut Writer,
@@ -109,6 +111,7 @@ fn write_icmp(
     writer.two(ty, a, b)
 }
 
+/// Writes a cast.
 #[tactic(auto, using(ms_write_values::proofs::Puts::put_append))]
 fn write_cast(
     writer: &mut Writer,
@@ -127,6 +130,7 @@ fn write_cast(
     writer.ty(to)
 }
 
+/// Writes a `select`.
 #[tactic(auto, using(ms_write_values::proofs::Puts::put_append))]
 fn write_select(
     writer: &mut Writer,
@@ -145,6 +149,7 @@ fn write_select(
     writer.typed(ty, b)
 }
 
+/// Writes a `freeze`.
 #[tactic(auto, using(ms_write_values::proofs::Puts::put_append))]
 fn write_freeze(writer: &mut Writer, ty: &Ty, a: &Operand) -> Result<(), NoMemory>
     ensures { IfOk result (λ _. writer.new ≡ put writer.old (word (codes "freeze") ∷ typed_tokens ty.now a.now)) }
@@ -192,6 +197,7 @@ fn write_edges(writer: &mut Writer, ty: &Ty, edges: &[(Operand, Name)]) -> Resul
     Ok(())
 }
 
+/// Writes a phi.
 #[tactic(auto, using(ms_write_values::proofs::Puts::put_append))]
 fn write_phi(writer: &mut Writer, ty: &Ty, edges: &[(Operand, Name)]) -> Result<(), NoMemory>
     ensures { IfOk result (λ _. writer.new ≡ put writer.old (word (codes "phi") ∷ (type_tokens ty.now ++ with_commas (map (edge_tokens ty.now) edges.now)))) }
@@ -201,7 +207,7 @@ fn write_phi(writer: &mut Writer, ty: &Ty, edges: &[(Operand, Name)]) -> Result<
     write_edges(writer, ty, edges)
 }
 
-/// Writes the count of an `alloca` after a comma. That of one item isn't written where its type is `i32`.
+/// Writes the count of an `alloca` and its type after a comma. The count `i32 1` isn't written.
 #[tactic(auto, using(ms_write_values::proofs::Puts::put_append))]
 fn write_item_count(writer: &mut Writer, ty: &Ty, count: &Operand) -> Result<(), NoMemory>
     ensures { IfOk result (λ _. writer.new ≡ put writer.old (after_commas (count_tokens ty.now count.now))) }
@@ -213,6 +219,7 @@ fn write_item_count(writer: &mut Writer, ty: &Ty, count: &Operand) -> Result<(),
     Ok(())
 }
 
+/// Writes an `alloca`.
 #[tactic(auto, using(ms_write_values::proofs::Puts::put_append))]
 fn write_alloca(
     writer: &mut Writer,
@@ -227,6 +234,7 @@ fn write_alloca(
     write_item_count(writer, count_ty, count)
 }
 
+/// Writes a `load`.
 #[tactic(auto, using(ms_write_values::proofs::Puts::put_append))]
 fn write_load(writer: &mut Writer, ty: &Ty, address: &Operand) -> Result<(), NoMemory>
     ensures { IfOk result (λ _. writer.new ≡ put writer.old (word (codes "load") ∷ with_commas (type_tokens ty.now ∷ address_tokens address.now ∷ []))) }
@@ -237,6 +245,7 @@ fn write_load(writer: &mut Writer, ty: &Ty, address: &Operand) -> Result<(), NoM
     write_address(writer, address)
 }
 
+/// Writes a `store`.
 #[tactic(auto, using(ms_write_values::proofs::Puts::put_append))]
 fn write_store(
     writer: &mut Writer,
@@ -252,6 +261,7 @@ fn write_store(
     write_address(writer, address)
 }
 
+/// Writes a `getelementptr`.
 #[tactic(auto, using(ms_write_values::proofs::Puts::put_append))]
 fn write_gep(
     writer: &mut Writer,
@@ -298,6 +308,7 @@ fn write_arguments(writer: &mut Writer, args: &[(Ty, Operand)]) -> Result<(), No
     writer.token(b")")
 }
 
+/// Writes a call; `dotted` says whether one of `printf` has `(ptr, ...)`.
 #[tactic(auto, using(ms_write_values::proofs::Puts::put_append))]
 fn write_call(
     writer: &mut Writer,
@@ -315,6 +326,7 @@ fn write_call(
     write_arguments(writer, args)
 }
 
+/// Writes a `br` without a condition.
 #[tactic(auto, using(ms_write_values::proofs::Puts::put_append))]
 fn write_branch(writer: &mut Writer, to: &Name) -> Result<(), NoMemory>
     ensures { IfOk result (λ _. writer.new ≡ put writer.old (word (codes "br") ∷ target_tokens to.now)) }
@@ -323,6 +335,7 @@ fn write_branch(writer: &mut Writer, to: &Name) -> Result<(), NoMemory>
     write_target(writer, to)
 }
 
+/// Writes a `br` on a condition.
 #[tactic(auto, using(ms_write_values::proofs::Puts::put_append))]
 fn write_branch_on(
     writer: &mut Writer,
@@ -372,6 +385,7 @@ fn write_case_list(writer: &mut Writer, ty: &Ty, cases: &[(u64, Name)]) -> Resul
     writer.token(b"]")
 }
 
+/// Writes a `switch`.
 #[tactic(auto, using(ms_write_values::proofs::Puts::put_append))]
 fn write_switch(
     writer: &mut Writer,
@@ -389,6 +403,7 @@ fn write_switch(
     write_case_list(writer, ty, cases)
 }
 
+/// Writes a `ret`, of a value or `void`.
 fn write_ret(writer: &mut Writer, value: &Option<(Ty, Operand)>) -> Result<(), NoMemory>
     ensures { IfOk result (λ _. writer.new ≡ put writer.old (word (codes "ret") ∷ returned_tokens value.now)) }
 {
@@ -399,7 +414,7 @@ fn write_ret(writer: &mut Writer, value: &Option<(Ty, Operand)>) -> Result<(), N
     }
 }
 
-/// Writes an operation, a comparison, a cast, a choice or a `freeze`.
+/// Writes a binary operation, an `icmp`, a cast, a `select` or a `freeze`.
 #[tactic(auto, unfolding(ms_text_grammar::specs::LayoutInsts::op_tokens))]
 fn write_computation(writer: &mut Writer, op: &Op) -> Result<(), NoMemory>
     requires { IsComputation op.now }

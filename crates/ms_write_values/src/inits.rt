@@ -9,7 +9,7 @@ use ms_bits::NoMemory;
 use ms_ir::{Init, Ty};
 
 impl Writer {
-    /// Writes the initialiser of a type, which isn't written.
+    /// Writes the initialiser of a type; the type isn't written.
     #[cycle(inits)]
     pub fn init(&mut self, ty: &Ty, init: &Init) -> Result<(), NoMemory>
         ensures { IfOk result (λ _. self.new ≡ put self.old (init_tokens ty.now init.now)) }
@@ -23,6 +23,7 @@ impl Writer {
         }
     }
 
+    /// Writes the items of an array between brackets.
     #[cycle(inits)]
     #[tactic(auto, using(crate::proofs::Puts::put_append))]
     fn array_items(&mut self, items: &[(Ty, Init)]) -> Result<(), NoMemory>
@@ -33,6 +34,7 @@ impl Writer {
         self.token(b"]")
     }
 
+    /// Writes the fields of a struct, which may be packed, between braces.
     #[cycle(inits)]
     #[tactic(auto, using(crate::proofs::Puts::put_struct))]
     fn struct_items(&mut self, packed: bool, fields: &[(Ty, Init)]) -> Result<(), NoMemory>

@@ -1,4 +1,5 @@
 //! What lines of a module's text are made of: names, numbers, types, values, initialisers and words, each written token by token.
+//! `put before tokens` is the text before with these tokens after it, and spaces between where they stand.
 #![tactic(auto)]
 
 mod inits;

@@ -8,7 +8,7 @@ use crate::writer::Writer;
 use ms_bits::NoMemory;
 use ms_bits::words::limit;
 
-/// How far below zero a word of so many bits is as a signed number. `None` where it isn't.
+/// How far below zero a word of so many bits is as a signed number; none where it isn't.
 fn below_zero(width: u8, value: u64) -> Option<u64>
     ensures { signed_text (signed width value) ≡ signed_digits value result }
 {

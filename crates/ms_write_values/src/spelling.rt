@@ -15,7 +15,7 @@ fn is_printed(byte: u8) -> bool
     byte > 31 && byte < 127 && byte != b'"' && byte != b'\\'
 }
 
-/// A hexadecimal digit, in upper case.
+/// A hexadecimal digit, in upper case: 48 is `0`, and 55 is `A` less 10.
 fn hexadecimal_digit(digit: u8) -> u8
     requires { digit < 16 }
     ensures { result ≡ hexadecimal_digit_of digit }
@@ -23,6 +23,7 @@ fn hexadecimal_digit(digit: u8) -> u8
     if digit < 10 { 48 + digit } else { 55 + digit }
 }
 
+/// Whether each byte may stand in a name without quotes.
 fn are_name_bytes(bytes: &[u8]) -> bool
     ensures { result ≡ list_all is_name_byte_of bytes.now }
 {
@@ -39,7 +40,7 @@ fn is_plain(bytes: &[u8]) -> bool
     }
 }
 
-/// Adds a byte of a string to a text: itself, or a backslash and two digits.
+/// Adds a byte of a string to a text: itself, or a backslash and two hexadecimal digits.
 #[tactic(auto, unfolding(ms_text_grammar::specs::LayoutNames::string_byte))]
 fn push_string_byte(text: &mut Vec<u8>, byte: u8) -> Result<(), NoMemory>
     ensures { IfOk result (λ _. text.new.items ≡ text.old.items ++ string_byte_of byte) }

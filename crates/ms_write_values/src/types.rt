@@ -9,7 +9,7 @@ use ms_bits::NoMemory;
 use ms_ir::Ty;
 
 impl Writer {
-    /// Writes an integer type by its digits.
+    /// Writes an integer type, `i` (105) and the digits of its width.
     fn any_int_type(&mut self, width: u8) -> Result<(), NoMemory>
         ensures { IfOk result (λ _. self.new ≡ put self.old (word (105 ∷ decimal width) ∷ [])) }
     {
@@ -17,7 +17,7 @@ impl Writer {
         self.digits(width as u64)
     }
 
-    /// Writes an integer type, those that most texts have at once.
+    /// Writes an integer type; the widths that most texts have are written at once.
     fn int_type(&mut self, width: u8) -> Result<(), NoMemory>
         ensures { IfOk result (λ _. self.new ≡ put self.old (word (105 ∷ decimal width) ∷ [])) }
     {
@@ -41,7 +41,7 @@ impl Writer {
         self.token(b"{")
     }
 
-    /// Writes what closes it.
+    /// Writes what closes a struct, which may be packed.
     pub fn close_struct(&mut self, packed: bool) -> Result<(), NoMemory>
         ensures { IfOk result (λ _. self.new ≡ put self.old (close_tokens packed)) }
     {
@@ -66,6 +66,7 @@ impl Writer {
         }
     }
 
+    /// Writes the type of an array of so many items.
     #[cycle(types)]
     #[tactic(auto, using(crate::proofs::Puts::put_append))]
     fn array_type(&mut self, count: u64, item: &Ty) -> Result<(), NoMemory>
@@ -78,6 +79,7 @@ impl Writer {
         self.token(b"]")
     }
 
+    /// Writes the type of a struct, which may be packed, with these fields.
     #[cycle(types)]
     #[tactic(auto, using(crate::proofs::Puts::put_struct))]
     fn struct_type(&mut self, packed: bool, fields: &[Ty]) -> Result<(), NoMemory>

@@ -1,4 +1,5 @@
-//! Writes values after their types (LLVM Language Reference, "Constants").
+//! Writes values after their types (LLVM Language Reference, "Constants"). A step is one constant `getelementptr`: its type and
+//! its indices.
 ghost use Rattle.std.specs.Prelude.{◌≡◌, ◌∷◌, IfOk, codes, map};
 ghost use Rattle.ms_text_grammar.specs.{LayoutNames.{global_token}, LayoutPieces.{after_commas, with_commas, word}};
 ghost use Rattle.ms_text_grammar.specs.LayoutTypes.{type_tokens};
@@ -31,7 +32,8 @@ impl Writer {
         Ok(())
     }
 
-    /// Writes what stands between the parentheses of a constant `getelementptr`.
+    /// Writes what stands between the parentheses of a constant `getelementptr`: the type that it steps through, its base, which
+    /// is what the inner steps lead to, and its indices.
     #[cycle(addresses)]
     #[tactic(auto, using(crate::proofs::Puts::put_append))]
     fn step_parts(
@@ -49,7 +51,8 @@ impl Writer {
         self.constant_indices(step.1.as_slice())
     }
 
-    /// Writes a constant `getelementptr`, within which others may stand.
+    /// Writes the constant `getelementptr` of a step: its base is the address to which the inner steps lead from the global
+    /// `base`.
     #[cycle(addresses)]
     #[tactic(auto, using(crate::proofs::Puts::put_append), unfolding(ms_text_grammar::specs::LayoutValues::offset_tokens))]
     fn step(
@@ -77,7 +80,7 @@ impl Writer {
         }
     }
 
-    /// Writes a value of a type, which isn't written.
+    /// Writes a value of a type; the type isn't written.
     #[tactic(auto, unfolding(ms_text_grammar::specs::LayoutValues::value_tokens))]
     pub fn value(&mut self, ty: &Ty, operand: &Operand) -> Result<(), NoMemory>
         ensures { IfOk result (λ _. self.new ≡ put self.old (value_tokens ty.now operand.now)) }

@@ -1,4 +1,4 @@
-//! Writes the words of operations, and those of their flags.
+//! The words of operations, and the flags after them.
 ghost use Rattle.std.specs.Prelude.{◌≡◌, IfOk, codes};
 ghost use Rattle.ms_text_grammar.specs.LayoutInsts.{binary_word as binary_word_of, cast_word as cast_word_of, predicate_text, flag_token, flag_tokens};
 ghost use Rattle.ms_write_values.specs.Sheets.{put};
@@ -63,7 +63,7 @@ pub fn predicate_word(pred: Pred) -> &'static [u8]
 }
 
 impl Writer {
-    /// Writes the word of a flag that is set.
+    /// Writes the word of a flag, if it is set.
     fn flag(&mut self, set: bool, word: &[u8]) -> Result<(), NoMemory>
         ensures { IfOk result (λ _. self.new ≡ put self.old (flag_token set word.now)) }
     {

@@ -14,7 +14,8 @@ use std::marker::Model;
 #[derive(Drop)]
 pub struct Writer {
     bytes: Vec<u8>,
-    /// It tells whether a space stands after that token; none stands at the start of a line.
+    /// The first byte of the token that stands last in the line, by which a space stands after it or not; none at the start of a
+    /// line.
     last: Option<u8>,
 }
 
@@ -36,8 +37,8 @@ fn first_byte(text: &[u8]) -> u8
     }
 }
 
-/// Whether no space stands between tokens that begin with these bytes: none before `,` and `)`, after `(`, and between a
-/// global's name and `(`.
+/// Whether no space stands between tokens that begin with these bytes: none before `,` and `)`, after `(`, and between a global's
+/// name and `(`.
 fn are_near(before: u8, next: u8) -> bool
     ensures { result ≡ are_near_of before next }
 {
@@ -87,7 +88,7 @@ impl Writer {
         Ok(())
     }
 
-    /// Writes the mark of an inserted instruction at once, since most tokens of such a line are its.
+    /// Writes the mark of an inserted instruction, `, !nosanitize !0`, at once, since most tokens of such a line are its.
     #[inline(always)]
     #[tactic(auto, using(crate::proofs::Puts::put_mark))]
     pub fn mark(&mut self) -> Result<(), NoMemory>
@@ -154,7 +155,7 @@ impl Writer {
         self.token(buffer.format(number).as_bytes())
     }
 
-    /// Begins a line, after these bytes.
+    /// Begins a line with these bytes, an indentation.
     #[inline(always)]
     pub fn start_line(&mut self, indent: &[u8]) -> Result<(), NoMemory>
         ensures { IfOk result (λ _. self.new ≡ opened self.old indent.now) }

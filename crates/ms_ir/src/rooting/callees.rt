@@ -1,4 +1,4 @@
-//! Calls that make uninitialised bytes.
+//! Calls that make uninitialised bytes: roots of a module.
 ghost use Rattle.std.specs.Prelude.{◌≡◌, is_some, if◌then◌else◌, Some, None};
 ghost use Rattle.ms_ir.specs.declared.syntax.Name.TheVariants as spelling;
 ghost use Rattle.ms_ir.specs.declared.calls.External.TheVariants as external;
@@ -18,6 +18,7 @@ fn defines(funcs: &[Func], name: &[u8]) -> bool
     false
 }
 
+/// The kind of root that a call of an external is, unless the module defines a function of its name.
 fn unless(defined: bool, kind: RootKind) -> Option<RootKind>
     ensures { result ≡ if defined then None else Some kind }
 {
@@ -27,9 +28,13 @@ fn unless(defined: bool, kind: RootKind) -> Option<RootKind>
 /// The functions of a module, and which of them have the name of an external that makes uninitialised bytes.
 #[derive(Drop)]
 pub struct Callees<'a> {
+    /// The functions that the module defines.
     pub funcs: &'a [Func],
+    /// Whether the module defines `malloc`, so that calls of it are no roots.
     malloc: bool,
+    /// Whether it defines `realloc`.
     realloc: bool,
+    /// Whether it defines `llvm.lifetime.start.p0`.
     lifetime_start: bool,
     ghost malloc_is: { malloc ≡ is_some (func_index funcs.now (external_name external.Malloc)) },
     ghost realloc_is: { realloc ≡ is_some (func_index funcs.now (external_name external.Realloc)) },

@@ -1,4 +1,4 @@
-//! Undefined operands.
+//! Undefined operands: roots of a module.
 ghost use Rattle.std.specs.Prelude.{◌≡◌, ◌++◌, map, flat_map, option_to_list, slice_get, IfOk};
 ghost use Rattle.ms_ir.specs.{Instructions.{operands as operands_of}, Roots.{undef_roots}, Rooted.{operand_roots}};
 
