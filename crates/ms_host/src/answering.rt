@@ -16,7 +16,7 @@ use ms_bits::{NoMemory, Trap, WordFn, WordWidth, answer_word};
 use ms_ir::External;
 use ms_runs::End;
 
-/// An argument; 0 where it is missing.
+/// Argument `k`; 0 where it is missing.
 fn word(args: &[u64], k: usize) -> u64
     ensures { result ≡ get_or args.now k 0 }
 {
@@ -51,7 +51,8 @@ fn assumed(condition: u64, site: u32) -> Answer
     Answer::Resumed(None)
 }
 
-/// What `llvm.objectsize` answers where no size is known.
+/// What `llvm.objectsize` answers, here always as where no size is known: 0 where its argument `least` asks for the least size,
+/// else -1.
 fn unknown_size(least: u64) -> u64
     ensures { result ≡ unknown_size least }
 {

@@ -1,4 +1,4 @@
-//! Sums and round-ups of sizes of 64 bits; none where they pass that.
+//! Sums and round-ups of sizes and addresses of 64 bits, for the parts of initialisers; none where they pass that.
 ghost use Rattle.std.specs.Prelude.{◌≤◌, ◌+◌, ℕ};
 ghost use Rattle.ms_ir.specs.Layout.{round_up};
 ghost use Rattle.ms_host.specs.Initial.{Reaches};

@@ -11,10 +11,10 @@ use ms_planes::words::{number_in, put_number};
 use std::alloc::Global;
 use std::marker::Model;
 
-/// How far they reach.
+/// How many bytes the slots take, from the first byte of the first to the last byte of the last.
 const REACH: usize = 0x3004;
 
-/// Where they end.
+/// The address where the slots end.
 const END: u64 = 0x6800_0000_3004;
 
 /// The bytes of the four slots, of 800, 400, 8 and 4 bytes, in one row with those between them, which are never read.
@@ -102,7 +102,7 @@ impl Slots {
         found
     }
 
-    /// The number that `n` bytes are, by how far they stand from where the slots begin.
+    /// The number that `n` bytes of a slot are, `at` bytes after where the slots begin.
     #[inline(always)]
     pub fn load_at(&self, at: usize, n: u8) -> u64
         requires size { n ≤ 8 }

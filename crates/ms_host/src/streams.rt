@@ -1,4 +1,4 @@
-//! The input and the output.
+//! The input and the output of a run: what externals print and take.
 ghost use Rattle.std.specs.Prelude.{◌≡◌, ◌≤◌, ◌+◌, ℕ, List, [], ◌∷◌, ◌++◌, length, take, drop, get_or, OnOk, MatchOption, IsTrue, ◌↔◌};
 ghost use Rattle.ms_alloc.specs.Allocations.{is_good as is_live};
 ghost use Rattle.ms_bits.specs.Maps.{bytes_at};
