@@ -112,7 +112,7 @@ impl Slots {
         number_in(&self.bytes, at, n)
     }
 
-    /// Writes the `n` low bytes of `v`, by how far they stand from where the slots begin.
+    /// Writes the `n` low bytes of `v` into a slot, `at` bytes after where the slots begin.
     #[inline(always)]
     pub fn store_at(&mut self, at: usize, n: u8, v: u64)
         requires size { n ≤ 8 }

@@ -1,5 +1,5 @@
-//! Masks of results, by the formulas, as numbers (after Stepanov and Serebryany, CGO 2015). `v` and `u` are the words of the operands,
-//! `m` and `k` their masks; `t` is a condition and `n` its mask.
+//! Masks of results, by the formulas, as numbers (after Stepanov and Serebryany, CGO 2015). `v` and `u` are the words of the
+//! operands, `m` and `k` their masks; `t` is a condition and `n` its mask.
 ghost use Rattle.std.specs.Prelude.{◌≡◌, ◌≤◌, ◌<◌, ◌+◌, ◌-◌, ◌%◌, ◌^◌, ltb, leb};
 ghost use Rattle.ms_bits.specs.{Arithmetic.{binary_of}, Conversions.{Allows, cast_of, select_of}, NoFlags.{no_flags}};
 ghost use Rattle.ms_bits.specs.Formulas.{and_mask as and_mask_of, or_mask as or_mask_of, eq_mask as eq_mask_of, order_mask as order_mask_of, turned_sign as turned_sign_of, compare_mask as compare_mask_of, select_mask as select_mask_of, carry_mask as carry_mask_of};
@@ -38,7 +38,7 @@ pub fn or_mask(width: u8, v: u64, m: u64, u: u64, k: u64) -> u64
     ((v ^ all) | m) & ((u ^ all) | k) & (m | k)
 }
 
-/// 0 less a number, in so many bits.
+/// 0 less a number, in `width` bits.
 pub(crate) fn negated(width: u8, number: u64) -> u64
     requires some { 1 ≤ width }
     requires few { width ≤ 64 }
@@ -52,8 +52,8 @@ pub(crate) fn negated(width: u8, number: u64) -> u64
     }
 }
 
-/// 'add', 'sub', 'mul' and 'getelementptr', where carries count: the poisoned bits of the operands and all bits above the
-/// lowest one.
+/// 'add', 'sub', 'mul' and 'getelementptr', where carries count: `union`, the poisoned bits of the operands, and all bits above the
+/// lowest of them.
 #[tactic(auto, unfolding(ms_bits::specs::Formulas::carry_mask))]
 pub fn carry_mask(width: u8, union: u64) -> u64
     requires some { 1 ≤ width }

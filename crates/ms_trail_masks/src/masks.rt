@@ -18,7 +18,7 @@ fn or_zero(answer: Result<u64, Trap>) -> u64
     }
 }
 
-/// A shift: the mask shifted alike, or all bits where the amount is poisoned.
+/// A shift of `a` by `b`: the mask of `a` shifted in the same way, or all bits where some bit of the amount is poisoned.
 fn shift_mask(op: BinOp, width: u8, a: Seen, b: Seen) -> u64
     requires some { 1 ≤ width }
     requires few { width ≤ 64 }

@@ -1,5 +1,5 @@
-//! What each operand of an instruction is read from. `frame` is the number of the call, and `before` that of the roots before it in
-//! the text.
+//! What each operand of an instruction is read from: a source of moves. `frame` is the number of the call, and `before` that of the
+//! roots that stand before the instruction, or the operand, in the text.
 ghost use Rattle.std.specs.Prelude.{◌≡◌, ◌<◌, ◌+◌, ◌^◌, take, IfOk};
 ghost use Rattle.ms_ir.specs.Instructions.{operands, one_undef, count_undefs};
 ghost use Rattle.ms_trail_moves.specs.Sources.{operand_source as source_of_operand, sources, source_at as source_in};
@@ -30,7 +30,7 @@ fn root_at(op: &Op, place: usize) -> u32
     }
 }
 
-/// How many of the first operands of an operation are roots.
+/// How many of the first `count` operands of an operation are roots.
 #[tactic(auto, using(crate::proofs::Operands::undefs_within))]
 pub fn roots_before(op: &Op, count: usize) -> u32
     requires { count_undefs (operands op.now) < 2 ^ 32 }
