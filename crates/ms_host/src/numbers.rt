@@ -3,7 +3,7 @@ ghost use Rattle.std.specs.Prelude.{◌≤◌, ◌+◌, ℕ};
 ghost use Rattle.ms_ir.specs.Layout.{round_up};
 ghost use Rattle.ms_host.specs.Initial.{Reaches};
 
-/// The sum of two numbers.
+/// The sum of two numbers; none where one of them is missing, or where it takes more than 64 bits.
 pub(crate) fn sum(a: Option<u64>, b: Option<u64>) -> Option<u64>
     ensures { (m n : ℕ) → Reaches a m → Reaches b n → Reaches result (m + n) }
 {

@@ -21,7 +21,7 @@ impl World {
         printed <= OUTPUT && n <= OUTPUT - printed
     }
 
-    /// Prints a byte.
+    /// Prints a byte: puts it behind the output.
     pub fn print_byte(&mut self, byte: u8) -> Result<(), NoMemory>
         ensures printed { (beside : Beside) (world : Meant) → Shows self.old beside world → OnOk result (Shows self.new beside (record world { output = world.output ++ byte ∷ [] })) }
         ensures planes { self.new.planes ≡ self.old.planes }
@@ -32,7 +32,7 @@ impl World {
         Ok(())
     }
 
-    /// Prints bytes.
+    /// Prints bytes that are given.
     pub fn print_bytes(&mut self, bytes: &[u8]) -> Result<(), NoMemory>
         ensures printed { (beside : Beside) (world : Meant) → Shows self.old beside world → OnOk result (Shows self.new beside (record world { output = world.output ++ bytes.now })) }
         ensures planes { self.new.planes ≡ self.old.planes }
@@ -43,7 +43,7 @@ impl World {
         Ok(())
     }
 
-    /// Prints good bytes.
+    /// Prints `n` good bytes of memory, from `addr` on.
     pub fn print_range(&mut self, addr: u64, n: u64) -> Result<(), NoMemory>
         requires { IsTrue (is_live addr n self.old.planes.table) }
         ensures printed { (beside : Beside) (world : Meant) → Shows self.old beside world → OnOk result (Shows self.new beside (record world { output = world.output ++ bytes_at world.bytes addr n })) }

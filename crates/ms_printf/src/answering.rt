@@ -15,7 +15,7 @@ use ms_ir::{Module, Ty};
 use ms_runs::End;
 use std::alloc::Global;
 
-/// The run ends by a trap.
+/// The answer that ends the run by a trap.
 fn ended(kind: Trap, site: u32) -> Answer
     ensures { result ≡ Answer.Ended (End.Trap kind site) }
 {

@@ -15,7 +15,7 @@ use ms_runs::{End, RunResult};
 use ms_write_values::push_number;
 use std::alloc::Global;
 
-/// Adds how a run ended.
+/// Adds how a run ended, in words: `exit`, `trap` with its site, `reported` or `spent`.
 fn push_end(text: &mut Vec<u8>, m: &Module, end: End) -> Result<(), NoMemory>
     requires { HasSmallNumbers m.now }
     ensures { IfOk result (λ _. text.new.items ≡ text.old.items ++ end_text m.now end) }

@@ -18,7 +18,7 @@ fn push_signed(text: &mut Vec<u8>, global: bool, name: &Name) -> Result<(), NoMe
     push_name(text, name)
 }
 
-/// Adds a site.
+/// Adds `at site`, and the site's number.
 fn push_site(text: &mut Vec<u8>, site: u32) -> Result<(), NoMemory>
     ensures { IfOk result (λ _. text.new.items ≡ text.old.items ++ at_site site) }
 {
@@ -77,7 +77,7 @@ fn push_unknown(text: &mut Vec<u8>, site: u32, global: bool, name: &Name) -> Res
     Ok(())
 }
 
-/// Adds the line for an operand of another type.
+/// Adds the line for an operand of a site's instruction that has another type than it should.
 fn push_type(text: &mut Vec<u8>, site: u32, operand: u32) -> Result<(), NoMemory>
     ensures { IfOk result (λ _. text.new.items ≡ text.old.items ++ refused_line 11 (codes "type" ++ at_site site ++ codes ", operand " ++ decimal operand)) }
 {
@@ -90,7 +90,7 @@ fn push_type(text: &mut Vec<u8>, site: u32, operand: u32) -> Result<(), NoMemory
     Ok(())
 }
 
-/// Adds a path of blocks.
+/// Adds a path, as the numbers of its blocks.
 fn push_blocks(text: &mut Vec<u8>, path: &[u32]) -> Result<(), NoMemory>
     ensures { IfOk result (λ _. text.new.items ≡ text.old.items ++ (codes ", path" ++ spaced path.now)) }
 {

@@ -68,7 +68,7 @@ fn earlier(number: u32, origin: Origin) -> u32
     }
 }
 
-/// Begins the line of the origin with a number.
+/// Begins the line of origin `number`.
 fn begin_origin(text: &mut Vec<u8>, number: u32) -> Result<(), NoMemory>
     ensures { IfOk result (λ _. text.new.items ≡ text.old.items ++ (codes "  origin " ++ decimal number ++ codes ": ")) }
 {

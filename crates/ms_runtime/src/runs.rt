@@ -112,7 +112,7 @@ impl Running {
         }
     }
 
-    /// What the run returns.
+    /// What the run returns that ended so: its output, its end, its reports and blind uses.
     pub fn into_result(self, end: End) -> RunResult
         ensures { (answer : ResultOf) → Answers answer end self → result ≡ answer }
     {
@@ -126,7 +126,7 @@ impl Running {
     }
 }
 
-/// A run at its start.
+/// A run at its start: `main` is called, the globals stand in memory, and nothing is reported.
 pub fn start_run(alloc: Global, m: &CheckedModule, setup: &Setup) -> Result<Running, NoMemory>
     requires limits { WithinLimits setup.now }
     ensures begins { IfOk result (Begins m.now setup.now) }

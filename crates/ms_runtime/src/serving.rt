@@ -54,7 +54,7 @@ pub fn serve(
     Ok(Answer::Resumed(value))
 }
 
-/// The effect of one of the four checks.
+/// Does one of the four checks, which report a use where it is poisoned.
 fn report(
     alloc: Global,
     function: RuntimeFn,
@@ -83,7 +83,7 @@ fn report(
     }
 }
 
-/// The effect of a runtime function that is no check: it may give a value, and the run goes on.
+/// Does what a runtime function does that is no check: it may give a value, and the run goes on.
 fn serve_update(
     function: RuntimeFn,
     args: &[u64],

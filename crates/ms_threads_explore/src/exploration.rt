@@ -163,7 +163,7 @@ impl Exploration {
         Ok(Bytes::from_vec(told))
     }
 
-    /// What is told, with the last run that was made.
+    /// What exploring tells, given the last run that was made.
     fn tell(&self, alloc: Global, last: Trial) -> Result<Explored, NoMemory>
         requires some { 1 ≤ self.now.next }
         requires within { self.now.next ≤ length self.now.beginnings.items }

@@ -85,7 +85,7 @@ impl Outcomes {
         Ok(())
     }
 
-    /// How many there are.
+    /// How many different outcomes there are.
     pub fn count(&self) -> u64
         ensures { result ≡ length (kept_by self.now) }
     {

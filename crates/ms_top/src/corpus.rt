@@ -164,7 +164,7 @@ fn push_section<L: SiteLines>(
     Ok(())
 }
 
-/// Adds the first line of a section.
+/// Adds the first line of a section: the input's number, how many bytes the run put out, and the name of the input's file.
 fn push_heading(text: &mut Vec<u8>, number: u64, name: &Text, r: &RunResult) -> Result<(), NoMemory>
     ensures { IfOk result (λ _. text.new.items ≡ text.old.items ++ heading_of number name.now r.now) }
 {

@@ -103,7 +103,7 @@ impl<R: Threads + Sync, P: Pass, G: Gate + Sync, L: SiteLines> ModuleJob<'_, R, 
     }
 }
 
-/// The lines of what following a run comes to.
+/// The lines of what following a run comes to: the way of the reported bits, or why there is none.
 fn lines_of_trace<L: SiteLines>(
     alloc: Global,
     m: &Module,

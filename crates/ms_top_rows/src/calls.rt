@@ -185,7 +185,7 @@ fn text_of(alloc: Global, call: &Call) -> Result<Vec<u8>, AllocError> {
     Ok(text)
 }
 
-/// Adds a file with this name and these bytes.
+/// Adds a file with this name and these bytes to those held in memory.
 fn hold(
     alloc: Global,
     held: &mut BTreeMap<String, Vec<u8>>,

@@ -28,7 +28,7 @@ use ms_trail_uses::tables::InstRow;
 use std::alloc::Global;
 use std::mem::replace;
 
-/// The masks of arguments.
+/// The masks of a call's arguments.
 pub(crate) fn argument_masks(
     alloc: Global,
     view: &View<'_>,

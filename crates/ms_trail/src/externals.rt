@@ -71,7 +71,7 @@ fn word(args: &[u64], k: usize) -> u64
     if k < args.len() { args[k] } else { 0 }
 }
 
-/// The words of arguments.
+/// The words of a call's arguments.
 fn argument_words(alloc: Global, view: &View<'_>, args: &[WordSource]) -> Result<Vec<u64>, NoMemory>
     requires view { IsView view.now }
     requires args { All (IsSource (length view.now.values.now) 64) args.now }

@@ -64,7 +64,7 @@ pub fn carry_mask(width: u8, union: u64) -> u64
     union | negated(width, union)
 }
 
-/// An operation without flags.
+/// What an operation without flags gives of two numbers: a mask shifted as its word is.
 pub fn combined(op: BinOp, width: u8, a: u64, b: u64) -> Result<u64, Trap>
     requires some { 1 ≤ width }
     requires few { width ≤ 64 }
@@ -76,7 +76,7 @@ pub fn combined(op: BinOp, width: u8, a: u64, b: u64) -> Result<u64, Trap>
     Ok(word.value())
 }
 
-/// A cast without flags.
+/// What a cast without flags gives of a number: a mask cast as its word is.
 pub fn converted(op: CastOp, width: u8, a: u64, into: u8) -> Result<u64, Trap>
     requires some { 1 ≤ width }
     requires few { width ≤ 64 }
@@ -97,7 +97,8 @@ fn eq_mask(v: u64, m: u64, u: u64, k: u64) -> u64
     (((v ^ u) | poisoned) == poisoned) as u64 & !(poisoned == 0) as u64
 }
 
-/// An ordered comparison by `<`: the answers at the two extremes differ.
+/// An ordered comparison by `<`: 1 where its answers differ for the least `v` beside the greatest `u`, and for the greatest `v`
+/// beside the least `u`.
 #[tactic(auto, unfolding(ms_bits::specs::Formulas::order_mask, ms_bits::specs::Formulas::greatest, ms_bits::specs::Formulas::least))]
 fn less_mask(v: u64, m: u64, u: u64, k: u64) -> u64
     ensures { result ≡ order_mask_of ltb v m u k }
@@ -105,7 +106,7 @@ fn less_mask(v: u64, m: u64, u: u64, k: u64) -> u64
     ((((v | m) ^ m) < (u | k)) as u64) ^ (((v | m) < ((u | k) ^ k)) as u64)
 }
 
-/// An ordered comparison by `<=`.
+/// An ordered comparison by `<=`, in the same way.
 #[tactic(auto, unfolding(ms_bits::specs::Formulas::order_mask, ms_bits::specs::Formulas::greatest, ms_bits::specs::Formulas::least))]
 fn at_most_mask(v: u64, m: u64, u: u64, k: u64) -> u64
     ensures { result ≡ order_mask_of leb v m u k }
@@ -143,7 +144,7 @@ pub fn compare_mask(pred: Pred, width: u8, v: u64, m: u64, u: u64, k: u64) -> u6
     }
 }
 
-/// The first of two numbers where a third isn't 0, else the second.
+/// `a` where the condition `c` isn't 0, else `b`.
 #[tactic(auto, unfolding(ms_bits::specs::Conversions::select_of))]
 fn chosen(c: u64, a: u64, b: u64) -> u64
     ensures { result ≡ select_of c a b }

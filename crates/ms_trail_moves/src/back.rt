@@ -34,7 +34,7 @@ pub(crate) fn place_of(source: &Source) -> Reading<'_>
     }
 }
 
-/// Whether two names are one.
+/// Whether two names are the same.
 fn same_name(a: &Name, b: &Name) -> bool
     ensures { result ≡ name_eq a.now b.now }
 {

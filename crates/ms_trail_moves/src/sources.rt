@@ -9,7 +9,7 @@ use ms_bits::{Duplicate, NoMemory};
 use ms_ir::{Op, Operand};
 use std::alloc::Global;
 
-/// 1 for an operand that is a root.
+/// 1 for an operand that is a root, an undefined one, else 0.
 pub fn one_root(operand: &Operand) -> u32
     ensures { result ≡ one_undef operand.now }
 {
