@@ -1,4 +1,4 @@
-//! The slots, which hand masks and origins over at calls.
+//! The slots, which hand masks and origins over at calls. In contracts `cells` are their bytes, by address.
 ghost use Rattle.std.specs.Prelude.{◌≡◌, ◌≤◌, ◌<◌, ◌+◌, ◌-◌, ◌^◌, true, false, ℕ, List, length, replicate, IfOk, MatchOption, MatchBool, leb, ◌&&◌, IsTrue};
 ghost use Rattle.ms_bits.specs.Maps.{number_at, byte_of, with_range};
 ghost use Rattle.ms_ir.specs.Names.{slots};

@@ -83,7 +83,7 @@ fn push_way(text: &mut Vec<u8>, made: &Move, k: u64) -> Result<(), NoMemory>
     push_to(text, &made.to, k)
 }
 
-/// Begins the line of the move with a number, whose instruction has a site.
+/// Begins the line of move number `index`, whose instruction has this site.
 fn begin_move(text: &mut Vec<u8>, m: &Module, index: u32, site: u32) -> Result<(), NoMemory>
     requires { HasSmallNumbers m.now }
     ensures { IfOk result (λ _. text.new.items ≡ text.old.items ++ move_text m.now index site) }

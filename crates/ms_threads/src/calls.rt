@@ -90,7 +90,7 @@ impl ThreadTable {
         gives(0)
     }
 
-    /// The effect of the thread call at which the current thread stands.
+    /// Does the thread call at which the current thread stands, and answers it.
     #[inline(always)]
     pub fn answer(
         &mut self,

@@ -91,7 +91,7 @@ impl ThreadedRun {
         thread_result(addr, thread.mask, thread.origin, site, world, depot)
     }
 
-    /// The effect of a call that is no thread call; `reports` is the limit of the run's reports.
+    /// Answers a call that is no thread call; `reports` is the limit of the run's reports.
     fn answer_of(
         &mut self,
         alloc: Global,

@@ -124,7 +124,8 @@ pub(crate) fn turned(width: u8, v: u64) -> u64
     v ^ (1u64 << (width - 1))
 }
 
-/// The mask of a comparison's result.
+/// The mask of a comparison's result, a bit: which formula the predicate takes. Signed order is that of words whose sign bits are
+/// turned.
 #[tactic(auto, unfolding(ms_bits::specs::Formulas::compare_mask))]
 pub fn compare_mask(pred: Pred, width: u8, v: u64, m: u64, u: u64, k: u64) -> u64
     requires some { 1 ≤ width }

@@ -136,7 +136,7 @@ fn asked(view: &View<'_>, world: &World, args: &[WordSource], at: usize) -> Opti
     }
 }
 
-/// What a use reads of arguments, where it is poisoned.
+/// What a checked use reads, where that is poisoned: the word of an argument, or the first poisoned byte to which one points.
 pub fn used_by(
     view: &View<'_>,
     world: &World,
