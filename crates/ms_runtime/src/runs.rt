@@ -71,7 +71,7 @@ impl Running {
         }
     }
 
-    /// Answers such a call and goes on after it. Returns how the run ends, if it does.
+    /// Answers the call at which the run pauses, and goes on after it. Returns how the run ends, if it does.
     fn answer_call(
         &mut self,
         alloc: Global,

@@ -8,7 +8,7 @@ use crate::words::Seen;
 use crate::{and_mask, carry_mask, combined, converted, ones, or_mask};
 use ms_bits::{BinOp, CastOp, Trap};
 
-/// The number of an answer, 0 for a trap.
+/// The number that an operation on masks gives; 0 where the operation traps.
 fn or_zero(answer: Result<u64, Trap>) -> u64
     ensures { result ≡ or_zero_of answer }
 {

@@ -43,7 +43,7 @@ pub fn roots_before(op: &Op, count: usize) -> u32
     roots
 }
 
-/// What an operand is read from, before which so many roots stand; the root 0 of a constant, which is never poisoned.
+/// What an operand is read from, before which `before` roots stand; root 0, which is none, for a constant: it is never poisoned.
 pub fn operand_source(
     alloc: Global,
     frame: u64,
@@ -63,7 +63,7 @@ pub fn operand_source(
     }
 }
 
-/// What the operand with a place is read from, in the call with a number; so many roots stand before the instruction.
+/// What the operand of an operation with a place, counted from 0, is read from.
 #[tactic(auto, using(crate::proofs::Operands::source_some, crate::proofs::Operands::source_none, crate::proofs::Operands::undefs_upto))]
 pub fn source_at(
     alloc: Global,
