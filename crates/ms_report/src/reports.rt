@@ -113,7 +113,7 @@ fn push_line(text: &mut Vec<u8>, m: &Module, number: u64, report: &Report) -> Re
 }
 
 impl<L: SiteLines> Rooted<'_, L> {
-    /// The root with a number.
+    /// The root with a number, counted from 1; none for 0 and for numbers that no root has.
     fn root_at(&self, number: u32) -> Option<Root>
         requires { self.now.roots.now ≡ roots_of self.now.m.now }
         ensures { result ≡ root_numbered self.now.m.now number }

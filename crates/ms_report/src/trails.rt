@@ -22,7 +22,7 @@ struct Moved<'a, L> {
     under: &'a L,
 }
 
-/// Adds a value of the frame with a number.
+/// Adds the name of a value, and the number of the frame that it is of.
 fn push_value(text: &mut Vec<u8>, frame: u64, name: &Name) -> Result<(), NoMemory>
     ensures { IfOk result (λ _. text.new.items ≡ text.old.items ++ value_text frame name.now) }
 {
@@ -32,7 +32,7 @@ fn push_value(text: &mut Vec<u8>, frame: u64, name: &Name) -> Result<(), NoMemor
     push_number(text, frame)
 }
 
-/// Adds the byte at a distance from an address.
+/// Adds the address of a byte, at a distance from `addr`.
 fn push_byte(text: &mut Vec<u8>, addr: u64, distance: u64) -> Result<(), NoMemory>
     ensures { IfOk result (λ _. text.new.items ≡ text.old.items ++ byte_text (addr + distance)) }
 {

@@ -1,5 +1,5 @@
 //! The runtime functions on the shadow and the origins of memory, each on the words of its arguments. `told` has the reports so
-//! far, and the run ends when they come to `limit`.
+//! far, and the run ends when they come to `limit`. What `TellsMore` has the same output and end, and at most one blind use more.
 ghost use Rattle.std.specs.Prelude.{◌≡◌, ◌≢◌, ◌<◌, None, length, IfOk, OnOk, IsTrue};
 ghost use Rattle.ms_alloc.specs.Allocations.{is_good as is_live};
 ghost use Rattle.ms_ir.specs.declared.calls.RuntimeFn.TheVariants.{CheckMemory, CheckString, CheckFormat, Poison, Unpoison, Copy, Fill, StoreOrigin, LoadOrigin, Size};

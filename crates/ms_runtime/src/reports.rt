@@ -1,5 +1,5 @@
 //! Uses of uninitialised bits that the runtime functions are told of: those that are reported, and blind uses, which are only
-//! counted.
+//! counted. What `TellsMore` has the same output and end, and at most one blind use more.
 ghost use Rattle.std.specs.Prelude.{◌≡◌, ◌<◌, ◌++◌, ◌∷◌, [], ℕ, Option as Optional, None, length, IfOk, OnOk, OnErr};
 ghost use Rattle.ms_runs.specs.World.{World as Meant, Setting, Does};
 ghost use Rattle.ms_runs.specs.Origins.{check as check_of, check_byte as check_byte_of, count_blind as count_blind_of};

@@ -1,5 +1,6 @@
 //! What the thread calls of a program do, once the schedule has picked the thread that stands at one (POSIX, "pthread_create",
-//! "pthread_join" and "sched_yield"; own: numbers of threads and their limit).
+//! "pthread_join" and "sched_yield"; own: numbers of threads and their limit). In a table that
+//! `KeepsStands` all threads stand where they stood.
 ghost use Rattle.std.specs.Prelude.{◌≡◌, ◌<◌, ◌+◌, ◌∷◌, ◌||◌, [], Some, true, false, eqb, if◌then◌else◌, get_or, IfOk, MatchBool, List};
 ghost use Rattle.ms_ir.specs.declared.syntax.Ty.{Ty};
 ghost use Rattle.ms_runs.specs.{World.{World as Meant, Setting}, Memory.{is_good, store_number}};

@@ -1,4 +1,5 @@
-//! A traced run, one step at a time, with the masks of its values beside it.
+//! A traced run, one step at a time, with the masks of its values beside it. `IsFollowed` says that it stands for a state of the
+//! shadow run with the moves so far, `Went` that it does so after a step, `Grew` how much a step adds at most.
 ghost use Rattle.std.specs.Prelude.{◌≡◌, ◌<◌, length, IfOk, false};
 ghost use Rattle.ms_ir.specs.ThreadCalls.{is_threaded};
 ghost use Rattle.ms_runs.specs.Limits.{WithinLimits};

@@ -1,5 +1,5 @@
 //! Shadow that is set or copied in memory, each with its moves in the log: for a store, an `alloca`, and what `sets.rt` and
-//! `unsets.rt` do for externals.
+//! `unsets.rt` do for externals. A traced run keeps no origins in memory: cells get 0, and the moves tell where bits come from.
 ghost use Rattle.std.specs.Prelude.{◌≡◌, ◌≤◌, ◌<◌, ◌+◌, ◌^◌, ◌≢◌, ◌++◌, [], ◌∷◌, ℕ, List, true, IsTrue, OnOk, if◌then◌else◌};
 ghost use Rattle.ms_alloc.specs.Allocations.{is_good as is_live};
 ghost use Rattle.ms_bits.specs.Maps.{byte_of};

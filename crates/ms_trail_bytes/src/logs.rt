@@ -1,4 +1,4 @@
-//! The log of a traced run: its moves as they are told, up to a limit.
+//! The log of a traced run: its moves as they are told, up to a limit. `IsLog log moves` says that these were told to it.
 ghost use Rattle.std.specs.Prelude.{◌≤◌, ◌<◌, ◌+◌, ◌^◌, ◌++◌, [], ◌∷◌, List, IsTrue, ◌↔◌, OnOk};
 ghost use Rattle.ms_trail_moves.specs.declared.moves.Move.{Move as MoveOf};
 ghost use Rattle.ms_trail_bytes.specs.Logs.{move_limit, IsLog};

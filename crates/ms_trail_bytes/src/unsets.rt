@@ -1,4 +1,5 @@
-//! Externals that make uninitialised bytes or copy bytes, followed: `malloc`, `realloc`, lifetimes, `memcpy`, with the moves.
+//! Externals that make uninitialised bytes or copy bytes, followed: `malloc`, `realloc`, lifetimes, `memcpy`, with the moves. A
+//! traced run keeps no origins in memory: cells get 0.
 ghost use Rattle.std.specs.Prelude.{◌≡◌, ◌≤◌, ◌<◌, ◌+◌, ◌^◌, ◌++◌, [], ◌∷◌, ℕ, List, Some, min, true, unwrap_or, IsTrue, OnOk, if◌then◌else◌};
 ghost use Rattle.ms_alloc.specs.Allocations.{heap_size as block_size, is_good as is_live};
 ghost use Rattle.ms_ir.specs.Areas.{Heap};

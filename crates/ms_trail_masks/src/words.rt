@@ -1,4 +1,4 @@
-//! The words that code reads in a run that is followed, with their masks.
+//! The words that code reads in a run that is followed, with their masks. In what `IsView` each value has a mask.
 ghost use Rattle.std.specs.Prelude.{◌≡◌, ◌<◌, ◌^◌, length};
 ghost use Rattle.ms_machine_code.specs.{Words.{word_of}, Fits.{IsSource}};
 ghost use Rattle.ms_trail_masks.specs.{Shades.{mask_of as mask_read}, Views.{IsView}};
