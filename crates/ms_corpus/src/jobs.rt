@@ -12,7 +12,7 @@ use ms_runtime::run;
 use std::alloc::Global;
 use std::thread::Threads;
 
-/// What the jobs share, to read alone.
+/// What the jobs share, only to be read.
 #[derive(Drop)]
 struct InputRuns<'a> {
     module: &'a CheckedModule,
@@ -21,7 +21,7 @@ struct InputRuns<'a> {
 }
 
 impl<'a> InputRuns<'a> {
-    /// What the run on an input is given.
+    /// The setup of the run on an input: that of all jobs with this input.
     fn setup_of(&self, alloc: Global, input: &Bytes) -> Result<Setup, NoMemory>
         ensures { IfOk result (λ s. s ≡ with_input self.now.setup.now input.now) }
     {
@@ -47,8 +47,8 @@ impl<'a> Work for InputRuns<'a> {
     }
 }
 
-/// Runs a module without thread calls on each of the inputs, with the fill, the bound of steps and the limit of reports of `setup`: the list of
-/// what each run alone gives, in the order of the inputs, for every number of workers and every gate.
+/// Runs a module without thread calls on each of the inputs, with the fill, the bound of steps and the limit of reports of `setup`:
+/// the list of what each run alone gives, in the order of the inputs, for every number of workers and every gate.
 ///
 /// Each job enters the gate with its number, counted from 0, before it does anything else. The list is cut in halves, and at
 /// most `workers` threads are at work at once; where no thread can be made, jobs run one after another.

@@ -1,4 +1,4 @@
-//! Runs of one module on many inputs, by several threads: the list that one thread makes.
+//! Runs of one module on many inputs, for the command `corpus`, by several threads, with the same results as by one.
 #![tactic(auto)]
 
 mod jobs;

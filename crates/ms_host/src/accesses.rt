@@ -1,4 +1,5 @@
-//! What accesses of memory read and write.
+//! Accesses of memory in a run: loads and stores of bytes and shadow, copies, and ranges that are set or uninitialised anew. The
+//! program's loads and stores and the externals use them.
 ghost use Rattle.std.specs.Prelude.{◌≡◌, ◌≤◌, ◌<◌, ◌+◌, ◌^◌, true, false, IfOk, OnOk, MatchOption, MatchBool, IsTrue, ◌&&◌};
 ghost use Rattle.ms_alloc.specs.Allocations.{is_good as is_live};
 ghost use Rattle.ms_bits.specs.Maps.{number_at, byte_of};
@@ -101,7 +102,7 @@ impl World {
         Ok(())
     }
 
-    /// Makes `n` bytes `byte`, and returns whether they are good; else nothing changes. Linear in `n`.
+    /// Makes each of `n` bytes `byte`, and returns whether they are good; else nothing changes. Linear in `n`.
     pub fn set(&mut self, addr: u64, n: u64, byte: u8) -> bool
         ensures set { (beside : Beside) (world : Meant) → Shows self.old beside world → MatchBool result ((is_good world addr n ≡ true) × Shows self.new beside (set_bytes addr n (λ k. byte) world)) ((is_good world addr n ≡ false) × Shows self.new beside world) }
         ensures keeps { Keeps self.old self.new }

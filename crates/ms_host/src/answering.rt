@@ -16,7 +16,7 @@ use ms_bits::{NoMemory, Trap, WordFn, WordWidth, answer_word};
 use ms_ir::External;
 use ms_runs::End;
 
-/// An argument; 0 where it is missing.
+/// Argument `k`; 0 where it is missing.
 fn word(args: &[u64], k: usize) -> u64
     ensures { result ≡ get_or args.now k 0 }
 {
@@ -30,7 +30,7 @@ fn low_byte(word: u64) -> u8
     (word % 256) as u8
 }
 
-/// The effect of calling a word function at a site.
+/// The answer to a call of a function of whole words at a site: its word, or its trap.
 fn worded(function: WordFn, width: WordWidth, a: u64, b: u64, c: u64, site: u32) -> Answer
     requires { a < 2 ^ bits_of width }
     ensures { (beside : Beside) (meant : Meant) (world : WorldState) → Shows world beside meant → Answered beside (gives site (word_answer function (bits_of width) a b c) meant) result world }
@@ -41,7 +41,7 @@ fn worded(function: WordFn, width: WordWidth, a: u64, b: u64, c: u64, site: u32)
     }
 }
 
-/// The effect of `llvm.assume` at a site.
+/// The answer to `llvm.assume` at a site: a trap where the condition is 0.
 fn assumed(condition: u64, site: u32) -> Answer
     ensures { (beside : Beside) (meant : Meant) (world : WorldState) → Shows world beside meant → Answered beside (assumed site condition meant) result world }
 {
@@ -51,7 +51,8 @@ fn assumed(condition: u64, site: u32) -> Answer
     Answer::Resumed(None)
 }
 
-/// What `llvm.objectsize` answers where no size is known.
+/// What `llvm.objectsize` answers, here always as where no size is known: 0 where its argument `least` asks for the least size,
+/// else -1.
 fn unknown_size(least: u64) -> u64
     ensures { result ≡ unknown_size least }
 {
@@ -79,7 +80,7 @@ pub fn answer(call: &HostCall, world: &mut World) -> Result<Answer, NoMemory>
 }
 
 impl World {
-    /// The effect of calling an external that prints, or takes input, at a site.
+    /// Does what an external does that prints, or takes input, and answers the call.
     fn answer_stream(
         &mut self,
         external: External,
@@ -104,7 +105,7 @@ impl World {
         }
     }
 
-    /// The effect of calling an external at a site.
+    /// Does what an external does that is called at a site, and answers the call.
     pub(crate) fn answer_external(
         &mut self,
         external: External,

@@ -33,7 +33,7 @@ pub enum Answer {
     Ended(End),
 }
 
-/// The run ends by a trap.
+/// The answer that ends the run by a trap.
 pub(crate) fn trap(kind: Trap, site: u32) -> Answer
     ensures { result ≡ Answer.Ended (End.Trap kind site) }
 {

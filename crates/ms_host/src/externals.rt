@@ -60,7 +60,8 @@ impl World {
         Answer::Resumed(None)
     }
 
-    /// `realloc`: a block that holds what the old one held, as far as both go, with shadow and origins.
+    /// `realloc`: a heap block of `n` bytes that holds what the one at `base` held, as far as both go, with shadow and origins, and
+    /// the old one ends; `malloc` where `base` is null. Null at the limit of the heap; traps where `base` is no live heap block.
     pub(crate) fn realloc(&mut self, site: u32, base: u64, n: u64) -> Result<Answer, NoMemory>
         requires { self.old.made + 2 ^ 26 < 2 ^ 64 }
         ensures answered { (beside : Beside) (world : Meant) → Shows self.old beside world → IfOk result (λ a. Answered beside (realloc self.old.fill site base n world) a self.new) }
@@ -193,7 +194,7 @@ impl World {
         }
     }
 
-    /// `write`: prints to descriptor 1, and returns -1 for any other; traps where the range isn't good, or the limit of the
+    /// `write`: prints to descriptor 1 (`to`), and returns -1 for any other; traps where the range isn't good, or the limit of the
     /// output would be passed.
     pub(crate) fn write(
         &mut self,
@@ -220,7 +221,7 @@ impl World {
         }
     }
 
-    /// `read`: takes input from descriptor 0, and returns -1 for any other; traps where the range isn't good.
+    /// `read`: takes input from descriptor 0 (`from`), and returns -1 for any other; traps where the range isn't good.
     pub(crate) fn read(&mut self, site: u32, from: u64, addr: u64, n: u64) -> Answer
         ensures answered { (beside : Beside) (world : Meant) → Shows self.old beside world → Answered beside (read_of site from addr n world) result self.new }
         ensures keeps { Keeps self.old self.new }

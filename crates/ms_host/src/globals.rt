@@ -22,7 +22,7 @@ fn stored_size(ty: &Ty) -> u8
     }
 }
 
-/// Where a part of a type begins after so many bytes.
+/// Where a part of a type begins after the `so_far` bytes of the parts before it, from the start of the array or struct.
 fn part_begin(extents: &Extents<'_>, packed: bool, so_far: Option<u64>, ty: &Ty) -> Option<u64>
     ensures { (n : ℕ) → Reaches so_far n → Reaches result (part_begin extents.now packed n ty.now) }
 {
@@ -110,7 +110,7 @@ impl World {
         }
     }
 
-    /// Writes the parts of an array or a struct likewise.
+    /// Writes the parts of an array or a struct in the same way; an array's are `packed`.
     #[cycle(initialisers)]
     fn write_parts<'a>(
         &mut self,
@@ -134,7 +134,7 @@ impl World {
         left
     }
 
-    /// Writes the first of some words, and returns the others.
+    /// Writes the `n` low bytes of the first of `words` at an address, and returns the other words.
     fn write_word<'a>(&mut self, at: Option<u64>, n: u8, words: &'a [u64]) -> &'a [u64]
         ensures written { (v : ℕ) (rest : List ℕ) → words.now ≡ v ∷ rest → (result.now ≡ rest) × Changes self.old self.new at (λ a. store_number a n v) }
         ensures keeps { Keeps self.old self.new }

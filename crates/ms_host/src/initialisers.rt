@@ -8,7 +8,7 @@ use crate::shadows::live_past;
 use crate::worlds::World;
 
 impl World {
-    /// Writes the `n` low bytes of a constant, the least first, from `at` on. Those that aren't live stand nowhere.
+    /// Writes the `n` low bytes of a constant, the least first, from `at` on, but for those that aren't live.
     pub(crate) fn initialise_number(&mut self, at: Option<u64>, n: u8, v: u64)
         ensures written { Changes self.old self.new at (λ a. store_number a n v) }
         ensures keeps { Keeps self.old self.new }
@@ -25,7 +25,7 @@ impl World {
         }
     }
 
-    /// Writes the bytes of a text from `at` on. Those that aren't live stand nowhere.
+    /// Writes the bytes of a text from `at` on, but for those that aren't live.
     pub(crate) fn initialise_text(&mut self, at: Option<u64>, bytes: &[u8])
         ensures written { Changes self.old self.new at (λ a. set_bytes a (length bytes.now) (λ k. get_or bytes.now k 0)) }
         ensures keeps { Keeps self.old self.new }

@@ -1,4 +1,5 @@
-//! Accesses of marked instructions: they reach the slots and the shadow alone.
+//! Accesses of marked instructions: they reach the slots and the shadow alone. The shadow of a byte has the byte's own address with
+//! `SHADOW_BITS` turned. In contracts `cells` are the bytes of the slots, by address.
 ghost use Rattle.std.specs.Prelude.{◌≡◌, ◌≤◌, ◌+◌, ℕ, true, Some, IfSome, bit_xor};
 ghost use Rattle.ms_bits.specs.Maps.{number_at, byte_of, with_range};
 ghost use Rattle.ms_runs.specs.{World.{World as Meant}, Memory.{is_good}, Plain.{shadow_bits}};

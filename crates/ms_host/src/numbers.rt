@@ -1,9 +1,9 @@
-//! Sums and round-ups of sizes of 64 bits; none where they pass that.
+//! Sums and round-ups of sizes and addresses of 64 bits, for the parts of initialisers; none where they pass that.
 ghost use Rattle.std.specs.Prelude.{◌≤◌, ◌+◌, ℕ};
 ghost use Rattle.ms_ir.specs.Layout.{round_up};
 ghost use Rattle.ms_host.specs.Initial.{Reaches};
 
-/// The sum of two numbers.
+/// The sum of two numbers; none where one of them is missing, or where it takes more than 64 bits.
 pub(crate) fn sum(a: Option<u64>, b: Option<u64>) -> Option<u64>
     ensures { (m n : ℕ) → Reaches a m → Reaches b n → Reaches result (m + n) }
 {

@@ -89,8 +89,8 @@ impl World {
         self.planes.poison(addr, n, mask, origin);
     }
 
-    /// Puts an origin into the cells of those of eight bytes that are live and whose byte of the mask, the least first,
-    /// isn't 0.
+    /// Puts an origin into the cells of those of the eight bytes from `addr` on that are live and whose byte of the mask, the least
+    /// first, isn't 0: what a store of a word with this mask does.
     pub fn mark_cells(&mut self, addr: u64, mask: u64, origin: u32)
         ensures marked { (beside : Beside) (world : Meant) → Shows self.old beside world → Shows self.new beside (mark_cells 8 addr mask origin world) }
         ensures keeps { Keeps self.old self.new }
@@ -117,7 +117,8 @@ impl World {
         }
     }
 
-    /// The origin of the first of eight bytes that is live and whose byte of the mask, the least first, isn't 0; else 0.
+    /// The origin of the first of the eight bytes from `addr` on that is live and whose byte of the mask, the least first, isn't 0;
+    /// else 0.
     pub fn load_origin(&self, addr: u64, mask: u64) -> u32
         ensures { (beside : Beside) (world : Meant) → Shows self.now beside world → result ≡ load_origin addr mask world }
     {
@@ -174,7 +175,7 @@ impl World {
         self.planes.load_shadow(addr, 1)
     }
 
-    /// The byte at a live address, for a search that began at `start`.
+    /// The poisoned byte at a live address, as a search that began at `start` returns it.
     fn poisoned_at(&self, start: u64, addr: u64) -> PoisonedByte
         requires live { IsTrue (is_live addr 1 self.now.planes.table) }
         requires after { start ≤ addr }

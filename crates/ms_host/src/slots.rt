@@ -1,4 +1,4 @@
-//! The slots, which hand masks and origins over at calls.
+//! The slots, which hand masks and origins over at calls. In contracts `cells` are their bytes, by address.
 ghost use Rattle.std.specs.Prelude.{◌≡◌, ◌≤◌, ◌<◌, ◌+◌, ◌-◌, ◌^◌, true, false, ℕ, List, length, replicate, IfOk, MatchOption, MatchBool, leb, ◌&&◌, IsTrue};
 ghost use Rattle.ms_bits.specs.Maps.{number_at, byte_of, with_range};
 ghost use Rattle.ms_ir.specs.Names.{slots};
@@ -11,10 +11,10 @@ use ms_planes::words::{number_in, put_number};
 use std::alloc::Global;
 use std::marker::Model;
 
-/// How far they reach.
+/// How many bytes the slots take, from the first byte of the first to the last byte of the last.
 const REACH: usize = 0x3004;
 
-/// Where they end.
+/// The address where the slots end.
 const END: u64 = 0x6800_0000_3004;
 
 /// The bytes of the four slots, of 800, 400, 8 and 4 bytes, in one row with those between them, which are never read.
@@ -102,7 +102,7 @@ impl Slots {
         found
     }
 
-    /// The number that `n` bytes are, by how far they stand from where the slots begin.
+    /// The number that `n` bytes of a slot are, `at` bytes after where the slots begin.
     #[inline(always)]
     pub fn load_at(&self, at: usize, n: u8) -> u64
         requires size { n ≤ 8 }
@@ -112,7 +112,7 @@ impl Slots {
         number_in(&self.bytes, at, n)
     }
 
-    /// Writes the `n` low bytes of `v`, by how far they stand from where the slots begin.
+    /// Writes the `n` low bytes of `v` into a slot, `at` bytes after where the slots begin.
     #[inline(always)]
     pub fn store_at(&mut self, at: usize, n: u8, v: u64)
         requires size { n ≤ 8 }

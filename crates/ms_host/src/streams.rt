@@ -1,4 +1,4 @@
-//! The input and the output.
+//! The input and the output of a run: what externals print and take.
 ghost use Rattle.std.specs.Prelude.{◌≡◌, ◌≤◌, ◌+◌, ℕ, List, [], ◌∷◌, ◌++◌, length, take, drop, get_or, OnOk, MatchOption, IsTrue, ◌↔◌};
 ghost use Rattle.ms_alloc.specs.Allocations.{is_good as is_live};
 ghost use Rattle.ms_bits.specs.Maps.{bytes_at};
@@ -21,7 +21,7 @@ impl World {
         printed <= OUTPUT && n <= OUTPUT - printed
     }
 
-    /// Prints a byte.
+    /// Prints a byte: puts it behind the output.
     pub fn print_byte(&mut self, byte: u8) -> Result<(), NoMemory>
         ensures printed { (beside : Beside) (world : Meant) → Shows self.old beside world → OnOk result (Shows self.new beside (record world { output = world.output ++ byte ∷ [] })) }
         ensures planes { self.new.planes ≡ self.old.planes }
@@ -32,7 +32,7 @@ impl World {
         Ok(())
     }
 
-    /// Prints bytes.
+    /// Prints bytes that are given.
     pub fn print_bytes(&mut self, bytes: &[u8]) -> Result<(), NoMemory>
         ensures printed { (beside : Beside) (world : Meant) → Shows self.old beside world → OnOk result (Shows self.new beside (record world { output = world.output ++ bytes.now })) }
         ensures planes { self.new.planes ≡ self.old.planes }
@@ -43,7 +43,7 @@ impl World {
         Ok(())
     }
 
-    /// Prints good bytes.
+    /// Prints `n` good bytes of memory, from `addr` on.
     pub fn print_range(&mut self, addr: u64, n: u64) -> Result<(), NoMemory>
         requires { IsTrue (is_live addr n self.old.planes.table) }
         ensures printed { (beside : Beside) (world : Meant) → Shows self.old beside world → OnOk result (Shows self.new beside (record world { output = world.output ++ bytes_at world.bytes addr n })) }

@@ -38,7 +38,7 @@ impl World {
         None
     }
 
-    /// How the first of `n` good bytes that differ stand to each other: -1, 0 or 1 as a word of 32 bits.
+    /// How two ranges of `n` good bytes compare, by the first bytes that differ: -1, 0 or 1 as a word of 32 bits.
     pub fn compare(&self, a: u64, b: u64, n: u64) -> u64
         requires first { IsTrue (is_live a n self.now.planes.table) }
         requires second { IsTrue (is_live b n self.now.planes.table) }

@@ -1,4 +1,4 @@
-//! The slots of a thread that begins, and of one that has returned.
+//! What `ms_threads` does to the slots: for the parameter of a thread that begins, and for the result of one that has returned.
 ghost use Rattle.std.specs.Prelude.{◌≡◌, ◌%◌, ◌^◌, ℕ};
 ghost use Rattle.ms_bits.specs.Maps.{number_at};
 ghost use Rattle.ms_ir.specs.declared.calls.Slot.TheVariants as slot;
@@ -10,7 +10,7 @@ use crate::worlds::World;
 use ms_ir::Slot;
 
 impl World {
-    /// The slots of the first parameter get the mask 0 and the origin 0.
+    /// Gives the slots of the first parameter the mask 0 and the origin 0: a thread's argument is clean.
     pub fn clear_first(&mut self)
         ensures slots { (cells : ℕ → ℕ) → ShowsSlots self.old.slots cells → ShowsSlots self.new.slots (first_clean cells) }
         ensures shows { (beside : Beside) (world : Meant) → Shows self.old beside world → Shows self.new beside world }

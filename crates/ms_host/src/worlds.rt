@@ -14,19 +14,21 @@ use ms_planes::Planes;
 use std::alloc::Global;
 use std::marker::Model;
 
-/// What a run changes beside its frames, its reports and its chained origins: memory with shadow and origins, the
-/// slots, how much of the input was taken, the output, and the number of uninitialised bytes that were made. It also
-/// has the fill of which these are made.
+/// What a run changes beside its frames, its reports and its chained origins; and the fill.
 ///
 /// Where memory runs out the run is over, and only the input and the fill are still known.
 #[derive(Debug, Drop)]
 pub struct World {
+    /// Memory with shadow and origins.
     pub(crate) planes: Planes,
     pub(crate) slots: Slots,
     pub(crate) input: Bytes,
+    /// How many bytes of the input were taken.
     pub(crate) at: usize,
     pub(crate) output: Vec<u8>,
+    /// The bytes of which uninitialised bytes are made, over and over.
     pub(crate) fill: Bytes,
+    /// How many uninitialised bytes were made so far.
     pub(crate) made: u64,
 }
 
@@ -113,7 +115,7 @@ impl World {
         Ok(base)
     }
 
-    /// Where the next allocation of the stack begins.
+    /// Where the next allocation of the stack begins: the mark of a frame that begins now.
     pub fn mark(&self) -> u64
         ensures { (beside : Beside) (world : Meant) → Shows self.now beside world → result ≡ next_base (area_of AllocKind.Stack) world }
     {

@@ -6,7 +6,8 @@ ghost use Rattle.ms_planes.specs.Memory.{bytes_of, shadow_of, origins_of};
 
 use ms_planes::Planes;
 
-/// Makes `size` bytes from `base` on uninitialised, where `made` were made before: they are the next ones of the fill.
+/// Makes `size` bytes from `base` on uninitialised: they are the next ones of the fill, after the `made` uninitialised bytes that
+/// the run made before.
 pub(crate) fn write_unset(planes: &mut Planes, fill: &[u8], made: u64, base: u64, size: u64)
     requires filled { 0 < length fill.now }
     requires laid_out { IsLaidOut planes.old.table }
@@ -20,7 +21,7 @@ pub(crate) fn write_unset(planes: &mut Planes, fill: &[u8], made: u64, base: u64
     planes.store_made(base, size, fill, made);
 }
 
-/// Makes `size` bytes from `base` on the same.
+/// Makes each of `size` bytes from `base` on `byte`.
 pub(crate) fn write_byte(planes: &mut Planes, byte: u8, base: u64, size: u64)
     requires laid_out { IsLaidOut planes.old.table }
     requires good { IsTrue (is_good base size planes.old.table) }

@@ -1,5 +1,6 @@
-//! The types and the numbers of a function's values, by their names. Nothing here takes memory: names are looked for one
-//! after the other.
+//! The types and the numbers of a function's values, by their names, for `word` of `inspect.rt`. Nothing here takes memory: names
+//! are looked for one after the other. Parameters, blocks and results have numbers in text order; the `seek_` functions give the
+//! number of a name, or, as error, the number after all that they passed.
 ghost use Rattle.std.specs.Prelude.{◌≡◌, ◌+◌, ◌<◌, ◌^◌, length, map, filter_map, flat_map, option_map};
 ghost use Rattle.std.specs.Option.{option_to_list};
 ghost use Rattle.ms_ir.specs.{Names.{lookup}, Locals.{block_locals, locals, results, typed_result, value_type}};
@@ -20,7 +21,7 @@ fn param_type<'m>(params: &'m [(Ty, Name)], name: &Name) -> Option<ValueType<'m>
     None
 }
 
-/// The type of the result of an instruction, where it has this name.
+/// The type of an instruction's result, if that has the name.
 fn type_if_named<'m>(inst: &'m Inst, name: &Name) -> Option<ValueType<'m>>
     ensures { option_map type_of result ≡ lookup (option_to_list (typed_result inst.now)) name.now }
 {
@@ -83,7 +84,7 @@ fn seek_param(params: &[(Ty, Name)], name: &Name) -> Result<usize, usize>
     Err(params.len())
 }
 
-/// The number of a name among those of results, after so many other names.
+/// The number of a name among those of results, of which the first has the number `from`.
 fn seek_result(insts: &[Inst], name: &Name, from: usize) -> Result<usize, usize>
     requires { from + length (results insts.now) < 2 ^ 64 }
     ensures { IsSought (results insts.now) name.now from result }
@@ -100,7 +101,7 @@ fn seek_result(insts: &[Inst], name: &Name, from: usize) -> Result<usize, usize>
     Err(passed)
 }
 
-/// The number of a name among those of a block and its results, after so many other names.
+/// The number of a name among those of a block and its results, of which the first has the number `from`.
 fn seek_block(block: &Block, name: &Name, from: usize) -> Result<usize, usize>
     requires { from + length (block_locals block.now) < 2 ^ 64 }
     ensures { IsSought (block_locals block.now) name.now from result }
@@ -112,7 +113,7 @@ fn seek_block(block: &Block, name: &Name, from: usize) -> Result<usize, usize>
     }
 }
 
-/// The number of a name among those of blocks and their results, after so many other names.
+/// The number of a name among those of blocks and their results, of which the first has the number `from`.
 fn seek_blocks(blocks: &[Block], name: &Name, from: usize) -> Result<usize, usize>
     requires { from + length (flat_map block_locals blocks.now) < 2 ^ 64 }
     ensures { IsSought (flat_map block_locals blocks.now) name.now from result }

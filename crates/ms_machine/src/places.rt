@@ -1,4 +1,5 @@
-//! Where instructions stand, by their numbers, counted from 0 in text order.
+//! Where an instruction of the code stands in the module, by its number among all instructions, counted from 0 in text order: for
+//! what a fiber shows at a pause (`inspect.rt`).
 ghost use Rattle.std.specs.Prelude.{◌≡◌, ◌≤◌, ◌<◌, ◌+◌, ℕ, Some, IfErr, IfNone, IfOk, IfSome};
 ghost use Rattle.ms_ir.specs.Instructions.{func_at, over_blocks, over_funcs};
 ghost use Rattle.ms_check_valid.specs.Formed.{Formed};
@@ -13,8 +14,8 @@ struct InstPlace {
     inst: usize,
 }
 
-/// Where the instruction with a number among those of blocks stands; where they have fewer, how far the number is beyond
-/// them.
+/// Where the instruction with a number among those of a function's blocks stands; where they have fewer, how far the number is
+/// beyond them.
 fn find_block(blocks: &[Block], number: usize) -> Result<InstPlace, usize>
     ensures found { IfOk result (λ p. IsInBlock blocks.now number p.block p.inst) }
     ensures beyond { IfErr result (λ left. over_blocks (λ inst. 1) blocks.now + left ≡ number) }

@@ -1,4 +1,4 @@
-//! The words of a function's values, by their names.
+//! The words of a function's values, by their names, for `word` of `inspect.rt`.
 ghost use Rattle.std.specs.Prelude.{◌≡◌, ◌≤◌, ◌<◌, ◌%◌, ◌^◌, ℕ, true, length, get_or};
 ghost use Rattle.ms_ir.specs.{declared.syntax.Name.{Name as NameOf}, Layout.{width_of}, Locals.{locals}};
 ghost use Rattle.ms_ir.specs.ValueTypes.{type_of};
@@ -25,7 +25,7 @@ fn width(ty: ValueType<'_>) -> u8
     }
 }
 
-/// The low bits of a number as a word.
+/// The `width` low bits of a number as a word.
 fn cut(width: u8, value: u64) -> Word
     requires some { 1 ≤ width }
     requires few { width ≤ 64 }
@@ -35,7 +35,7 @@ fn cut(width: u8, value: u64) -> Word
     Word::new(width, (value as u128 % limit) as u64)
 }
 
-/// What stands at the number of a name among the values of a function.
+/// The value that a frame of the function has for a name.
 fn value_named(func: &Func, values: &[u64], name: &Name) -> u64
     requires held { length values.now ≡ length (locals func.now) }
     requires known { name_place (locals func.now) name.now < length (locals func.now) }

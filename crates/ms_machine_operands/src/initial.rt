@@ -51,7 +51,7 @@ fn push_init(tables: &CodeTables<'_>, init: &Init, words: &mut Vec<u64>) -> Resu
     }
 }
 
-/// Appends those of the parts of an array or a struct.
+/// Appends the words of the constants in the parts of an array or a struct.
 #[cycle(constants)]
 fn push_parts(
     tables: &CodeTables<'_>,
@@ -69,7 +69,7 @@ fn push_parts(
     Ok(())
 }
 
-/// Appends those of a global; one with a reserved name has none.
+/// Appends the words of a global's initialiser; a global with a reserved name has none.
 fn push_global(
     tables: &CodeTables<'_>,
     global: &GlobalVar,
@@ -86,7 +86,7 @@ fn push_global(
     push_init(tables, &global.init, words)
 }
 
-/// Appends those of globals.
+/// Appends the words of the initialisers of globals.
 fn push_globals(
     tables: &CodeTables<'_>,
     globals: &[GlobalVar],

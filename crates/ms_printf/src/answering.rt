@@ -15,21 +15,21 @@ use ms_ir::{Module, Ty};
 use ms_runs::End;
 use std::alloc::Global;
 
-/// The run ends by a trap.
+/// The answer that ends the run by a trap.
 fn ended(kind: Trap, site: u32) -> Answer
     ensures { result ≡ Answer.Ended (End.Trap kind site) }
 {
     Answer::Ended(End::Trap { kind, site })
 }
 
-/// The first word, which is the address of the format; 0 where it is missing.
+/// The first argument's word, which is the address of the format; 0 where it is missing.
 fn first_word(words: &[u64]) -> u64
     ensures { result ≡ get_or words.now 0 0 }
 {
     if words.is_empty() { 0 } else { words[0] }
 }
 
-/// What a call at a site comes to whose arguments have these types.
+/// What a call at a site comes to whose arguments have these types and words.
 fn answer_call(
     alloc: Global,
     types: &[Ty],

@@ -1,4 +1,4 @@
-//! The arguments of a call, with their types.
+//! The arguments of a call of `printf`, with their types: as the code kept them, or as an instruction of the module has them.
 ghost use Rattle.std.specs.{Prelude.{◌≡◌, ◌++◌, [], ◌∷◌, Some, option_map, option_to_list, slice_get, drop, zip, IfOk}, Option.{option_copied}};
 ghost use Rattle.ms_ir.specs.{declared.syntax.Inst.{Inst as InstOf}, declared.places.Place.{Place as PlaceOf}};
 ghost use Rattle.ms_ir.specs.{Instructions.{insts_at}, Places.{HasSmallNumbers, IsPlaceOf, inst_at}, ValueTypes.{type_of}};
@@ -15,7 +15,7 @@ pub(crate) struct Argument<'m> {
     pub word: u64,
 }
 
-/// The word with a number, if it is there.
+/// The word of argument `k`, if there is one.
 #[tactic(auto, using(crate::proofs::Steps::word_there, crate::proofs::Steps::word_missing))]
 fn word_at(words: &[u64], k: usize) -> Option<u64>
     ensures { result ≡ slice_get words.now k }
@@ -27,7 +27,7 @@ fn word_at(words: &[u64], k: usize) -> Option<u64>
     }
 }
 
-/// The type with a number, if it is there.
+/// The type of argument `k`, if there is one.
 fn type_at(types: &[Ty], k: usize) -> Option<ValueType<'_>>
     ensures { option_map type_of result ≡ slice_get types.now k }
 {
@@ -37,7 +37,7 @@ fn type_at(types: &[Ty], k: usize) -> Option<ValueType<'_>>
     }
 }
 
-/// The argument with a number, counted from 0, if it is there.
+/// Argument `k`, counted from 0, if there is one.
 pub(crate) fn argument_at<'m>(types: &'m [Ty], words: &[u64], k: usize) -> Option<Argument<'m>>
     ensures { option_map given result ≡ slice_get (zip (drop k types.now) (drop k words.now)) 0 }
 {
@@ -61,7 +61,7 @@ fn written(alloc: Global, ty: ValueType<'_>) -> Result<Ty, NoMemory>
     }
 }
 
-/// Adds a type.
+/// Adds a type as it is written.
 fn push_type(alloc: Global, types: &mut Vec<Ty>, ty: ValueType<'_>) -> Result<(), NoMemory>
     ensures { IfOk result (λ _. types.new.items ≡ types.old.items ++ type_of ty.entry ∷ []) }
 {
@@ -69,7 +69,7 @@ fn push_type(alloc: Global, types: &mut Vec<Ty>, ty: ValueType<'_>) -> Result<()
     Ok(())
 }
 
-/// Adds the type of the operand with a place, if there is one there.
+/// Adds the type of operand `k` of an operation, if there is one.
 fn push_type_at(alloc: Global, types: &mut Vec<Ty>, op: &Op, k: usize) -> Result<(), NoMemory>
     ensures { IfOk result (λ _. types.new.items ≡ types.old.items ++ option_to_list (slice_get (types_of op.now) k)) }
 {

@@ -1,4 +1,4 @@
-//! Which arguments a format asks for as strings.
+//! Which arguments a format asks for as strings: their bytes are used by `printf`, and so checked.
 ghost use Rattle.std.specs.Prelude.{◌≡◌, ◌<◌, ◌-◌};
 ghost use Rattle.ms_bits.specs.Maps.{bytes_at};
 ghost use Rattle.ms_runs.specs.{World.{World as Meant}, Formats.{asks_string as asks}, Origins.{asks_string_at}};
@@ -19,7 +19,7 @@ fn is_string(part: &FormatPart) -> bool
     }
 }
 
-/// The number of a directive, counted from 1, among those after a part; 0 where it is the part itself.
+/// Directive `number`, counted from 1 with this part, as a number after the part; 0 where the part is that directive itself.
 fn number_after(part: &FormatPart, number: u64) -> u64
     requires { 0 < number }
     ensures { result ≡ number - arguments_taken part.now }
@@ -30,7 +30,7 @@ fn number_after(part: &FormatPart, number: u64) -> u64
     }
 }
 
-/// Whether the directive with a number, counted from 1, of the rest of a format is `%s`.
+/// Whether directive `index`, counted from 1, of the `length` bytes of a format at an address is `%s`.
 fn asks_within(world: &World, format: u64, length: u64, index: u64) -> bool
     requires rest { IsRest world.now.planes.table format length }
     requires number { 0 < index }
@@ -53,7 +53,7 @@ fn asks_within(world: &World, format: u64, length: u64, index: u64) -> bool
     false
 }
 
-/// Whether the format at an address asks for a string by its directive of an argument; the format itself is argument 0.
+/// Whether the format at an address asks for argument `index` as a string; the format itself is argument 0.
 /// False where the format doesn't end within its allocation. Takes no memory; linear in the format.
 pub fn asks_string(world: &World, format: u64, index: u64) -> bool
     ensures { (beside : Beside) (meant : Meant) → Shows world.now beside meant → result ≡ asks_string_at meant format index }

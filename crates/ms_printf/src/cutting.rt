@@ -1,4 +1,4 @@
-//! The pieces of a format.
+//! The pieces of a format that is given as bytes, for those who call `cut`; runs walk along the format in memory (`walks.rt`).
 ghost use Rattle.std.specs.Prelude.{true, ◌≡◌, ◌≤◌, ◌<◌, ◌∷◌, length, take, drop, option_map, IfOk, IfSome, MatchOption};
 ghost use Rattle.ms_runs.specs.Formats.{directive as directive_of, plain_bytes, no_pieces, with_piece, cut_of};
 
@@ -7,14 +7,14 @@ use ms_bits::{List, NoMemory};
 use ms_runs::{Cut, Piece};
 use std::alloc::Global;
 
-/// The piece of bytes that are printed as they stand.
+/// A piece of bytes that are printed as they stand.
 fn text(alloc: Global, bytes: &[u8]) -> Result<Piece, NoMemory>
     ensures { IfOk result (λ p. p ≡ Piece.Text bytes.now) }
 {
     Ok(Piece::Text(List::from_vec(Vec::from_slice(alloc, bytes)?)))
 }
 
-/// The directive with which the bytes after a `%` begin, and of how many bytes it is.
+/// The piece for which the bytes after a `%` stand, and of how many of them it is; none where they begin with no directive.
 fn directive(alloc: Global, rest: &[u8]) -> Result<Option<(Piece, usize)>, NoMemory>
     ensures value { IfOk result (λ o. directive_of rest.now ≡ option_map (λ d. (d.0, drop d.1 rest.now)) o) }
     ensures within { IfOk result (λ o. IfSome o (λ d. d.1 ≤ length rest.now)) }
@@ -52,7 +52,7 @@ fn plain_length(bytes: &[u8]) -> usize
     n
 }
 
-/// What stands after so many bytes.
+/// All but the first `n` bytes.
 fn bytes_after(bytes: &[u8], n: usize) -> &[u8]
     requires { n ≤ length bytes.now }
     ensures { result.now ≡ drop n bytes.now }
@@ -60,7 +60,7 @@ fn bytes_after(bytes: &[u8], n: usize) -> &[u8]
     &bytes[n..]
 }
 
-/// So many first bytes.
+/// The first `n` bytes.
 fn before(bytes: &[u8], n: usize) -> &[u8]
     requires { n ≤ length bytes.now }
     ensures { result.now ≡ take n bytes.now }
@@ -68,7 +68,8 @@ fn before(bytes: &[u8], n: usize) -> &[u8]
     &bytes[..n]
 }
 
-/// The first piece of a format, and of how many bytes it is; none where it is bad there.
+/// The first piece of a format, which begins with `first` and goes on with `after`, and of how many bytes it is; none where it is
+/// bad there.
 #[tactic(auto, using(crate::proofs::Cuts::by_directive, crate::proofs::Cuts::by_none, crate::proofs::Cuts::by_text))]
 fn first_piece(
     alloc: Global,

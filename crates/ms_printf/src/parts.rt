@@ -1,4 +1,4 @@
-//! The parts of a format that stands in memory.
+//! The parts of a format that stands in memory, read one by one. `left` is how many bytes of the format stand from `addr` on.
 ghost use Rattle.std.specs.Prelude.{◌≡◌, ◌≤◌, ◌<◌};
 ghost use Rattle.ms_bits.specs.Maps.{bytes_at};
 ghost use Rattle.ms_runs.specs.{World.{World as Meant}, Formats.{plain_bytes}};
@@ -18,7 +18,7 @@ pub(crate) enum FormatPart {
     Directive(Piece),
 }
 
-/// How many bytes stand before the first `%`.
+/// How many of the bytes that are left stand before the first `%`.
 fn plain_length(world: &World, addr: u64, left: u64) -> u64
     requires { IsRest world.now.planes.table addr left }
     ensures value { (beside : Beside) (meant : Meant) → Shows world.now beside meant → result ≡ plain_bytes (bytes_at meant.bytes addr left) }

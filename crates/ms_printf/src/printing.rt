@@ -12,8 +12,8 @@ use ms_host::World;
 use ms_ir::Ty;
 use std::alloc::Global;
 
-/// The sum with one part more: the number of bytes, or the fault. A string that doesn't end within its allocation comes
-/// before any fault of the format.
+/// The number of bytes of the parts so far and one part more, or the fault of one of them. A string that doesn't end within its
+/// allocation comes before any fault of the format.
 fn joined(sum: Result<u64, FormatFault>, part: &Shown) -> Result<u64, FormatFault>
     ensures { (meant : Meant) (came : Result (List ℕ) TrapOf) → Measures sum came → Measures result (both_shown came (shown_of meant part.now)) }
 {
@@ -60,7 +60,7 @@ fn print_part(world: &mut World, part: &Shown) -> Result<(), NoMemory>
     }
 }
 
-/// Prints the rest of a format that has no fault.
+/// Prints what the rest of a format comes to, which has no fault.
 pub(crate) fn print_rest(
     alloc: Global,
     world: &mut World,

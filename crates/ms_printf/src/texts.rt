@@ -1,4 +1,4 @@
-//! Words as text.
+//! Words as the text that a directive prints.
 ghost use Rattle.std.specs.Prelude.{ℕ, List, false, ◌≡◌, ◌+◌, ◌^◌, Option, Result, Ok, IfOk, decimal};
 ghost use Rattle.std.specs.Fmt.{digits, signed_decimal};
 ghost use Rattle.ms_bits.specs.Signed.{signed};

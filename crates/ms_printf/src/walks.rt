@@ -17,14 +17,15 @@ use std::alloc::Global;
 pub(crate) struct Walk {
     /// Where the rest of the format begins.
     pub addr: u64,
-    /// How many bytes it has.
+    /// How many bytes the rest has.
     pub left: u64,
     /// The number of the next argument; the format is argument 0.
     pub next: usize,
 }
 
 impl Walk {
-    /// What the next part comes to; `None` at the end of the format. A bad place is the last part.
+    /// What the next part comes to with its argument; `None` at the end of the format. A place where the format is bad counts as
+    /// the last part, a fault.
     pub fn step(
         &mut self,
         alloc: Global,

@@ -1,4 +1,4 @@
-//! The closing lines of a run.
+//! The closing lines of a run: how it ended, how many reports and blind uses it has, its verdict.
 ghost use Rattle.std.specs.Prelude.{◌≡◌, ◌++◌, IfOk, codes, decimal};
 ghost use Rattle.ms_ir.specs.Places.{HasSmallNumbers};
 ghost use Rattle.ms_check_valid.specs.Formed.{Formed};
@@ -15,7 +15,7 @@ use ms_runs::{End, RunResult};
 use ms_write_values::push_number;
 use std::alloc::Global;
 
-/// Adds how a run ended.
+/// Adds how a run ended, in words: `exit`, `trap` with its site, `reported` or `spent`.
 fn push_end(text: &mut Vec<u8>, m: &Module, end: End) -> Result<(), NoMemory>
     requires { HasSmallNumbers m.now }
     ensures { IfOk result (λ _. text.new.items ≡ text.old.items ++ end_text m.now end) }
@@ -55,7 +55,7 @@ fn name_of_verdict(r: &RunResult) -> &'static [u8]
     }
 }
 
-/// Adds the line of a number with a name.
+/// Adds the line `name: count`.
 pub(crate) fn push_count(text: &mut Vec<u8>, name: &[u8], count: u64) -> Result<(), NoMemory>
     ensures { IfOk result (λ _. text.new.items ≡ text.old.items ++ line name.now (decimal count)) }
 {
@@ -89,7 +89,7 @@ fn push_verdict(text: &mut Vec<u8>, r: &RunResult, asked: bool) -> Result<(), No
     Ok(())
 }
 
-/// Adds the closing lines of a run.
+/// Adds the closing lines of a run, with the verdict where that is asked for, and the lines under the site of a trap.
 fn push_closing<L: SiteLines>(
     text: &mut Vec<u8>,
     m: &Module,
@@ -117,7 +117,7 @@ pub fn closing(alloc: Global, m: &Module, r: &RunResult, verdict: bool) -> Resul
     closing_with(alloc, m, r, verdict, &NoLines)
 }
 
-/// The closing lines of a run of `m`, with these lines under the site of a trap.
+/// The closing lines of a run of `m`, with the lines `under` the site of a trap.
 pub fn closing_with<L: SiteLines>(
     alloc: Global,
     m: &Module,

@@ -1,4 +1,4 @@
-//! The lines of modules that aren't valid.
+//! The lines that say why a module isn't valid, one for each cause, with the cause's number: 9 to 17.
 ghost use Rattle.std.specs.Prelude.{◌≡◌, ◌++◌, true, is_some, IfOk, codes, decimal};
 ghost use Rattle.ms_check.specs.Faults.{fault_of};
 ghost use Rattle.ms_report.specs.FaultTexts.{refused_line, signed, at_site, spaced, fault_line};
@@ -10,7 +10,7 @@ use ms_check::CheckError;
 use ms_ir::Name;
 use ms_write_values::{push_name, push_number};
 
-/// Adds a name after its sign, `@` where it is global.
+/// Adds a name after its sign: `@` where it is global, else `%`.
 fn push_signed(text: &mut Vec<u8>, global: bool, name: &Name) -> Result<(), NoMemory>
     ensures { IfOk result (λ _. text.new.items ≡ text.old.items ++ signed (record { global = global; name = name.now })) }
 {
@@ -18,7 +18,7 @@ fn push_signed(text: &mut Vec<u8>, global: bool, name: &Name) -> Result<(), NoMe
     push_name(text, name)
 }
 
-/// Adds a site.
+/// Adds `at site`, and the site's number.
 fn push_site(text: &mut Vec<u8>, site: u32) -> Result<(), NoMemory>
     ensures { IfOk result (λ _. text.new.items ≡ text.old.items ++ at_site site) }
 {
@@ -37,7 +37,7 @@ fn push_spaced(text: &mut Vec<u8>, numbers: &[u32]) -> Result<(), NoMemory>
     Ok(())
 }
 
-/// Adds the line of a cause with a name.
+/// Adds the line of a cause, with its number, that is about a name.
 fn push_name_line(
     text: &mut Vec<u8>,
     number: u8,
@@ -54,7 +54,7 @@ fn push_name_line(
     Ok(())
 }
 
-/// Adds the line of a cause with a site.
+/// Adds the line of a cause, with its number, that is about a site.
 fn push_site_line(text: &mut Vec<u8>, number: u8, cause: &[u8], site: u32) -> Result<(), NoMemory>
     ensures { IfOk result (λ _. text.new.items ≡ text.old.items ++ refused_line number (cause.now ++ at_site site)) }
 {
@@ -77,7 +77,7 @@ fn push_unknown(text: &mut Vec<u8>, site: u32, global: bool, name: &Name) -> Res
     Ok(())
 }
 
-/// Adds the line for an operand of another type.
+/// Adds the line for an operand of a site's instruction that has another type than it should.
 fn push_type(text: &mut Vec<u8>, site: u32, operand: u32) -> Result<(), NoMemory>
     ensures { IfOk result (λ _. text.new.items ≡ text.old.items ++ refused_line 11 (codes "type" ++ at_site site ++ codes ", operand " ++ decimal operand)) }
 {
@@ -90,7 +90,7 @@ fn push_type(text: &mut Vec<u8>, site: u32, operand: u32) -> Result<(), NoMemory
     Ok(())
 }
 
-/// Adds a path of blocks.
+/// Adds a path, as the numbers of its blocks.
 fn push_blocks(text: &mut Vec<u8>, path: &[u32]) -> Result<(), NoMemory>
     ensures { IfOk result (λ _. text.new.items ≡ text.old.items ++ (codes ", path" ++ spaced path.now)) }
 {

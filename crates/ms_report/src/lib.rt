@@ -1,5 +1,5 @@
-//! What is printed: the reports of a run, the way to one of them, how the run ended and its summary, which schedules were tried, and why a module or a command is refused. Every line ends with
-//! a newline.
+//! What is printed: the reports of a run, the way to one of them, how the run ended and its summary, which schedules were tried,
+//! and why a module or a command is refused. `ms_top` puts these texts together. Every line ends with a newline.
 #![tactic(auto)]
 
 mod endings;

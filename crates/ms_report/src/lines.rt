@@ -1,4 +1,4 @@
-//! How the lines of refusals begin: with the word `refused`, and a number.
+//! How the lines of refusals begin: with the word `refused`, and the number of the cause.
 ghost use Rattle.std.specs.Prelude.{◌≡◌, ◌++◌, IfOk, codes, decimal};
 ghost use Rattle.ms_report.specs.FaultTexts.{refused_line};
 

@@ -1,4 +1,4 @@
-//! The printed names of traps, constructs, limits, causes, kinds of uses and roots.
+//! Tables of printed names: of traps, constructs that are left out, limits, causes, kinds of uses and kinds of roots.
 ghost use Rattle.std.specs.Prelude.{◌≡◌, ◌++◌, None, IfSome, codes, decimal};
 ghost use Rattle.ms_report.specs.{RefusalTexts.{outside_name, limit_name, cause_name}, ReportTexts.{kind_text, root_name}, RunTexts.{trap_name}};
 
@@ -82,7 +82,7 @@ pub fn name_of_limit(limit: Limit) -> &'static [u8]
     }
 }
 
-/// The printed name of the cause with a number.
+/// The printed name of the cause, of a text that isn't read, with a number from 4 to 8.
 pub fn name_of_cause(number: u8) -> &'static [u8]
     ensures { result.now ≡ cause_name number }
 {

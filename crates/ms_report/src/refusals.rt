@@ -1,4 +1,4 @@
-//! The lines of refusals.
+//! The lines that say why a module is refused: its text isn't read, or it isn't valid (`faults.rt`).
 ghost use Rattle.std.specs.Prelude.{◌≡◌, ◌++◌, IfOk, decimal};
 ghost use Rattle.ms_report.specs.FaultTexts.{refused_line};
 ghost use Rattle.ms_report.specs.RefusalTexts.{HasLine, IsReadRefusal, IsNumbered, what_text, token_text, lexer_text, reader_text, refusal_text, threads_text};
@@ -51,7 +51,7 @@ fn push_token(text: &mut Vec<u8>, token: u32, place: u32) -> Result<(), NoMemory
     push_number(text, place as u64)
 }
 
-/// Adds the line of a refusal that names a byte.
+/// Adds the line of a refusal, with the number of its cause, that names the place of a byte.
 fn push_byte(text: &mut Vec<u8>, number: u8, name: &[u8], place: u32) -> Result<(), NoMemory>
     ensures { IfOk result (λ _. text.new.items ≡ text.old.items ++ refused_line number (name.now ++ decimal place)) }
 {

@@ -1,4 +1,4 @@
-//! The lines of a run's reports.
+//! The lines of a run's reports: each report, and under it the way of its origin back to a root, one line for each origin.
 ghost use Rattle.std.specs.Prelude.{◌≡◌, ◌++◌, IfOk, codes, decimal};
 ghost use Rattle.ms_ir.specs.{Places.{HasSmallNumbers}, Roots.{roots_of, root_numbered}};
 ghost use Rattle.ms_check_valid.specs.Formed.{Formed};
@@ -14,7 +14,7 @@ use ms_runs::{Origin, Report, RunResult};
 use ms_write_values::push_number;
 use std::alloc::Global;
 
-/// A module with its roots, and what is printed under each line that names a site.
+/// What the lines of reports are made with: the module with its roots, and the lines `under` each line that names a site.
 #[derive(Drop)]
 struct Rooted<'a, L> {
     m: &'a Module,
@@ -44,7 +44,7 @@ fn push_kind(text: &mut Vec<u8>, kind: u32) -> Result<(), NoMemory>
     }
 }
 
-/// Adds what made the bits of a root.
+/// Adds what made the uninitialised bits of a root: its kind and its site; `unknown` where there is none.
 fn push_root(text: &mut Vec<u8>, m: &Module, root: Option<Root>) -> Result<(), NoMemory>
     requires { HasSmallNumbers m.now }
     ensures { IfOk result (λ _. text.new.items ≡ text.old.items ++ root_text m.now root) }
@@ -58,7 +58,7 @@ fn push_root(text: &mut Vec<u8>, m: &Module, root: Option<Root>) -> Result<(), N
     }
 }
 
-/// The number of the origin after one with the number `number`.
+/// The number of the next origin on the way back, after origin `number`.
 fn earlier(number: u32, origin: Origin) -> u32
     ensures { result ≡ earlier_of number origin }
 {
@@ -68,7 +68,7 @@ fn earlier(number: u32, origin: Origin) -> u32
     }
 }
 
-/// Begins the line of the origin with a number.
+/// Begins the line of origin `number`.
 fn begin_origin(text: &mut Vec<u8>, number: u32) -> Result<(), NoMemory>
     ensures { IfOk result (λ _. text.new.items ≡ text.old.items ++ (codes "  origin " ++ decimal number ++ codes ": ")) }
 {
@@ -77,7 +77,7 @@ fn begin_origin(text: &mut Vec<u8>, number: u32) -> Result<(), NoMemory>
     text.extend_from_slice(b": ")
 }
 
-/// Adds which report it is, and where which kind of use stands.
+/// Adds the number of a report, the kind of its use, and where that stands.
 fn push_use(text: &mut Vec<u8>, m: &Module, number: u64, report: &Report) -> Result<(), NoMemory>
     requires { HasSmallNumbers m.now }
     ensures { IfOk result (λ _. text.new.items ≡ text.old.items ++ use_text m.now number report.now) }
@@ -89,7 +89,7 @@ fn push_use(text: &mut Vec<u8>, m: &Module, number: u64, report: &Report) -> Res
     push_site(text, m, report.site)
 }
 
-/// Adds which bits are used.
+/// Adds which part of its instruction a report's use reads, and which bits of it are uninitialised.
 fn push_bits(text: &mut Vec<u8>, report: &Report) -> Result<(), NoMemory>
     ensures { IfOk result (λ _. text.new.items ≡ text.old.items ++ bits_text report.now) }
 {
@@ -113,7 +113,7 @@ fn push_line(text: &mut Vec<u8>, m: &Module, number: u64, report: &Report) -> Re
 }
 
 impl<L: SiteLines> Rooted<'_, L> {
-    /// The root with a number.
+    /// The root with a number, counted from 1; none for 0 and for numbers that no root has.
     fn root_at(&self, number: u32) -> Option<Root>
         requires { self.now.roots.now ≡ roots_of self.now.m.now }
         ensures { result ≡ root_numbered self.now.m.now number }
@@ -138,7 +138,7 @@ impl<L: SiteLines> Rooted<'_, L> {
         }
     }
 
-    /// Adds what an origin is.
+    /// Adds what an origin is: a root, or a store at a site.
     fn push_origin(&self, text: &mut Vec<u8>, origin: Origin) -> Result<(), NoMemory>
         requires numbers { HasSmallNumbers self.now.m.now }
         requires roots { self.now.roots.now ≡ roots_of self.now.m.now }
@@ -175,7 +175,7 @@ impl<L: SiteLines> Rooted<'_, L> {
         push_under(text, self.site_of(origin), self.under)
     }
 
-    /// Adds the lines of the origins from the number `number` on.
+    /// Adds the lines of a chain of origins, of which the first has the number `number`.
     fn push_chain(&self, text: &mut Vec<u8>, number: u32, chain: &[Origin]) -> Result<(), NoMemory>
         requires numbers { HasSmallNumbers self.now.m.now }
         requires roots { self.now.roots.now ≡ roots_of self.now.m.now }
@@ -189,7 +189,7 @@ impl<L: SiteLines> Rooted<'_, L> {
         Ok(())
     }
 
-    /// Adds the lines of an origin with its chain.
+    /// Adds the lines of origin `number` with its chain; one line `unknown` where that is empty.
     fn push_way(&self, text: &mut Vec<u8>, number: u32, chain: &[Origin]) -> Result<(), NoMemory>
         requires numbers { HasSmallNumbers self.now.m.now }
         requires roots { self.now.roots.now ≡ roots_of self.now.m.now }

@@ -1,4 +1,4 @@
-//! The lines on the schedules that were tried.
+//! The lines on the schedules that `check --schedules` tried.
 ghost use Rattle.std.specs.Prelude.{◌≡◌, ◌++◌, IfOk, codes, decimal};
 ghost use Rattle.ms_report.specs.RunTexts.{line};
 ghost use Rattle.ms_report.specs.SchedulesTexts.{extent_text, hex_text, schedule_line, schedules_text as schedules_text_of, tried_line};
@@ -20,7 +20,7 @@ fn push_hex(text: &mut Vec<u8>, bytes: &[u8]) -> Result<(), NoMemory>
     Ok(())
 }
 
-/// The end of the line, which says whether schedules are all that there are.
+/// The end of the line of how many schedules were tried: whether these are all that there are.
 fn extent(all: bool) -> &'static [u8]
     ensures { result.now ≡ extent_text all }
 {
@@ -48,8 +48,8 @@ fn push_schedule(text: &mut Vec<u8>, shown: bool, schedule: &[u8]) -> Result<(),
     Ok(())
 }
 
-/// The lines on schedules that were tried: how many, and whether these are all that there are; how many different pairs of output and
-/// end their runs had; and, where `shown` is set, the schedule of the run that is told, in the form that `--schedule` takes.
+/// The lines on schedules that were tried: how many, and whether these are all that there are; how many different pairs of output
+/// and end their runs had; and, where `shown` is set, the schedule of the run that is told, in the form that `--schedule` takes.
 pub fn schedules_text(
     alloc: Global,
     tried: u64,

@@ -1,12 +1,12 @@
-//! What is printed under a line that names a site.
+//! What is printed under a line that names a site: with `--where` where it stands in the source (`ms_top`), else nothing.
 ghost use Rattle.std.specs.Prelude.{◌≡◌, ℕ, List, [], ◌++◌, IfOk};
 ghost use Rattle.ms_report.specs.WithLines.{under_line};
 
 use ms_bits::NoMemory;
 
-/// What is printed under a line that names a site.
+/// What has the lines that are printed under a line that names a site.
 pub trait SiteLines {
-    /// The lines under each site.
+    /// The text of the lines under each site.
     ghost lines: { Self → ℕ → List ℕ };
 
     /// Adds the lines under a site.
@@ -26,7 +26,7 @@ impl SiteLines for NoLines {
     }
 }
 
-/// Adds the lines under a line that names this site, or none.
+/// Adds the lines under a line that names this site; nothing under one that names none.
 pub fn push_under<L: SiteLines>(
     text: &mut Vec<u8>,
     site: Option<u32>,

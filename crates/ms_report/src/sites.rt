@@ -7,7 +7,7 @@ use ms_bits::NoMemory;
 use ms_ir::{Module, Name, place_of};
 use ms_write_values::{push_name, push_number};
 
-/// The name of the function that has a site, where the module has the site.
+/// The name of the function in which the instruction with a site stands, where the module has the site.
 fn function_at(m: &Module, site: u32) -> Option<&Name>
     requires { HasSmallNumbers m.now }
     ensures { option_copied result ≡ function_of m.now site }
@@ -21,7 +21,7 @@ fn function_at(m: &Module, site: u32) -> Option<&Name>
     }
 }
 
-/// Adds a function's name after its sign, or a question mark.
+/// Adds a function's name after its sign, or a question mark where there is none.
 fn push_function(text: &mut Vec<u8>, name: Option<&Name>) -> Result<(), NoMemory>
     ensures { IfOk result (λ _. text.new.items ≡ text.old.items ++ function_text (option_copied name.entry)) }
 {
@@ -37,7 +37,7 @@ fn push_function(text: &mut Vec<u8>, name: Option<&Name>) -> Result<(), NoMemory
     }
 }
 
-/// Adds the function that has a site.
+/// Adds the name of the function in which the instruction with a site stands.
 pub fn push_function_of(text: &mut Vec<u8>, m: &Module, site: u32) -> Result<(), NoMemory>
     requires { HasSmallNumbers m.now }
     ensures { IfOk result (λ _. text.new.items ≡ text.old.items ++ function_text (function_of m.now site)) }

@@ -1,4 +1,4 @@
-//! The summary of a run.
+//! The summary of a run, which `gen` prints of a generated module.
 ghost use Rattle.std.specs.Prelude.{◌≡◌, ◌++◌, true, decimal, codes, length, IfOk};
 ghost use Rattle.ms_ir.specs.Places.{count_sites};
 ghost use Rattle.ms_check_valid.specs.Formed.{Formed};

@@ -1,4 +1,4 @@
-//! The lines of the way on which the bits of a report came.
+//! The lines of the way on which the poisoned bits of a report came, for `explain`: one for each hop.
 ghost use Rattle.std.specs.Prelude.{◌≡◌, ◌+◌, ◌++◌, Some as Held, slice_get, IfOk};
 ghost use Rattle.ms_ir.specs.Places.{HasSmallNumbers};
 ghost use Rattle.ms_trail_moves.specs.Leads.{came_from};
@@ -14,7 +14,7 @@ use ms_trail_moves::moves::{Hop, Move, Source, Target};
 use ms_write_values::{push_name, push_number};
 use std::alloc::Global;
 
-/// A module with moves of a run of it, and what is printed under each line that names a site.
+/// What the lines of a way are made with: the module, the moves of its run, and the lines `under` each line that names a site.
 #[derive(Drop)]
 struct Moved<'a, L> {
     m: &'a Module,
@@ -22,7 +22,7 @@ struct Moved<'a, L> {
     under: &'a L,
 }
 
-/// Adds a value of the frame with a number.
+/// Adds the name of a value, and the number of the frame that it is of.
 fn push_value(text: &mut Vec<u8>, frame: u64, name: &Name) -> Result<(), NoMemory>
     ensures { IfOk result (λ _. text.new.items ≡ text.old.items ++ value_text frame name.now) }
 {
@@ -32,7 +32,7 @@ fn push_value(text: &mut Vec<u8>, frame: u64, name: &Name) -> Result<(), NoMemor
     push_number(text, frame)
 }
 
-/// Adds the byte at a distance from an address.
+/// Adds the address of a byte, at a distance from `addr`.
 fn push_byte(text: &mut Vec<u8>, addr: u64, distance: u64) -> Result<(), NoMemory>
     ensures { IfOk result (λ _. text.new.items ≡ text.old.items ++ byte_text (addr + distance)) }
 {
@@ -40,7 +40,7 @@ fn push_byte(text: &mut Vec<u8>, addr: u64, distance: u64) -> Result<(), NoMemor
     push_hexadecimal(text, addr.wrapping_add(distance))
 }
 
-/// Adds a source.
+/// Adds a source of a move.
 fn push_source(text: &mut Vec<u8>, source: &Source) -> Result<(), NoMemory>
     ensures { IfOk result (λ _. text.new.items ≡ text.old.items ++ source_text source.now) }
 {
@@ -83,7 +83,7 @@ fn push_way(text: &mut Vec<u8>, made: &Move, k: u64) -> Result<(), NoMemory>
     push_to(text, &made.to, k)
 }
 
-/// Begins the line of the move with a number, whose instruction has a site.
+/// Begins the line of move number `index`, whose instruction has this site.
 fn begin_move(text: &mut Vec<u8>, m: &Module, index: u32, site: u32) -> Result<(), NoMemory>
     requires { HasSmallNumbers m.now }
     ensures { IfOk result (λ _. text.new.items ≡ text.old.items ++ move_text m.now index site) }
@@ -108,7 +108,7 @@ fn push_move_line(text: &mut Vec<u8>, m: &Module, hop: Hop, made: &Move) -> Resu
     Ok(())
 }
 
-/// Adds the line of what a use reads.
+/// Adds the line of what the report's use reads.
 fn push_use(text: &mut Vec<u8>, at: &Source) -> Result<(), NoMemory>
     ensures { IfOk result (λ _. text.new.items ≡ text.old.items ++ use_line at.now) }
 {

@@ -1,4 +1,4 @@
-//! The line of words that are no command.
+//! The line that says why words are no command.
 ghost use Rattle.std.specs.Prelude.{◌≡◌, ◌++◌, IfOk};
 ghost use Rattle.ms_report.specs.WordsTexts.{words_text};
 

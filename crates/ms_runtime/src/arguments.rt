@@ -1,4 +1,4 @@
-//! The words of a call's arguments.
+//! The words of the arguments of a runtime function's call, counted from 0.
 ghost use Rattle.std.specs.Prelude.{◌≡◌, ◌<◌, ◌%◌, ◌^◌, get_or};
 ghost use Rattle.ms_bits.specs.WordFunctions.{moved as moved_of};
 ghost use Rattle.ms_ir.specs.declared.calls.RuntimeFn.TheVariants.{Check};
@@ -7,14 +7,14 @@ ghost use Rattle.ms_runtime.specs.Served.{Fits, use_in};
 use crate::reports::ReportedUse;
 use ms_bits::{BitMove, move_bits};
 
-/// The argument at a place; 0 where it is missing.
+/// Argument `k`; 0 where it is missing.
 pub(crate) fn word(args: &[u64], k: usize) -> u64
     ensures { result ≡ get_or args.now k 0 }
 {
     if k < args.len() { args[k] } else { 0 }
 }
 
-/// The argument at a place, of a parameter of 32 bits.
+/// Argument `k`, of a parameter of 32 bits.
 pub(crate) fn small(args: &[u64], k: usize) -> u32
     requires { get_or args.now k 0 < 2 ^ 32 }
     ensures { result ≡ get_or args.now k 0 }
@@ -22,7 +22,7 @@ pub(crate) fn small(args: &[u64], k: usize) -> u32
     word(args, k) as u32
 }
 
-/// The low byte of an argument.
+/// The low byte of argument `k`.
 pub(crate) fn low_byte(args: &[u64], k: usize) -> u8
     ensures { result ≡ get_or args.now k 0 % 256 }
 {
@@ -44,7 +44,8 @@ pub(crate) fn use_of(args: &[u64]) -> ReportedUse
     }
 }
 
-/// What a function that moves bits gives of the arguments.
+/// What a runtime function that moves bits (as `bswap` or a funnel shift does) gives of its arguments: the mask of such a call's
+/// result.
 pub(crate) fn moved(kind: BitMove, args: &[u64]) -> u64
     ensures { result ≡ moved_of kind (get_or args.now 0 0) (get_or args.now 1 0) (get_or args.now 2 0) }
 {

@@ -1,5 +1,5 @@
 //! The runtime functions, which inserted instructions call: they report uses of uninitialised bits, and keep the shadow
-//! and the origins of memory.
+//! and the origins of memory; and whole runs of a module without thread calls.
 #![tactic(auto)]
 
 mod arguments;

@@ -1,4 +1,5 @@
-//! The runtime functions on the shadow and the origins of memory, each on the words of its arguments.
+//! The runtime functions on the shadow and the origins of memory, each on the words of its arguments. `told` has the reports so
+//! far, and the run ends when they come to `limit`. What `TellsMore` has the same output and end, and at most one blind use more.
 ghost use Rattle.std.specs.Prelude.{◌≡◌, ◌≢◌, ◌<◌, None, length, IfOk, OnOk, IsTrue};
 ghost use Rattle.ms_alloc.specs.Allocations.{is_good as is_live};
 ghost use Rattle.ms_ir.specs.declared.calls.RuntimeFn.TheVariants.{CheckMemory, CheckString, CheckFormat, Poison, Unpoison, Copy, Fill, StoreOrigin, LoadOrigin, Size};
@@ -66,8 +67,8 @@ pub(crate) fn check_string(
     Ok(answer)
 }
 
-/// `__msan_check_format`: the check of a string, where the format at an address asks for a string by its directive of an
-/// argument; it does nothing elsewhere.
+/// `__msan_check_format`: as `__msan_check_string` where the format of a `printf` asks for this argument as a string; it does
+/// nothing elsewhere.
 pub(crate) fn check_format(
     alloc: Global,
     args: &[u64],
@@ -130,7 +131,7 @@ pub(crate) fn copy(args: &[u64], world: &mut World) -> Result<(), NoMemory>
     world.copy_planes(to, from, n)
 }
 
-/// Chains an origin at a site, and gives good bytes a mask that isn't 0 with it.
+/// Chains the origin `old` at a site, and gives each of `n` good bytes a mask that isn't 0 with the chained origin.
 fn fill_chained(
     addr: u64,
     n: u64,
@@ -173,7 +174,7 @@ pub(crate) fn fill(args: &[u64], world: &mut World, depot: &mut Depot) -> Result
     fill_chained(addr, n, mask, small(args, 3), small(args, 4), world, depot)
 }
 
-/// Chains an origin at a site, and marks the live bytes of a stored value with it.
+/// Chains the origin `old` at a site, and gives it to the cells of the live bytes at an address that this mask poisons.
 pub(crate) fn mark_chained(
     addr: u64,
     mask: u64,

@@ -1,4 +1,5 @@
-//! Uses of uninitialised bits: what is reported of them, and those that are counted alone.
+//! Uses of uninitialised bits that the runtime functions are told of: those that are reported, and blind uses, which are only
+//! counted. What `TellsMore` has the same output and end, and at most one blind use more.
 ghost use Rattle.std.specs.Prelude.{◌≡◌, ◌<◌, ◌++◌, ◌∷◌, [], ℕ, Option as Optional, None, length, IfOk, OnOk, OnErr};
 ghost use Rattle.ms_runs.specs.World.{World as Meant, Setting, Does};
 ghost use Rattle.ms_runs.specs.Origins.{check as check_of, check_byte as check_byte_of, count_blind as count_blind_of};
@@ -29,7 +30,7 @@ pub(crate) struct ReportedUse {
     pub(crate) site: u32,
 }
 
-/// One item more at a list's end. Where memory runs out the list is as before.
+/// Puts one item more at a list's end. Where memory runs out the list is as before.
 fn push<T: Drop>(alloc: Global, items: &mut List<T>, item: T) -> Result<(), NoMemory>
     ensures pushed { OnOk result (items.new ≡ items.old ++ item ∷ []) }
     ensures unchanged { OnErr result (items.new ≡ items.old) }

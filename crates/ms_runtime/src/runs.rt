@@ -1,4 +1,4 @@
-//! Whole runs: from pause to pause, each of which is answered.
+//! Whole runs: from pause to pause, each of which is answered. `reports` is the limit of reports.
 ghost use Rattle.std.specs.Prelude.{◌≡◌, ◌<◌, ◌≤◌, ℕ, false, IfOk};
 ghost use Rattle.ms_ir.specs.ThreadCalls.{is_threaded};
 ghost use Rattle.ms_runs.specs.declared.runs.RunResult.{RunResult as ResultOf};
@@ -42,7 +42,7 @@ fn no_caller() -> End
 }
 
 impl Running {
-    /// The effect of a host call.
+    /// Answers a call of a function that the module doesn't define: an external, or a runtime function.
     pub fn answer_of(
         &mut self,
         alloc: Global,
@@ -71,7 +71,7 @@ impl Running {
         }
     }
 
-    /// Answers a host call and goes on after it. Returns how the run ends, if it does.
+    /// Answers the call at which the run pauses, and goes on after it. Returns how the run ends, if it does.
     fn answer_call(
         &mut self,
         alloc: Global,
@@ -112,7 +112,7 @@ impl Running {
         }
     }
 
-    /// What the run returns.
+    /// What the run returns that ended so: its output, its end, its reports and blind uses.
     pub fn into_result(self, end: End) -> RunResult
         ensures { (answer : ResultOf) → Answers answer end self → result ≡ answer }
     {
@@ -126,7 +126,7 @@ impl Running {
     }
 }
 
-/// A run at its start.
+/// A run at its start: `main` is called, the globals stand in memory, and nothing is reported.
 pub fn start_run(alloc: Global, m: &CheckedModule, setup: &Setup) -> Result<Running, NoMemory>
     requires limits { WithinLimits setup.now }
     ensures begins { IfOk result (Begins m.now setup.now) }

@@ -1,4 +1,4 @@
-//! A call of a runtime function, answered.
+//! Which runtime function a call is of: has the function of `memory.rt` or `reports.rt` do it that is its own.
 ghost use Rattle.std.specs.Prelude.{List, ◌≡◌, ◌<◌, length, IfOk};
 ghost use Rattle.ms_ir.specs.declared.syntax.Ty.{Ty};
 ghost use Rattle.ms_runs.specs.{World.{World as Meant, Setting}, Runtime.{runtime}};
@@ -18,9 +18,9 @@ use ms_ir::RuntimeFn;
 use ms_runs::RunResult;
 use std::alloc::Global;
 
-/// Answers a call of a runtime function: what it does to the world, to the chained origins and to what was told, and
-/// whether the run goes on. It ends exactly where the number of reports comes to `limit`. `__msan_thread_result` changes nothing,
-/// which is its meaning where no thread was made.
+/// Answers a call of a runtime function: what it does to the world, to the chained origins and to the reports and blind uses so far
+/// (`told`), and whether the run goes on. It ends exactly where the number of reports comes to `limit`. `__msan_thread_result`
+/// changes nothing, which is its meaning in a run without threads. No function here makes uninitialised bytes.
 ///
 /// Where memory runs out the run is over.
 pub fn serve(
@@ -54,7 +54,7 @@ pub fn serve(
     Ok(Answer::Resumed(value))
 }
 
-/// The effect of one of the four checks.
+/// Does one of the four checks, which report a use where it is poisoned.
 fn report(
     alloc: Global,
     function: RuntimeFn,
@@ -83,7 +83,7 @@ fn report(
     }
 }
 
-/// The effect of a runtime function that is no check: it may give a value, and the run goes on.
+/// Does what a runtime function does that is no check: it may give a value, and the run goes on.
 fn serve_update(
     function: RuntimeFn,
     args: &[u64],

@@ -1,4 +1,4 @@
-//! What `__msan_thread_result` does where a thread has ended.
+//! What `__msan_thread_result` does where a thread has ended: after `pthread_join`, for `ms_threads`.
 ghost use Rattle.std.specs.Prelude.{◌≡◌, OnOk, None, if◌then◌else◌};
 ghost use Rattle.ms_bits.specs.Maps.{byte_of};
 ghost use Rattle.ms_runs.specs.{declared.runs.RunResult.{RunResult}, World.{World as Meant, Setting, Does}};

@@ -132,6 +132,7 @@ fn check_of(text: &[u8]) -> Call<'_> {
     }
 }
 
+/// Whether a text that is cut off is refused by a number, or runs as the whole text does.
 fn cut_agrees<R: Threads + Sync + Eprint>(rt: &R, alloc: Global, text: &[u8]) -> bool {
     match said(rt, alloc, &check_of(text)) {
         Ok(desk) => is_refused_or_runs(&desk)
@@ -140,7 +141,7 @@ fn cut_agrees<R: Threads + Sync + Eprint>(rt: &R, alloc: Global, text: &[u8]) ->
     }
 }
 
-/// Whether that holds of a text that is cut off after each of its bytes.
+/// Whether a text that is cut off after each of its bytes is refused or runs so.
 fn all_cuts_agree<R: Threads + Sync + Eprint>(rt: &R, alloc: Global, text: &[u8]) -> bool {
     for count in 0..text.len() {
         if !cut_agrees(rt, alloc, &text[..count]) {

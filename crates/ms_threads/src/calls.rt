@@ -1,4 +1,6 @@
-//! What the thread calls do (POSIX, "pthread_create", "pthread_join" and "sched_yield"; own: numbers and their limit).
+//! What the thread calls of a program do, once the schedule has picked the thread that stands at one (POSIX, "pthread_create",
+//! "pthread_join" and "sched_yield"; own: numbers of threads and their limit). In a table that
+//! `KeepsStands` all threads stand where they stood.
 ghost use Rattle.std.specs.Prelude.{◌≡◌, ◌<◌, ◌+◌, ◌∷◌, ◌||◌, [], Some, true, false, eqb, if◌then◌else◌, get_or, IfOk, MatchBool, List};
 ghost use Rattle.ms_ir.specs.declared.syntax.Ty.{Ty};
 ghost use Rattle.ms_runs.specs.{World.{World as Meant, Setting}, Memory.{is_good, store_number}};
@@ -23,7 +25,7 @@ fn bad_address(site: u32) -> Answer
     })
 }
 
-/// A call returns a number.
+/// The answer of a call that returns a number.
 fn gives(value: u64) -> Answer
     ensures { result ≡ Answer.Resumed (Some value) }
 {
@@ -43,7 +45,8 @@ fn store_word(r: u64, word: u64, world: &mut World) -> bool
 }
 
 impl ThreadTable {
-    /// `pthread_create`: one thread more, and its number at the address `id`; 11 where as many were made as may be.
+    /// `pthread_create`: one thread more, which begins with function number `func`, and its number at the address `id`; answers 0,
+    /// or 11 (`EAGAIN`) where as many were made as may be.
     fn create(
         &mut self,
         alloc: Global,
@@ -88,7 +91,7 @@ impl ThreadTable {
         gives(0)
     }
 
-    /// The effect of the thread call at which the current thread stands.
+    /// Does the thread call at which the current thread stands, and answers it.
     #[inline(always)]
     pub fn answer(
         &mut self,

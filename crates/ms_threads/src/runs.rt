@@ -1,4 +1,5 @@
-//! Whole runs of programs with threads.
+//! Whole runs of programs with threads: one thread goes on at a time, up to its next thread call or its end, and then the schedule
+//! picks.
 ghost use Rattle.std.specs.Prelude.{◌≡◌, ◌<◌, ◌≤◌, ◌^◌, ℕ, List, suc, None, length, IfOk, OnOk, MatchBool};
 ghost use Rattle.ms_ir.specs.declared.syntax.Module.{Module as ModuleOf};
 ghost use Rattle.ms_ir.specs.declared.calls.RuntimeFn.TheVariants.{ThreadResult as ResultOf};
@@ -90,7 +91,7 @@ impl ThreadedRun {
         thread_result(addr, thread.mask, thread.origin, site, world, depot)
     }
 
-    /// The effect of a call that is no thread call; `reports` is the limit of the run's reports.
+    /// Answers a call that is no thread call; `reports` is the limit of the run's reports.
     fn answer_of(
         &mut self,
         alloc: Global,
@@ -111,7 +112,7 @@ impl ThreadedRun {
         self.running.answer_of(alloc, m, call, reports)
     }
 
-    /// Goes on after an answered call. Says how the run ends, if it does.
+    /// Goes on after a call with its answer. Returns how the run ends, if it does.
     #[inline(always)]
     fn after_answer(&mut self, m: &CheckedModule, call: HostCall, answer: Answer) -> Option<End>
         requires after { IsAfter m.now call answer self.old }
@@ -129,7 +130,7 @@ impl ThreadedRun {
         }
     }
 
-    /// Suspends the thread that runs at a call.
+    /// Suspends the thread that runs at a thread call.
     fn park(&mut self, call: HostCall)
         requires turn { self.old.table.turn < length self.old.table.parked.items }
         ensures picking { (m : ModuleOf) (u : SetupOf) (schedule : List ℕ) → IsThreadCall call.asked → Asking m u schedule call self.old → Picking m u schedule self.new }
@@ -138,8 +139,8 @@ impl ThreadedRun {
         self.table.park(&mut self.running.fiber, call);
     }
 
-    /// The thread that goes on has ended with a word, whose mask and origin the slots hold. The memory of its frame is given
-    /// back.
+    /// Notes that the thread that runs has ended with the word `answer`, whose mask and origin the slots hold. The memory of its
+    /// frame is given back.
     fn end(&mut self, alloc: Global, answer: u64)
         requires turn { self.old.table.turn ≤ length self.old.table.threads.items }
         ensures ended { HasEnded answer self.old self.new }
@@ -168,7 +169,7 @@ impl ThreadedRun {
         Ok(self.after_answer(m, call, answer))
     }
 
-    /// The picked thread begins.
+    /// Begins the picked thread, which hasn't run yet: a fiber with a call of its function, whose argument is clean.
     fn begin(&mut self, alloc: Global, m: &CheckedModule) -> Result<(), NoMemory>
         requires beginning { IsBeginning m.now self.old }
         ensures turned { (u : SetupOf) (schedule : List ℕ) → Beginning m.now u schedule self.old → OnOk result (Turned m.now u schedule (suc (most_ahead m.now self.old.running)) None self.new) }
@@ -215,7 +216,8 @@ impl ThreadedRun {
         }
     }
 
-    /// The call that was asked for, or, where that is a thread call, a pick. Says how the run ends, if it does.
+    /// Answers the call at which the run pauses, or, where that is a thread call, suspends the thread there and picks the next one.
+    /// Returns how the run ends, if it does.
     fn call(
         &mut self,
         alloc: Global,
@@ -236,8 +238,8 @@ impl ThreadedRun {
         Ok(self.after_answer(m, call, answer))
     }
 
-    /// Runs to the next pause, and does what is asked there; `reports` is the limit of the run's reports. Returns how the run ends, if it
-    /// does.
+    /// Runs to the next pause, and does what is asked there; `reports` is the limit of the run's reports. Returns how the run ends,
+    /// if it does.
     fn run_to_pause(
         &mut self,
         alloc: Global,

@@ -15,7 +15,7 @@ fn names_thread(name: &Name) -> bool
     }
 }
 
-/// Whether one of some functions has a name.
+/// Whether one of a module's functions has a name.
 fn is_defined(funcs: &[Func], name: &Name) -> bool
     ensures { result ≡ list_any (λ func. name_eq func.name name.now) funcs.now }
 {
@@ -33,7 +33,7 @@ fn calls_thread(funcs: &[Func], inst: &Inst) -> bool
     }
 }
 
-/// Whether an instruction of a block is one.
+/// Whether an instruction of a block is a thread call.
 fn is_block_threaded(funcs: &[Func], block: &Block) -> bool
     ensures { result ≡ is_block_threaded (func_index funcs.now) block.now }
 {
@@ -44,7 +44,7 @@ fn is_block_threaded(funcs: &[Func], block: &Block) -> bool
         .any(|inst| calls_thread(funcs, inst))
 }
 
-/// Whether an instruction of a function is one.
+/// Whether an instruction of a function is a thread call.
 fn is_func_threaded(funcs: &[Func], func: &Func) -> bool
     ensures { result ≡ is_func_threaded (func_index funcs.now) func.now }
 {

@@ -12,7 +12,7 @@ use ms_machine_frames::{Fiber, no_fiber};
 use std::alloc::Global;
 use std::mem::{replace, swap};
 
-/// How many threads may be made, that of `main` counted.
+/// How many threads a run may have, that of `main` counted.
 const LIMIT: usize = 64;
 
 /// A thread beside `main`'s.
@@ -47,7 +47,8 @@ pub struct ThreadTable {
     pub turn: usize,
     /// The threads beside `main`'s, in order of number, which begins with 1.
     pub threads: Vec<Thread>,
-    /// The suspended frames of each, by number from 0; empty for the one that runs, those that haven't begun and those that have ended.
+    /// The suspended frames of each, by number from 0; empty for the one that runs, those that haven't begun and those that have
+    /// ended.
     pub parked: Vec<Parked>,
     /// The place in the schedule of the next pick.
     pub next_pick: usize,
@@ -75,7 +76,7 @@ pub(crate) fn joins(call: &HostCall) -> Option<u64>
     }
 }
 
-/// An argument; 0 where it is missing.
+/// Argument `k`; 0 where it is missing.
 pub(crate) fn word(args: &[u64], k: usize) -> u64
     ensures { result ≡ get_or args.now k 0 }
 {
@@ -89,14 +90,15 @@ fn kept_origin(mask: u64, origin: u32) -> u32
     if mask == 0 { 0 } else { origin }
 }
 
-/// 1 where a test was passed, else 0.
+/// 1 for true, else 0.
 fn one_if(passed: bool) -> usize
     ensures { result ≡ (if passed then 1 else 0) }
 {
     if passed { 1 } else { 0 }
 }
 
-/// Exchanges the calls of two fibers, and what those have of the heap. Each keeps the memory that it has for later calls.
+/// Exchanges the calls that stand on two fibers, with the heap blocks of these. Each fiber keeps the spare memory that it has for
+/// later calls.
 #[inline(always)]
 pub(crate) fn exchange(one: &mut Fiber, other: &mut Fiber)
     ensures one { SameCalls other.old one.new }
@@ -199,7 +201,7 @@ impl ThreadTable {
         }
     }
 
-    /// What a join of the thread with a number answers to another: 35 for the caller's own number, 3 for no thread's and
+    /// What a join of thread `number` answers to thread `own`: 35 (`EDEADLK`) for its own number, 3 (`ESRCH`) for no thread's and
     /// that of one that was joined, else 0.
     pub fn join_answer(&self, own: u64, number: u64) -> u64
         ensures { result ≡ join_answer_of own number (threads_of self.now) }
@@ -224,7 +226,7 @@ impl ThreadTable {
         }
     }
 
-    /// The thread with a number was joined.
+    /// Notes that the thread with a number was joined.
     pub fn join(&mut self, number: u64)
         requires some { 0 < number }
         requires few { number ≤ length self.old.threads.items }
@@ -236,7 +238,7 @@ impl ThreadTable {
         self.threads[k] = thread;
     }
 
-    /// The thread that goes on has ended with a word; where that of `main` goes on, nothing changes.
+    /// Notes that the thread that runs has ended with the word `answer`, and its mask and origin; nothing where that is `main`'s.
     pub fn end(&mut self, answer: u64, mask: u64, origin: u32)
         requires { self.old.turn ≤ length self.old.threads.items }
         ensures { Changed self.old.turn (ended_guest answer mask origin) self.old self.new }
@@ -262,7 +264,7 @@ impl ThreadTable {
         self.parked[self.turn].park(fiber, call);
     }
 
-    /// Whether a thread with a number has to wait at a call: at a join that would answer 0, of one that hasn't ended.
+    /// Whether thread `own` has to wait at a call: at a join that would answer 0, of a thread that hasn't ended.
     fn waits(&self, own: u64, call: &HostCall) -> bool
         ensures { result ≡ waits_of own (threads_of self.now) (call_joins call.now) }
     {
@@ -286,7 +288,7 @@ impl ThreadTable {
         }
     }
 
-    /// Lists the numbers of those that may go on, in order, in the first places. Returns how many they are.
+    /// Lists the numbers of the threads that may go on, in order, in the first places of `ready`. Returns how many they are.
     #[inline(always)]
     fn list_runnable(&self, ready: &mut [u8]) -> usize
         requires counted { Counted self.now }
@@ -305,8 +307,8 @@ impl ThreadTable {
         count
     }
 
-    /// Picks the thread that the schedule gives among those that may go on, and records it. Returns whether there is one. One walk over
-    /// the threads.
+    /// Picks the thread that the schedule gives among those that may go on, and records it. Returns whether there is one. One walk
+    /// over the threads.
     #[inline(always)]
     pub fn pick(&mut self, schedule: &[u8]) -> Result<bool, NoMemory>
         requires counted { Counted self.old }

@@ -1,4 +1,5 @@
-//! Beginnings of picks, each kept as its few numbers other than 0.
+//! Beginnings of picks, each kept as its few numbers other than 0. A run begins with these picks, and goes on with 0, the first
+//! thread that can. A pick is a number: which thread, of those that can go on.
 ghost use Rattle.std.specs.Prelude.{◌≡◌, ◌<◌, ◌≤◌, ◌-◌, [], ◌++◌, length, drop, map, IfOk, OnOk};
 ghost use Rattle.ms_threads_schedules_laws.specs.Exploration.{schedule_limit, padded};
 ghost use Rattle.ms_threads_schedules_laws.specs.Trees.{Begins, Chosen, above, branches, Everywhere};
@@ -36,7 +37,7 @@ impl Beginning {
         }
     }
 
-    /// The beginning that goes on with zeros up to a pick, and has a number for that.
+    /// The beginning that goes on with zeros up to pick `place`, and has `number` for that.
     pub fn longer(&self, alloc: Global, place: u16, number: u8) -> Result<Beginning, NoMemory>
         requires is { IsBeginning self.now }
         requires after { length (told_of self.now) ≤ place }
@@ -50,7 +51,7 @@ impl Beginning {
         Ok(Beginning { marks })
     }
 
-    /// How many numbers it has.
+    /// How many numbers the beginning has, zeros among them.
     fn count(&self) -> usize
         requires { IsBeginning self.now }
         ensures { result ≡ length (told_of self.now) }
@@ -76,8 +77,8 @@ impl Beginning {
     }
 }
 
-/// Puts behind a queue the beginnings that go on with zeros up to a pick, and have another number than 0 for that, the highest
-/// first.
+/// Puts behind a queue the beginnings that go on from `told` with zeros up to pick `place`, and have another number than 0 for
+/// that, of `among` threads, the highest first.
 pub fn push_others(
     alloc: Global,
     queue: &mut Vec<Beginning>,
@@ -100,8 +101,8 @@ pub fn push_others(
     Ok(())
 }
 
-/// Puts behind a queue what a run leaves that began as told and went on with zeros: for each later pick the beginnings with another
-/// number for it, in order of picks.
+/// Puts behind a queue what is left to run after a run that began as `told`, went on with zeros and made these picks: for each pick
+/// after the beginning those beginnings with another number for it, in order of picks.
 pub fn push_branches(
     alloc: Global,
     queue: &mut Vec<Beginning>,

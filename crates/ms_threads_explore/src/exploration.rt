@@ -55,7 +55,8 @@ fn lesser(a: usize, b: usize) -> usize
     if a < b { a } else { b }
 }
 
-/// Puts behind a queue what the run of the beginning at a place leaves, as far as there is room.
+/// Puts behind a queue what is left to run after the run of its beginning `place`, which made these picks; `most` beginnings are
+/// kept.
 fn add_branches(
     alloc: Global,
     queue: &mut Vec<Beginning>,
@@ -81,7 +82,7 @@ fn add_branches(
 }
 
 impl Exploration {
-    /// Nothing was run: the empty beginning is left.
+    /// An exploration in which nothing was run: the empty beginning is left.
     pub fn new(alloc: Global, most: usize) -> Result<Exploration, NoMemory>
         requires { 2 ≤ most }
         ensures going { IfOk result (λ e. (picks : List ℕ → List Pick) (run : List ℕ → RunResultOf) → IsGoing picks run e) }
@@ -117,7 +118,7 @@ impl Exploration {
         lesser(share, left)
     }
 
-    /// The run of the next beginning was made. Returns whether it is clean.
+    /// Registers that the run of the next beginning was made. Returns whether it is clean.
     fn register(&mut self, alloc: Global, trial: &Trial) -> Result<bool, NoMemory>
         requires within { self.old.next < length self.old.beginnings.items }
         requires few { length self.old.beginnings.items ≤ self.old.most }
@@ -147,7 +148,7 @@ impl Exploration {
         self.next >= self.beginnings.len() || self.next + 1 >= self.most
     }
 
-    /// The schedule of the last run that was made, as long as its picks, of which so many were kept.
+    /// The schedule of the last run that was made, as long as its picks, of which `picks` were kept; at least one number.
     fn told_schedule(&self, alloc: Global, picks: usize) -> Result<Bytes, NoMemory>
         requires some { 1 ≤ self.now.next }
         requires within { self.now.next ≤ length self.now.beginnings.items }
@@ -162,7 +163,7 @@ impl Exploration {
         Ok(Bytes::from_vec(told))
     }
 
-    /// What is told, with the last run that was made.
+    /// What exploring tells, given the last run that was made.
     fn tell(&self, alloc: Global, last: Trial) -> Result<Explored, NoMemory>
         requires some { 1 ≤ self.now.next }
         requires within { self.now.next ≤ length self.now.beginnings.items }

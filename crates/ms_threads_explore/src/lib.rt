@@ -1,4 +1,5 @@
-//! Exploring the schedules of a module with threads: run by run, each with other picks, until one isn't clean or nothing is left.
+//! Exploring the schedules of a module with threads, for `check --schedules`: run by run, each with other picks, until one isn't
+//! clean or nothing is left.
 #![tactic(auto)]
 
 mod beginnings;

@@ -1,4 +1,4 @@
-//! How many different outcomes runs have: pairs of output and end.
+//! How many different outcomes the runs of an exploration have: pairs of output and end.
 ghost use Rattle.std.specs.Prelude.{◌≡◌, ◌≤◌, [], length, OnOk};
 ghost use Rattle.ms_threads_explore.specs.Outcomes.{trap_number as trap_number_of, end_kind, end_number, shown, with_shown, kept_by};
 
@@ -65,7 +65,7 @@ pub struct Outcomes {
 }
 
 impl Outcomes {
-    /// Those of no runs. It takes no memory yet.
+    /// The outcomes of no runs. It takes no memory yet.
     pub fn new(alloc: Global) -> Outcomes
         ensures { kept_by result ≡ [] }
     {
@@ -74,7 +74,7 @@ impl Outcomes {
         }
     }
 
-    /// One run more. Takes time linear in its output, and memory where its outcome is a new one.
+    /// Adds the outcome of one run more. Takes time linear in its output, and memory where its outcome is a new one.
     pub fn add(&mut self, alloc: Global, run: &RunResult) -> Result<(), NoMemory>
         ensures { OnOk result (kept_by self.new ≡ with_shown (kept_by self.old) (shown run.now)) }
     {
@@ -85,7 +85,7 @@ impl Outcomes {
         Ok(())
     }
 
-    /// How many there are.
+    /// How many different outcomes there are.
     pub fn count(&self) -> u64
         ensures { result ≡ length (kept_by self.now) }
     {

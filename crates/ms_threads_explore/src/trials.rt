@@ -1,4 +1,4 @@
-//! The runs of some beginnings, by several threads: the list that one thread makes.
+//! The runs of some beginnings of the queue, by several threads, with the same list as by one.
 ghost use Rattle.std.specs.Prelude.{◌≡◌, ◌<◌, length, map, IfOk, unwrap_or, slice_get, []};
 ghost use Rattle.ms_runs.specs.Limits.{WithinLimits};
 ghost use Rattle.ms_runs_threads.specs.PlainFibers.{plain_threads};
@@ -20,11 +20,11 @@ pub struct Trial {
     pub result: RunResult,
     /// Its first 2048 picks.
     pub picks: List<Choice>,
-    /// Whether it made more.
+    /// Whether it made more picks than these.
     pub more: bool,
 }
 
-/// What the runs share, to read alone.
+/// What the runs share, only to be read.
 #[derive(Drop)]
 struct TrialRuns<'a> {
     module: &'a CheckedModule,

@@ -8,7 +8,7 @@ ghost use Rattle.ms_pass_laws.specs.{Pass.{Numbering, pass}, Known.{KnownModule}
 ghost use Rattle.ms_runs_threads.specs.{PlainFibers.{plain_threads}, ShadowFibers.{shadow_threads}};
 ghost use Rattle.ms_runs_threads.specs.Calls.{plain_threads_calls, shadow_threads_calls};
 
-/// The step law holds of each fiber: where the pass takes a module, and what it takes to be clean is clean in every run, its
+/// The law of one step holds of each fiber: where the pass takes a module, and what it takes to be clean is clean in every run, its
 /// instrumented form runs with each fair setup and each schedule as the shadow run of the module says.
 pub fn threads_followed()
     ensures { (m : Module) → Formed m → Valid m → (numbers : ℕ → Numbering)
@@ -16,8 +16,8 @@ pub fn threads_followed()
         → (setup : Setup) → Fair setup → KnownModule (setting_of m setup) numbers m → (schedule : List ℕ) → plain_threads (pass numbers m) setup schedule ≡ shadow_threads m setup schedule }
 {}
 
-/// At each report of such a run the calls stand that stand at that report of the shadow run: down to `main`, or to the first
-/// function of a thread, which the same call made in both.
+/// At each report of a run of a module's instrumented form the calls stand that stand at that report of the shadow run: down to
+/// `main`, or to the first function of a thread, which the same call made in both.
 pub fn thread_calls_followed()
     ensures { (m : Module) → Formed m → Valid m → (numbers : ℕ → Numbering)
         → ((n : ℕ) (f : Func) → func_at m n ≡ Some f → (x : Name) → (numbers n).env.clean x ≡ true → IsClean m f x)

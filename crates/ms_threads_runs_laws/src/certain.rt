@@ -34,8 +34,8 @@ pub fn clean_threads_under_choices()
         → (fills : ℕ → List ℕ) → ((k : ℕ) → IsFill (fills k)) → shadow_threads_chosen m (to_first_report setup) fills schedule ≡ shadow_threads m (to_first_report setup) schedule }
 {}
 
-/// Both hold too where uninitialised memory changes: before each step memory may hold any bytes that are those of the shadow run
-/// outside its shadow, and each step has a fill of its own.
+/// The two laws above hold too where uninitialised memory changes: before each step memory may hold any bytes that are those of the
+/// shadow run outside its shadow, and each step has a fill of its own.
 pub fn thread_memory_may_change()
     ensures certain { (m : Module) → Formed m → Valid m → NoMarks m → (setup : Setup) → GivesBytes setup → (schedule : List ℕ) (n : ℕ) (z : Stepped (Fibers (List (Frame ℕ)) Shared))
         → UntoldFibers (steps (fibers_step (shadow_fiber by_completions (setting_of m setup) m) schedule) n (shadow_threads_start m setup))

@@ -19,7 +19,7 @@ pub fn thread_origins_lead_back()
     ensures by_rules { (d : Rules) → KeepClean d → KeepWidths d → (m : Module) → Formed m → Valid m → NoMarks m → (setup : Setup) → GivesBytes setup → (schedule : List ℕ) → FromThreads d m setup schedule }
 {}
 
-/// So of each report that a run with guest threads answers the origins lead back to what the run had reached; and the root at
+/// Of each report that a run with guest threads gives the origins lead back to what the run had reached; and the root at
 /// the end is one that the module lists, so that no origin that is printed is unknown.
 pub fn thread_reports_come_from_roots()
     ensures reached { (m : Module) → Formed m → Valid m → NoMarks m → (setup : Setup) → GivesBytes setup → (schedule : List ℕ)

@@ -24,7 +24,7 @@ pub fn read_command(alloc: Global, words: &[Text]) -> Result<Boxed<Command>, Wor
 pub enum Action<'a> {
     /// Its instrumented form is written.
     Instrument,
-    /// It is run as it is.
+    /// It is run as it is, with or without inserted code.
     Run(&'a Options),
     /// Its instrumented form is run.
     Check(&'a Options),
@@ -34,7 +34,7 @@ pub enum Action<'a> {
         runs: u32,
         workers: u8,
     },
-    /// That run's first report is explained.
+    /// Its instrumented form is run, and the first report is explained.
     Explain(&'a Options),
     /// Its instrumented form is run on each of the inputs in these files, by at most so many threads.
     Corpus {

@@ -23,8 +23,8 @@ use std::alloc::Global;
 use std::thread::Threads;
 
 impl<R: Threads + Sync, P: Pass, G: Gate + Sync, L: SiteLines> ModuleJob<'_, R, P, G, L> {
-    /// `corpus`: the runs of the module that the pass gives on inputs in files with these names, one section each, by so many threads
-    /// at most. A module with threads is refused.
+    /// `corpus`: the runs of the module that the pass gives on inputs in files with these names, one section each, by so many
+    /// threads at most. A module with threads is refused.
     pub fn corpus(&self, names: &[Text], options: &Options, workers: u8) -> Result<Output, NoMemory>
         requires plain { CanInstrument self.now.m.now }
         requires limits { RunsWithinLimits options.now }
@@ -39,7 +39,7 @@ impl<R: Threads + Sync, P: Pass, G: Gate + Sync, L: SiteLines> ModuleJob<'_, R, 
         }
     }
 
-    /// The same for a module without threads.
+    /// `corpus` of a module without threads.
     fn write_sections(
         &self,
         names: &[Text],
@@ -64,7 +64,7 @@ impl<R: Threads + Sync, P: Pass, G: Gate + Sync, L: SiteLines> ModuleJob<'_, R, 
         )
     }
 
-    /// The runs with these options of the module that the pass gives, in the order of the inputs.
+    /// The runs, with these options, of the module that the pass gives, one for each input in order.
     fn run_all_with(&self, options: &Options, workers: u8) -> Result<List<RunResult>, NoMemory>
         requires plain { CanInstrument self.now.m.now }
         requires limits { RunsWithinLimits options.now }
@@ -77,7 +77,7 @@ impl<R: Threads + Sync, P: Pass, G: Gate + Sync, L: SiteLines> ModuleJob<'_, R, 
         self.run_inputs(&setup, workers)
     }
 
-    /// The runs of the module that the pass gives, in the order of the inputs.
+    /// The runs of the module that the pass gives, each with this setup but its own input.
     fn run_inputs(&self, setup: &Setup, workers: u8) -> Result<List<RunResult>, NoMemory>
         requires plain { CanInstrument self.now.m.now }
         requires limits { AreWithinLimits setup.now self.now.inputs.now }
@@ -118,7 +118,7 @@ fn output_of_runs<L: SiteLines>(
     })
 }
 
-/// The sections of runs, of which each has a name.
+/// The sections of runs, each under the name of its input's file.
 fn sections<L: SiteLines>(
     alloc: Global,
     m: &Module,
@@ -143,7 +143,7 @@ fn sections<L: SiteLines>(
     Ok(text)
 }
 
-/// Adds the section of a run.
+/// Adds the section of run `number`: its heading, its output, its reports and closing lines.
 fn push_section<L: SiteLines>(
     text: &mut Vec<u8>,
     m: &Module,
@@ -164,7 +164,7 @@ fn push_section<L: SiteLines>(
     Ok(())
 }
 
-/// Adds the first line of a section.
+/// Adds the first line of a section: the input's number, how many bytes the run put out, and the name of the input's file.
 fn push_heading(text: &mut Vec<u8>, number: u64, name: &Text, r: &RunResult) -> Result<(), NoMemory>
     ensures { IfOk result (λ _. text.new.items ≡ text.old.items ++ heading_of number name.now r.now) }
 {
@@ -185,7 +185,7 @@ fn push_size(text: &mut Vec<u8>, number: u64, size: u64) -> Result<(), NoMemory>
     text.extend_from_slice(b" bytes: ")
 }
 
-/// Whether a run has a status.
+/// Whether one of the runs has this status.
 #[tactic(auto, using(crate::proofs::Sections::any_here, crate::proofs::Sections::any_passed))]
 fn any_with(results: &[RunResult], status: u8) -> bool
     ensures { result ≡ has_status status results.now }

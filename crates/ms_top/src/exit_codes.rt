@@ -1,4 +1,4 @@
-//! What the program says by its status.
+//! The table of exit codes: what the program says by its status.
 
 /// What the process's status says, by its number.
 #[derive(Clone, Copy, Debug, PartialEq, Eq)]

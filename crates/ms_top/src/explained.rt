@@ -42,7 +42,7 @@ impl<R: Threads + Sync, P: Pass, G: Gate + Sync, L: SiteLines> ModuleJob<'_, R, 
         }
     }
 
-    /// The same for a module without threads.
+    /// `explain` of a module without threads.
     fn explain_run(&self, options: &Options) -> Result<Output, NoMemory>
         requires plain { CanInstrument self.now.m.now }
         requires limits { RunsWithinLimits options.now }
@@ -55,7 +55,7 @@ impl<R: Threads + Sync, P: Pass, G: Gate + Sync, L: SiteLines> ModuleJob<'_, R, 
         self.explanation(&setup, &result)
     }
 
-    /// What explains the result of a run with a setup.
+    /// The output that explains the result of a run with a setup.
     fn explanation(&self, setup: &Setup, r: &RunResult) -> Result<Output, NoMemory>
         requires plain { CanInstrument self.now.m.now }
         requires limits { WithinLimits setup.now }
@@ -103,7 +103,7 @@ impl<R: Threads + Sync, P: Pass, G: Gate + Sync, L: SiteLines> ModuleJob<'_, R, 
     }
 }
 
-/// The lines of what following a run comes to.
+/// The lines of what following a run comes to: the way of the reported bits, or why there is none.
 fn lines_of_trace<L: SiteLines>(
     alloc: Global,
     m: &Module,

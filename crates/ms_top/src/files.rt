@@ -1,5 +1,5 @@
 //! From a command to what is said: the files are read, in their order, and what can't be read is told; so are words that are no
-//! command.
+//! command. `jobs.rt` goes on with the module's text.
 ghost use Rattle.std.specs.Prelude.{◌≡◌, ◌≤◌, ◌++◌, false, length, IfErr, IfOk};
 ghost use Rattle.ms_report.specs.{RunTexts.{line}, WordsTexts.{words_text}};
 ghost use Rattle.ms_words.specs.{Limits.{IsWithinLimits}, Words.{name_of, place_of}};
@@ -108,7 +108,7 @@ impl<R: Threads + Sync, P: Pass, G: Gate + Sync> Job<'_, R, P, G> {
         }
     }
 
-    /// Does this with the module in a file: the files are read in order, the module's first.
+    /// Does an action with the module in a file: the files are read in order, the module's first.
     fn run_file<F: Files>(
         &self,
         file: &Text,
@@ -211,7 +211,7 @@ fn unread(alloc: Global, file: &Text, cause: FileError) -> Result<Output, NoMemo
     }
 }
 
-/// A line that names a file.
+/// The answer that is one line, `name: file`, on the standard error.
 fn about_file(alloc: Global, status: u8, name: &[u8], file: &Text) -> Result<Output, NoMemory>
     ensures { IfOk result (λ a. a ≡ says status (line name.now file.now)) }
 {

@@ -37,7 +37,7 @@ impl<R: Threads + Sync, P: Pass, G: Gate + Sync> Job<'_, R, P, G> {
         }
     }
 
-    /// The summary of the run of a module that is known to be valid.
+    /// `gen` with a run: the summary of the run of a module that is known to be valid.
     fn summarise(&self, m: Module) -> Result<Output, NoMemory>
         requires formed { Formed m }
         requires valid { Valid m }
@@ -48,7 +48,7 @@ impl<R: Threads + Sync, P: Pass, G: Gate + Sync> Job<'_, R, P, G> {
         self.summarise_checked(checked.get())
     }
 
-    /// The same for a module with its code: it is checked with no option given.
+    /// The summary for a module with its code: it is run as `check` does with no option given.
     fn summarise_checked(&self, m: &CheckedModule) -> Result<Output, NoMemory>
         requires { CanInstrument m.now }
         ensures { IfOk result (λ a. IsAnswerOfGen P.gives true m.now a) }
@@ -60,7 +60,7 @@ impl<R: Threads + Sync, P: Pass, G: Gate + Sync> Job<'_, R, P, G> {
     }
 }
 
-/// A module's text.
+/// The answer that is a module's text.
 pub fn written(alloc: Global, m: &Module) -> Result<Output, NoMemory>
     requires { Formed m.now }
     ensures { IfOk result (λ a. a ≡ answer_of statuses.done (text_of m.now) []) }

@@ -14,7 +14,7 @@ pub fn help(alloc: Global) -> Result<Output, NoMemory>
     Ok(Output::on_out(alloc, text))
 }
 
-/// `version`: its line.
+/// `version`: the line with the version.
 pub fn version(alloc: Global) -> Result<Output, NoMemory>
     ensures { IfOk result (λ a. a ≡ version_of) }
 {

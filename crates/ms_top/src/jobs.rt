@@ -24,8 +24,8 @@ use std::alloc::Global;
 use std::mem::forget;
 use std::thread::Threads;
 
-/// What every command works with: the runtime, the allocator, the pass that makes the module that is run, and the gate that each run
-/// on one of many inputs enters.
+/// What every command works with: the runtime, the allocator, the pass that makes the module that is run, and the gate that each
+/// run on one of many inputs enters.
 #[derive(Drop)]
 pub struct Job<'a, R, P, G> {
     pub rt: &'a R,
@@ -53,8 +53,8 @@ impl<R: Threads + Sync, P: Pass, G: Gate + Sync> Job<'_, R, P, G> {
         }
     }
 
-    /// What it has to say of the module that the text reads as. Where each site stands in the text is found only where the command
-    /// asks for it.
+    /// What the command has to say of the module that the text reads as. Where each site stands in the text is found only where the
+    /// command asks for it.
     fn locate_sites(
         &self,
         command: &FileCommand<'_>,
@@ -79,8 +79,8 @@ impl<R: Threads + Sync, P: Pass, G: Gate + Sync> Job<'_, R, P, G> {
         }
     }
 
-    /// What it has to say of a module. The module's memory isn't given back: the command ends with its answer, and the process then
-    /// gives back all at once.
+    /// What the command has to say of a module, checked first, with these lines under each site. The module's memory isn't given
+    /// back: the command ends with its answer, and the process then gives back all at once.
     fn check_module<L: SiteLines>(
         &self,
         command: &FileCommand<'_>,

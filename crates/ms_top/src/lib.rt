@@ -1,4 +1,4 @@
-//! The top call: words, files and sinks in, a status and two texts out.
+//! The top call, which `msan` makes: words, files and sinks in, a status and two texts out.
 #![tactic(auto)]
 
 mod commands;

@@ -29,7 +29,7 @@ use std::mem::forget;
 use std::thread::Threads;
 
 impl<R: Threads + Sync, P: Pass, G: Gate + Sync> Job<'_, R, P, G> {
-    /// The run of the module that the pass gives, where it has threads under a schedule.
+    /// The run of the module that the pass gives; of one with threads under this schedule.
     pub fn run(
         &self,
         m: &CheckedModule,
@@ -88,7 +88,7 @@ impl<R: Threads + Sync, P: Pass, G: Gate + Sync, L: SiteLines> ModuleJob<'_, R, 
         }
     }
 
-    /// The input of a run that has one at most.
+    /// The input of the run of a command that has one at most; empty where it has none.
     pub fn input(&self) -> &[u8]
         ensures { result.now ≡ only_input self.now.inputs.now }
     {
@@ -98,7 +98,7 @@ impl<R: Threads + Sync, P: Pass, G: Gate + Sync, L: SiteLines> ModuleJob<'_, R, 
         }
     }
 
-    /// `instrument`: the text of the module that the pass gives, whose memory isn't given back either.
+    /// `instrument`: the text of the module that the pass gives. The memory of that isn't given back: the process ends.
     fn instrument(&self) -> Result<Output, NoMemory>
         requires { CanInstrument self.now.m.now }
         ensures { IfOk result (λ a. IsAnswerOfInstrument P.gives self.now.m.now a) }
@@ -193,7 +193,8 @@ fn output_of_run<L: SiteLines>(
     })
 }
 
-/// The lines of a run's reports, and then the closing lines, with these under each that names a site.
+/// The lines of a run's reports, and then the closing lines, with or without the verdict, and these lines under each that names a
+/// site.
 pub fn text_of_run<L: SiteLines>(
     alloc: Global,
     m: &Module,

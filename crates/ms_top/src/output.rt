@@ -1,4 +1,4 @@
-//! What a call has to say, and how it is put to sinks, in pieces.
+//! What the top call has to say, and how it is put to its sinks, in pieces.
 ghost use Rattle.std.specs.Prelude.{◌≡◌, ◌≢◌, ◌≤◌, ◌⊎◌, [], OnOk, OnErr};
 ghost use Rattle.ms_io.specs.{Counts.{Rose}, Writing.{with_appended, AppendsPrefix}};
 ghost use Rattle.ms_top.specs.Said.{answer_of, between, says, WritesWhole, WritesPart};

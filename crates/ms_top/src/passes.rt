@@ -1,4 +1,4 @@
-//! The pass as a parameter of the top call.
+//! The pass as a parameter of the top call: the program's own, and one that inserts nothing, for tests.
 ghost use Rattle.std.specs.{Prelude.{◌≡◌, IfOk}, Thread.{IsSync}};
 ghost use Rattle.ms_ir.specs.{declared.syntax.Module.{Module as ModuleOf}, Instructions.{strip}};
 ghost use Rattle.ms_ir.specs.ThreadCalls.{is_threaded};
@@ -16,7 +16,7 @@ use std::thread::Threads;
 
 /// What makes the module that is run in place of the one that is read.
 pub trait Pass {
-    /// What the pass may make of a module.
+    /// Which modules the pass may make of a module: first the given one, then the made one.
     ghost gives: { ModuleOf → ModuleOf → Type 0 };
 
     /// The module as the pass makes it, by threads of the runtime where it makes some. Without what is inserted it is the
@@ -32,7 +32,7 @@ pub trait Pass {
         ensures gives { IfOk result (λ j. gives m.now j) }
         ensures stripped { IfOk result (λ j. strip j ≡ m.now) };
 
-    /// Such a module that is to be written and not run, so that no code of it is needed. It is formed.
+    /// The module as the pass makes it, to be written and not run, so that no code of it is needed. It is formed.
     fn instrumented<R: Threads + Sync>(
         &self,
         rt: &R,
@@ -73,7 +73,7 @@ pub(crate) fn instrumented_by<R: Threads + Sync, P: Pass>(
     Boxed::new(alloc, instrumented)
 }
 
-/// The pass itself, each of whose pieces enters a gate. One call makes the module, with threads or without.
+/// The pass of `ms_pass`, each of whose pieces enters a gate. One call makes the module, with threads or without.
 #[derive(Drop)]
 pub struct RealPass<G> {
     gate: G,

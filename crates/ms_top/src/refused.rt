@@ -23,7 +23,7 @@ pub fn refused<L: SiteLines>(alloc: Global, cause: Refusal, lines: &L) -> Result
     refused_for(alloc, cause.get(), lines)
 }
 
-/// The same for a cause on the heap.
+/// Why a module is refused, in its line, for a cause on the heap.
 fn refused_for<L: SiteLines>(alloc: Global, cause: &Refusal, lines: &L) -> Result<Output, NoMemory>
     requires { is_want_of_memory cause.now ≡ false → HasLine cause.now }
     ensures reason { IfOk result (λ a. is_want_of_memory cause.now ≡ false) }

@@ -1,4 +1,4 @@
-//! What `check` says of a module under several schedules.
+//! What `check --schedules` says of a module under several schedules.
 ghost use Rattle.std.specs.Prelude.{◌≡◌, ◌≤◌, ◌++◌, true, false, length, IfOk};
 ghost use Rattle.ms_ir.specs.ThreadCalls.{is_threaded};
 ghost use Rattle.ms_runs.specs.Limits.{WithinLimits};
@@ -44,7 +44,7 @@ impl<R: Threads + Sync, P: Pass, G: Gate + Sync> Job<'_, R, P, G> {
         self.explore_under(instrumented.get(), has_threads(m), setup, runs, workers)
     }
 
-    /// The same of a module as it is, by whether it has threads: one without them has one run.
+    /// What exploring the schedules of a module as it is tells, by whether it has `threads`: one without them has one run.
     fn explore_under(
         &self,
         m: &CheckedModule,
@@ -68,8 +68,8 @@ impl<R: Threads + Sync, P: Pass, G: Gate + Sync> Job<'_, R, P, G> {
 }
 
 impl<R: Threads + Sync, P: Pass, G: Gate + Sync, L: SiteLines> ModuleJob<'_, R, P, G, L> {
-    /// `check` under several schedules: the runs of the module that the pass gives, at most so many, up to the first that isn't clean,
-    /// by so many threads at most.
+    /// `check` under several schedules: the runs of the module that the pass gives, at most so many, up to the first that isn't
+    /// clean, by so many threads at most.
     pub fn check_schedules(
         &self,
         options: &Options,

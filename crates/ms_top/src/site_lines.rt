@@ -1,4 +1,4 @@
-//! The lines that show where each site stands.
+//! The lines of `--where`, which show where each site stands, found by `ms_where`.
 ghost use Rattle.std.specs.Prelude.{◌≡◌, length, IfOk};
 ghost use Rattle.ms_lex.specs.Tokens.{InOrder};
 ghost use Rattle.ms_text_grammar.specs.Texts.{HasTokens};
@@ -50,7 +50,7 @@ impl Places {
         Ok(Places { tokens, marks })
     }
 
-    /// Where each site of the module stands in this text, which is that of a file.
+    /// Where each site of the module stands in this text, which is that of the file with the name `file`.
     pub fn located<'a>(
         &'a self,
         alloc: Global,

@@ -42,7 +42,7 @@ fn is_verdict(line: &[u8]) -> bool {
         || line == b"verdict: poisoned\n".as_slice()
 }
 
-/// Whether this is what `check` says, but for the verdict, which is its last line.
+/// Whether `said` is what `check` says, but for the verdict, which is its last line.
 fn says_all_but_the_verdict(said: &Desk, checked: &Desk) -> bool {
     let same = said.status == checked.status && said.out.as_slice() == checked.out.as_slice();
     match checked.err.as_slice().strip_prefix(said.err.as_slice()) {
@@ -74,7 +74,7 @@ fn runs_alike<R: Threads + Sync + Eprint>(
     }
 }
 
-/// The same call with other words.
+/// The same call with other words of the command.
 fn with_words<'a>(call: &Call<'a>, words: &'a str) -> Call<'a> {
     Call { words, ..*call }
 }

@@ -1,5 +1,5 @@
-//! Calls of `msan` over files and two sinks in memory, as rows of tables tell them, and the one runner of all tables. The module is the
-//! text of the file `f`.
+//! Calls of `msan` over files and two sinks in memory, as rows of tables tell them, and the one runner of all tables. The module is
+//! the text of the file `f`.
 
 use crate::failing::{differs, fails};
 use ms_bits::Text;
@@ -39,7 +39,7 @@ pub enum Beside<'a> {
     These(&'a [(&'a str, &'a str)]),
 }
 
-/// A sink: the numbers of its puts that fail, and the bytes that fit.
+/// A sink: the numbers of its puts that fail, and how many bytes fit.
 #[derive(Clone, Copy)]
 pub struct Taking<'a>(pub &'a [u64], pub usize);
 
@@ -59,7 +59,7 @@ pub struct Wanted<'a> {
     pub status: u8,
 }
 
-/// Of a call of which all that is said counts.
+/// What stands as wanted for a call whose answer isn't compared with it, but looked at by the caller.
 pub const NOTHING: Wanted<'static> = Wanted {
     out: b"",
     letters: 0,
@@ -67,7 +67,7 @@ pub const NOTHING: Wanted<'static> = Wanted {
     status: 0,
 };
 
-/// What a call writes to its two ends, and its status.
+/// What a call is wanted to write to standard output and standard error, and its status.
 pub fn saying<'a>(out: &'a [u8], err: &'a str, status: u8) -> Wanted<'a> {
     Wanted {
         out,
@@ -77,8 +77,7 @@ pub fn saying<'a>(out: &'a [u8], err: &'a str, status: u8) -> Wanted<'a> {
     }
 }
 
-/// A call: its words, the pieces of the file `f`, of which the second stands so many times, the other files, the numbers of
-/// the reads that fail, the two sinks, and what is wanted.
+/// A call, and what is wanted of it. The text of the file `f` is `head`, then `piece` so many `times`, then `tail`.
 #[derive(Clone, Copy)]
 pub struct Call<'a> {
     pub words: &'a str,
@@ -87,7 +86,9 @@ pub struct Call<'a> {
     pub times: u32,
     pub tail: &'a [u8],
     pub beside: Beside<'a>,
+    /// The numbers of the reads of files that fail.
     pub failing_reads: &'a [u64],
+    /// The standard output and the standard error.
     pub out: Taking<'a>,
     pub err: Taking<'a>,
     pub wanted: Wanted<'a>,
@@ -184,7 +185,7 @@ fn text_of(alloc: Global, call: &Call) -> Result<Vec<u8>, AllocError> {
     Ok(text)
 }
 
-/// Adds a file with this name and these bytes.
+/// Adds a file with this name and these bytes to those held in memory.
 fn hold(
     alloc: Global,
     held: &mut BTreeMap<String, Vec<u8>>,
@@ -232,14 +233,14 @@ fn files_of(alloc: Global, call: &Call) -> Result<MemFiles, AllocError> {
     Ok(MemFiles::new(held, Vec::from_slice(alloc, call.failing_reads)?))
 }
 
-/// A sink in memory that takes so much, and fails at these puts.
+/// A sink in memory as a row tells it.
 fn sink_of(alloc: Global, taking: &Taking) -> Result<MemSink, AllocError> {
     let failing = Vec::from_slice(alloc, taking.0)?;
     let room: Vec<u8> = vec![in alloc; 0; taking.1]?;
     Ok(MemSink::new(failing, room))
 }
 
-/// A call that is ready to be made.
+/// A call that is ready to be made, with its words, files and sinks.
 fn desk_of(alloc: Global, call: &Call) -> Result<Desk, AllocError> {
     Ok(Desk {
         words: words_of_call(alloc, call)?,
@@ -250,7 +251,7 @@ fn desk_of(alloc: Global, call: &Call) -> Result<Desk, AllocError> {
     })
 }
 
-/// What a call writes and returns.
+/// Makes a call of `msan`: the desk then has what it wrote and returned.
 pub fn said<R: Threads + Sync>(rt: &R, alloc: Global, call: &Call) -> Result<Desk, AllocError> {
     let mut desk = desk_of(alloc, call)?;
     desk.status = msan(
@@ -264,7 +265,7 @@ pub fn said<R: Threads + Sync>(rt: &R, alloc: Global, call: &Call) -> Result<Des
     Ok(desk)
 }
 
-/// Does what the words ask for, if they are a command.
+/// Does what the desk's words ask for, if they are a command, by a pass and a gate.
 fn do_job<R: Threads + Sync, P: Pass, G: Gate + Sync>(
     rt: &R,
     alloc: Global,
@@ -337,7 +338,7 @@ fn is_output(text: &[u8], wanted: &Wanted) -> bool {
     }
 }
 
-/// Whether this is what is wanted.
+/// Whether the desk has what is wanted.
 pub fn says(desk: &Desk, wanted: &Wanted) -> bool {
     desk.status == wanted.status
         && is_output(desk.out.as_slice(), wanted)

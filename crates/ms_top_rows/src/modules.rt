@@ -93,7 +93,7 @@ pub struct Checked(
     pub u8,
 );
 
-/// What a run says that prints this and so many times the letter A, has no reports and ends so.
+/// What is wanted of a run that prints `out` and so many `letters` A, has no reports and no blind uses, and ends so.
 pub fn closed<'a>(out: &'a [u8], letters: usize, end: &'a str, status: u8) -> Wanted<'a> {
     Wanted {
         out,
@@ -103,7 +103,7 @@ pub fn closed<'a>(out: &'a [u8], letters: usize, end: &'a str, status: u8) -> Wa
     }
 }
 
-/// A call on these texts, one after the other.
+/// A call on a module whose text is these three, one after the other.
 fn on_texts<'a>(
     words: &'a str,
     texts: [&'a str; 3],

@@ -218,6 +218,7 @@ static BEYOND: [Beyond; 13] = [
 #[derive(Clone, Copy)]
 struct Beyond(&'static str, &'static str, u8);
 
+/// The call of a row with these words, and with this verdict after the closing lines.
 fn of_row(words: &'static str, row: &Beyond, verdict: &'static str) -> Call<'static> {
     let wanted = Wanted {
         out: b"",
@@ -228,6 +229,7 @@ fn of_row(words: &'static str, row: &Beyond, verdict: &'static str) -> Call<'sta
     on_text(words, row.0.as_bytes(), wanted)
 }
 
+/// Whether `run` and `check` say of each row's module the same, what the row says.
 fn all_are_alike<R: Threads + Sync + Eprint>(rt: &R, alloc: Global, rows: &[Beyond]) -> bool {
     for row in rows {
         if !agrees(rt, alloc, &of_row("run f", row, ""))

@@ -86,6 +86,7 @@ static CASES: [Case; 2] = [
     ),
 ];
 
+/// Which fused form this is, if it is one.
 fn kind_of(form: &ShortOp) -> Option<Fused> {
     match form {
         ShortOp::Ordered { .. } => Some(Fused::Ordered),
@@ -137,6 +138,7 @@ fn is_fused<R: Threads + Sync + Eprint>(
     }
 }
 
+/// Whether a module is valid, and its instrumented code has what is wanted.
 fn is_checked<R: Threads + Sync + Eprint>(
     rt: &R,
     alloc: Global,

@@ -539,6 +539,7 @@ fn is_text(desk: &Desk, row: &Listing) -> bool {
         && is_joined(desk.out.as_slice(), &[row.0, SLOTS, row.1, RUNTIME, row.3])
 }
 
+/// Whether `instrument` writes a row's module as the row says.
 fn is_listed<R: Threads + Sync + Eprint>(rt: &R, alloc: Global, row: &Listing) -> bool {
     match said(rt, alloc, &call_of(row)) {
         Ok(desk) => is_text(&desk, row) || differs_from(rt, row.3, &desk),

@@ -38,6 +38,7 @@ impl Work for Squares {
 /// order, keeps the one that comes first waiting until its turns are used up.
 #[derive(Drop)]
 struct Meeting {
+    /// The number of the later piece.
     later: u64,
     first_came: AtomicBool,
     later_came: AtomicBool,
@@ -45,6 +46,7 @@ struct Meeting {
     later_met: AtomicBool,
 }
 
+/// Whether another piece has come, or comes while this one looks.
 fn has_come(came: &AtomicBool) -> bool {
     for _ in 0..TURNS {
         if came.load(Ordering::SeqCst) {
@@ -85,7 +87,8 @@ impl Gate for Meeting {
     }
 }
 
-/// Whether the squares below `count` are made by so many threads, and the piece 0 and another one meet.
+/// Whether the squares of the numbers below `count` are made by so many threads, the last of them being `last`, and piece 0 and
+/// piece `later` meet.
 fn meets<R: Threads + Sync>(
     rt: &R,
     alloc: Global,
@@ -155,7 +158,7 @@ fn two_pieces_of_a_module_meet(rt: HostRuntime) -> Result<(), Fail> {
 
 static TWO_INPUTS: [(&str, &str); 2] = [("a", ""), ("b", "")];
 
-/// The module of two inputs, which two workers run.
+/// The call that runs a module on two inputs by two workers.
 fn two_inputs() -> Call<'static> {
     Call {
         beside: Beside::These(&TWO_INPUTS),

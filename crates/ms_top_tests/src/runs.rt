@@ -245,6 +245,7 @@ static CHECKS: [Case; 10] = [
     ),
 ];
 
+/// Files in memory that never fail: the module of `STORED` as `f`.
 fn sure_files(alloc: Global) -> Result<SureFiles, AllocError> {
     let file = Vec::from_slice(alloc, STORED.as_bytes())?;
     let mut held = BTreeMap::new(alloc);

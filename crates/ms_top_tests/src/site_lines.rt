@@ -55,6 +55,7 @@ static ENDS: [(End, &str); 4] = [
     ),
 ];
 
+/// Whether the lines of a run's reports are those of `REPORTED`.
 fn are_reported<R: Eprint>(rt: &R, alloc: Global, m: &Module, r: &RunResult) -> bool
     requires { Formed m.now }
 {
@@ -64,6 +65,7 @@ fn are_reported<R: Eprint>(rt: &R, alloc: Global, m: &Module, r: &RunResult) -> 
     }
 }
 
+/// Whether the closing lines of a run are these.
 fn is_closed<R: Eprint>(rt: &R, alloc: Global, m: &Module, r: &RunResult, lines: &str) -> bool
     requires { Formed m.now }
 {
@@ -73,6 +75,7 @@ fn is_closed<R: Eprint>(rt: &R, alloc: Global, m: &Module, r: &RunResult, lines:
     }
 }
 
+/// Whether the closing lines of a run that ends as each row of `ENDS` are those of the row.
 fn all_are_closed<R: Eprint>(rt: &R, alloc: Global, m: &Module) -> bool
     requires { Formed m.now }
 {
@@ -85,6 +88,7 @@ fn all_are_closed<R: Eprint>(rt: &R, alloc: Global, m: &Module) -> bool
     true
 }
 
+/// Whether reports and closing lines of runs of a module have the lines under their sites.
 fn are_printed<R: Eprint>(rt: &R, alloc: Global, m: &Module) -> bool
     requires { Formed m.now }
 {
@@ -108,6 +112,7 @@ fn agrees<R: Eprint>(rt: &R, alloc: Global, text: &[u8]) -> bool {
     }
 }
 
+/// Whether a module that isn't valid is refused with these lines.
 fn is_refused<R: Eprint>(rt: &R, alloc: Global, cause: CheckError, lines: &str) -> bool
     requires { is_some (fault_of cause) ≡ true }
 {
@@ -125,6 +130,7 @@ fn is_path<R: Eprint>(rt: &R, alloc: Global) -> Result<bool, AllocError> {
     Ok(is_refused(rt, alloc, CheckError::Undefined { site: 8, path }, lines))
 }
 
+/// Whether the line of each other cause that names a site has the lines under it, and the line of one that names none has none.
 fn are_refused<R: Eprint>(rt: &R, alloc: Global) -> bool {
     is_refused(
         rt,

@@ -140,7 +140,7 @@ static ENDS: [Ended; 6] = [
     ),
 ];
 
-/// The name of each trap.
+/// The name of each trap but `deadlock` and `format`.
 static TRAPS: [(Trap, &str); 17] = [
     (Trap::Shift, "shift"),
     (Trap::ZeroDivisor, "zero-divisor"),
@@ -161,6 +161,7 @@ static TRAPS: [(Trap, &str); 17] = [
     (Trap::Abort, "abort"),
 ];
 
+/// The report that a row tells.
 fn report_of(alloc: Global, case: &Reported) -> Result<Report, AllocError> {
     let chain = Vec::from_slice(alloc, case.1)?;
     Ok(Report {
@@ -174,6 +175,7 @@ fn report_of(alloc: Global, case: &Reported) -> Result<Report, AllocError> {
     })
 }
 
+/// The result of a run without output.
 pub fn result_of(alloc: Global, end: End, reports: Vec<Report>, blind: u64) -> RunResult {
     RunResult {
         output: Bytes::from_vec(Vec::new(alloc)),
@@ -183,6 +185,7 @@ pub fn result_of(alloc: Global, end: End, reports: Vec<Report>, blind: u64) -> R
     }
 }
 
+/// The reports that rows tell.
 pub fn reports_of(alloc: Global, cases: &[Reported]) -> Result<Vec<Report>, AllocError> {
     let mut reports = Vec::new(alloc);
     for case in cases {
@@ -218,6 +221,7 @@ fn is_closing<R: Eprint>(
     }
 }
 
+/// Whether these pieces are the lines of the reports that rows tell.
 fn are_printed<R: Eprint>(
     rt: &R,
     alloc: Global,
@@ -236,6 +240,7 @@ fn are_printed<R: Eprint>(
     }
 }
 
+/// Whether the closing lines of a run that ends as each row are those of the row.
 fn all_are_closed<R: Eprint>(rt: &R, alloc: Global, m: &Module, cases: &[Ended]) -> bool
     requires { Formed m.now }
 {
@@ -262,6 +267,7 @@ fn is_poisoned<R: Eprint>(rt: &R, alloc: Global, m: &Module, case: &Reported) ->
     }
 }
 
+/// Whether the report of a use of a kind has this name for the kind.
 fn is_named<R: Eprint>(rt: &R, alloc: Global, m: &Module, kind: u32, name: &str) -> bool
     requires { Formed m.now }
 {
@@ -284,6 +290,7 @@ fn is_named<R: Eprint>(rt: &R, alloc: Global, m: &Module, kind: u32, name: &str)
     )
 }
 
+/// Whether each kind of use has its name in a report.
 fn all_are_named<R: Eprint>(rt: &R, alloc: Global, m: &Module, kinds: &[(u32, &str)]) -> bool
     requires { Formed m.now }
 {
@@ -295,6 +302,7 @@ fn all_are_named<R: Eprint>(rt: &R, alloc: Global, m: &Module, kinds: &[(u32, &s
     true
 }
 
+/// Whether each trap has its name in the closing lines of a run.
 fn all_are_traps<R: Eprint>(rt: &R, alloc: Global, m: &Module, traps: &[(Trap, &str)]) -> bool
     requires { Formed m.now }
 {
@@ -312,6 +320,7 @@ fn all_are_traps<R: Eprint>(rt: &R, alloc: Global, m: &Module, traps: &[(Trap, &
     true
 }
 
+/// Whether the lines of all tables are printed of a module's runs.
 fn all_are_printed<R: Eprint>(rt: &R, alloc: Global, m: &Module) -> bool
     requires { Formed m.now }
 {
@@ -338,7 +347,7 @@ fn agrees<R: Eprint>(rt: &R, alloc: Global, text: &[u8]) -> bool {
     }
 }
 
-/// Whether a setup, and the answer of a run with reports, have equal copies.
+/// Whether a setup has an equal copy.
 fn are_copied(alloc: Global) -> Result<bool, AllocError> {
     let setup = Setup {
         input: Bytes::from_vec(Vec::from_slice(alloc, b"in")?),
@@ -350,6 +359,7 @@ fn are_copied(alloc: Global) -> Result<bool, AllocError> {
     Ok(copy == setup)
 }
 
+/// Whether the result of a run with reports has an equal copy.
 fn results_are_copied(alloc: Global) -> Result<bool, AllocError> {
     let reports = reports_of(alloc, &REPORTS)?;
     let r = result_of(alloc, End::Spent, reports, 3);

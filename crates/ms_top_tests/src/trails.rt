@@ -21,6 +21,7 @@ use std::test::Fail;
 /// A text, the way over the moves of its run, and lists of hops that are none.
 struct Way(&'static str, &'static [Hop], &'static [&'static [Hop]]);
 
+/// The right ways, and hops that go wrong in the move, in the byte, at the beginning or at the end.
 static WAYS: [Way; 3] = [
     // Move 1 stores to a neighbour, with which the byte shares an origin.
     Way(
@@ -100,6 +101,7 @@ static WAYS: [Way; 3] = [
     ),
 ];
 
+/// Whether these hops are the way that is found over the moves to what a use reads.
 fn is_found(alloc: Global, moves: &[Move], at: &Source, hops: &[Hop]) -> bool
     requires { length moves.now < 2 ^ 32 }
 {
@@ -119,6 +121,7 @@ fn has_no_way(alloc: Global, moves: &[Move]) -> bool
     }
 }
 
+/// Whether each of the other lists of hops is told to be no way.
 fn are_refused(moves: &[Move], at: &Source, others: &[&[Hop]]) -> bool {
     for hops in others {
         if check_trail(moves, at, hops) {
@@ -138,6 +141,7 @@ fn is_the_way(alloc: Global, moves: &[Move], at: &Source, way: &Way) -> bool
         && are_refused(moves, at, way.2)
 }
 
+/// Whether following a run found moves over which the row's way is the one.
 fn leads(alloc: Global, found: &Trace, way: &Way) -> bool
     requires { CanLead found.now }
 {
@@ -147,6 +151,7 @@ fn leads(alloc: Global, found: &Trace, way: &Way) -> bool
     }
 }
 
+/// Whether the run of a checked module without threads, once followed, has the row's way.
 fn is_followed(alloc: Global, m: &CheckedModule, setup: &Setup, way: &Way) -> bool
     requires plain { CanInstrument m.now }
     requires limits { WithinLimits setup.now }
@@ -158,6 +163,7 @@ fn is_followed(alloc: Global, m: &CheckedModule, setup: &Setup, way: &Way) -> bo
     }
 }
 
+/// What the runs of these rows are given: no input, the fill a5, a thousand steps, one report.
 fn default_setup(alloc: Global) -> Result<Setup, AllocError>
     ensures { IfOk result (λ s. WithinLimits s) }
 {
@@ -170,6 +176,7 @@ fn default_setup(alloc: Global) -> Result<Setup, AllocError>
     })
 }
 
+/// Whether the run of a checked module has the row's way; a module with threads fails the row.
 fn is_run(alloc: Global, m: &CheckedModule, way: &Way) -> bool
     requires { CanInstrument m.now }
 {
@@ -182,6 +189,7 @@ fn is_run(alloc: Global, m: &CheckedModule, way: &Way) -> bool
     }
 }
 
+/// Whether a module is valid, and its run has the row's way.
 fn is_checked(alloc: Global, m: Module, way: &Way) -> bool
     requires formed { Formed m }
     requires plain { CanInstrument m }
@@ -252,9 +260,10 @@ static COPIES: [Copying; 3] = [
     Copying(1, 5, Begin::Root(2), 8, 1),
 ];
 
-/// What is read after these moves, and the way there, if there is one.
+/// What is read after the moves of `COPIES`, and the way there, if there is one.
 struct Ordered(Begin, Option<&'static [Hop]>);
 
+/// What is read after the moves of `COPIES`.
 static ORDERS: [Ordered; 5] = [
     Ordered(
         Begin::Byte(16),
@@ -270,6 +279,7 @@ static ORDERS: [Ordered; 5] = [
     Ordered(Begin::Root(7), Some(&[])),
 ];
 
+/// The moves of `COPIES`, which aren't in the order of their steps.
 fn copies(alloc: Global) -> Result<Vec<Move>, AllocError> {
     let mut moves = Vec::new(alloc);
     for copying in &COPIES {
@@ -293,6 +303,7 @@ fn is_ordered(alloc: Global, moves: &[Move], row: &Ordered) -> bool {
     }
 }
 
+/// Whether each row's way is found over the moves of `COPIES`.
 fn all_are_ordered<R: Eprint>(rt: &R, alloc: Global, rows: &[Ordered]) -> bool {
     let Ok(moves) = copies(alloc) else {
         return false;

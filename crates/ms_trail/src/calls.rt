@@ -28,7 +28,7 @@ use ms_trail_uses::tables::InstRow;
 use std::alloc::Global;
 use std::mem::replace;
 
-/// The masks of arguments.
+/// The masks of a call's arguments.
 pub(crate) fn argument_masks(
     alloc: Global,
     view: &View<'_>,
@@ -45,7 +45,8 @@ pub(crate) fn argument_masks(
     Ok(masks)
 }
 
-/// Makes the masks of a call's arguments those of all its values: the others are clean.
+/// Makes a list of the masks of a call's arguments one of the masks of all its values, of which there are so many: the others are
+/// clean.
 fn clean_after(masks: &mut Vec<u64>, values: usize) -> Result<(), NoMemory>
     requires { length masks.old.items ≤ values }
     ensures { OnOk result (masks.new.items ≡ masks.old.items ++ replicate (values - length masks.old.items) 0) }
@@ -62,8 +63,8 @@ fn function_at(m: &Module, func: usize) -> &Func
     &m.funcs.as_slice()[func]
 }
 
-/// The moves of the arguments of a call in the call with a number, whose masks these begin with, to the parameters of the
-/// call that was entered.
+/// Logs the moves of the arguments of a call, which stands in call number `caller` and has this row, to the parameters of call
+/// `number`, which was entered; `masks` begins with those of the arguments.
 fn tell_params(
     alloc: Global,
     log: &mut Log,
@@ -88,7 +89,7 @@ fn tell_params(
     Ok(())
 }
 
-/// The caller's frame, the last of those below.
+/// The frame of the caller: the last of those below.
 fn last_kept(below: &[Frame]) -> &Frame
     requires { 0 < length below.now }
     ensures { slice_get below.now (length below.now - 1) ≡ Some result.now }
@@ -108,7 +109,7 @@ pub(crate) fn put_result(masks: &mut Vec<u64>, code: &Code, mask: u64)
 }
 
 impl TracedRun<'_> {
-    /// A call of a function of the module. Returns whether the run goes on.
+    /// Takes the step of a call of a function of the module. Returns whether the run goes on.
     pub(crate) fn call(
         &mut self,
         alloc: Global,
@@ -158,7 +159,7 @@ impl TracedRun<'_> {
         }
     }
 
-    /// A return. Returns whether the run goes on.
+    /// Takes the step of a return to a caller. Returns whether the run goes on.
     pub(crate) fn leave(
         &mut self,
         alloc: Global,

@@ -45,12 +45,12 @@ use std::alloc::Global;
 #[derive(Drop)]
 struct AnsweredCall {
     external: External,
-    /// Its arguments, and their masks.
+    /// The words of its arguments, and their masks.
     words: Vec<u64>,
     masks: Vec<u64>,
     /// The size of the heap block that the first argument was the base of; 0 where there was none.
     old: u64,
-    /// What it gave; 0 where it gave nothing.
+    /// What it answered; 0 where it answered nothing.
     given: u64,
 }
 
@@ -64,14 +64,14 @@ fn or_zero(number: Option<u64>) -> u64
     }
 }
 
-/// An argument; 0 where it is missing.
+/// Argument `k`, or its mask, in a list of these; 0 where it is missing.
 fn word(args: &[u64], k: usize) -> u64
     ensures { result ≡ get_or args.now k 0 }
 {
     if k < args.len() { args[k] } else { 0 }
 }
 
-/// The words of arguments.
+/// The words of a call's arguments.
 fn argument_words(alloc: Global, view: &View<'_>, args: &[WordSource]) -> Result<Vec<u64>, NoMemory>
     requires view { IsView view.now }
     requires args { All (IsSource (length view.now.values.now) 64) args.now }
@@ -104,7 +104,8 @@ fn answer_mask(external: External, words: &[u64], masks: &[u64]) -> u64
     }
 }
 
-/// Puts the mask of what a call was answered, if it was answered something, and tells its move.
+/// Sets the mask of a call's result, if it was answered something, and logs the move: from argument `from` of the call, in call
+/// `number`, to that result.
 fn note_answer(
     alloc: Global,
     masks: &mut Vec<u64>,
@@ -133,7 +134,7 @@ fn note_answer(
     }
 }
 
-/// The effect of a host call.
+/// Does what a call of an external does to the world, and answers it.
 fn answered(
     alloc: Global,
     m: &CheckedModule,
@@ -158,7 +159,8 @@ fn answered(
     }
 }
 
-/// Fills bytes with one byte, the second argument of a call in the call with a number.
+/// What `memset` does to the shadow of `n` bytes, with its moves: they come from the byte that is its second argument, with this
+/// mask, in call `number`.
 fn shade_bytes(
     alloc: Global,
     world: &mut World,
@@ -183,7 +185,7 @@ fn shade_bytes(
     shade_set(alloc, world, log, stamp, &from, addr, n, byte)
 }
 
-/// What a call of an external that was answered, in the call with a number, does to the shadow of memory.
+/// What a call of an external that was answered, in call `number`, does to the shadow of memory, with the moves of its bytes.
 fn shade_memory(
     alloc: Global,
     world: &mut World,
@@ -233,7 +235,7 @@ fn shade_memory(
 }
 
 impl TracedRun<'_> {
-    /// A call of an external. Returns whether the run goes on.
+    /// Takes the step of a call of an external. Returns whether the run goes on.
     pub(crate) fn call_external(
         &mut self,
         alloc: Global,

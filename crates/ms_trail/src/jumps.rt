@@ -24,7 +24,7 @@ use ms_trail_uses::steps::step;
 use ms_trail_uses::tables::InstRows;
 use std::alloc::Global;
 
-/// Puts masks at the places of phis, one after the other.
+/// Puts each of the masks that were read at the place of the phi with the same number.
 fn put_masks(masks: &mut Vec<u64>, moves: &[PhiMove], read: &[u64])
     requires moves { All (IsMove (length masks.old.items)) moves.now }
     requires room { length moves.now ≤ length read.now }
@@ -36,8 +36,8 @@ fn put_masks(masks: &mut Vec<u64>, moves: &[PhiMove], read: &[u64])
     }
 }
 
-/// The moves of phis with these masks, the first of which has a number, in a jump from the block with a name; the instruction
-/// after them has a site.
+/// Logs the moves of phis whose masks were `read`, in a jump from the block with the name `from`: the first phi has the number
+/// `first` in the code, and the instruction after the last has the site of `after`.
 fn tell_phis(
     alloc: Global,
     log: &mut Log,
@@ -73,7 +73,7 @@ fn tell_phis(
 }
 
 impl TracedRun<'_> {
-    /// A jump: its phis all read the masks before it. Returns whether the run goes on.
+    /// Takes the step of a jump: its phis all read the masks as they were before it. Returns whether the run goes on.
     pub(crate) fn jump(&mut self, alloc: Global, code: &Code, edge: &Edge) -> Result<bool, NoMemory>
         requires ready { IsReady self.old code.now }
         requires jumps { IsJump code.now }

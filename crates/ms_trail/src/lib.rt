@@ -1,5 +1,5 @@
 //! What `explain` follows: a traced run, which runs a module, computes the mask of each value beside it and logs each move of
-//! poisoned bits, up to the first report.
+//! poisoned bits, up to the first report. Each kind of instruction takes its step in a method of `TracedRun`.
 #![tactic(auto)]
 
 mod calls;

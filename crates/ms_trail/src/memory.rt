@@ -15,7 +15,7 @@ use ms_trail_bytes::spans::Stamp;
 use ms_trail_uses::steps::step;
 use std::alloc::Global;
 
-/// The value with a place.
+/// The value with a number.
 fn value_at(values: &Vec<u64>, place: usize) -> u64
     requires { place < length values.now.items }
     ensures { result ≡ get_or values.now.items place 0 }
@@ -24,7 +24,7 @@ fn value_at(values: &Vec<u64>, place: usize) -> u64
 }
 
 impl TracedRun<'_> {
-    /// An `alloca` of `count` elements of `size` bytes. Returns whether the run goes on.
+    /// Takes the step of an `alloca` of `count` elements of `size` bytes. Returns whether the run goes on.
     pub(crate) fn alloca(
         &mut self,
         alloc: Global,
@@ -68,7 +68,7 @@ impl TracedRun<'_> {
         }
     }
 
-    /// A store of `size` bytes. Returns whether the run goes on.
+    /// Takes the step of a store of `size` bytes. Returns whether the run goes on.
     pub(crate) fn store(
         &mut self,
         alloc: Global,

@@ -19,7 +19,7 @@ use ms_trail_uses::places::result_place;
 use ms_trail_uses::steps::step;
 use std::alloc::Global;
 
-/// Sets the mask of a value.
+/// Sets the mask of the value with number `to`.
 pub(crate) fn put_mask(masks: &mut Vec<u64>, to: usize, mask: u64)
     requires { to < length masks.old.items }
     ensures { masks.new.items ≡ set masks.old.items to mask }
@@ -45,7 +45,7 @@ impl TracedRun<'_> {
         (mask, place)
     }
 
-    /// An instruction that sets a value by its operands alone. Returns whether the run goes on.
+    /// Takes the step of an instruction that sets a value, number `to`, by its operands alone. Returns whether the run goes on.
     pub(crate) fn compute(
         &mut self,
         alloc: Global,
@@ -84,7 +84,7 @@ impl TracedRun<'_> {
         }
     }
 
-    /// A load of `size` bytes, which keeps the bits of `cut`. Returns whether the run goes on.
+    /// Takes the step of a load of `size` bytes, which keeps the bits of `cut`. Returns whether the run goes on.
     pub(crate) fn load(
         &mut self,
         alloc: Global,

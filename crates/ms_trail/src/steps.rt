@@ -1,4 +1,4 @@
-//! One step of a traced run.
+//! One step of a traced run: its checked uses are asked, and then the method of its kind of instruction takes it.
 ghost use Rattle.std.specs.Prelude.{◌≡◌, None, IfOk};
 ghost use Rattle.ms_runs.specs.declared.runs.Setup.{Setup as SetupOf};
 ghost use Rattle.ms_trail_moves.specs.Traces.{Traced};
@@ -35,7 +35,7 @@ fn place_set(code: &Code) -> Option<usize>
 }
 
 impl TracedRun<'_> {
-    /// What a use that is reported reads.
+    /// What a reported use reads, as a source of moves.
     fn read_by(&self, alloc: Global, code: &Code, used: Used) -> Result<Source, NoMemory>
         requires going { IsGoing self.now }
         requires due { IsDue self.now.m.now self.now.fiber self.now.world code.now }
@@ -94,7 +94,7 @@ impl TracedRun<'_> {
         }
     }
 
-    /// What the instruction that is due does, where it sets no value by its operands alone. Returns whether the run goes on.
+    /// Executes the instruction that is due, where it sets no value by its operands alone. Returns whether the run goes on.
     fn do_jump_or_other(&mut self, alloc: Global, code: &Code) -> Result<bool, NoMemory>
         requires ready { IsReady self.old code.now }
         requires sets { sets_at code.now ≡ None }
@@ -108,7 +108,7 @@ impl TracedRun<'_> {
         }
     }
 
-    /// What the instruction that is due does. Returns whether the run goes on. Never inlined: both ways of a step come here.
+    /// Executes the instruction that is due. Returns whether the run goes on. Never inlined: both ways of a step come here.
     #[inline(never)]
     fn do_inst(&mut self, alloc: Global, code: &Code) -> Result<bool, NoMemory>
         requires ready { IsReady self.old code.now }
@@ -121,7 +121,7 @@ impl TracedRun<'_> {
         }
     }
 
-    /// What the instruction that is due reads of poisoned bits, where that is reported.
+    /// What the first checked use that is poisoned reads, of the instruction that is due; none where none is.
     fn found(&self, alloc: Global, code: &Code) -> Result<Option<Source>, NoMemory>
         requires going { IsGoing self.now }
         requires due { IsDue self.now.m.now self.now.fiber self.now.world code.now }
@@ -136,7 +136,7 @@ impl TracedRun<'_> {
         }
     }
 
-    /// The step, after checks that pass.
+    /// Takes the step of an instruction of which no checked use is poisoned.
     fn go_on(&mut self, alloc: Global, code: &Code) -> Result<StepEnd, NoMemory>
         requires ready { IsReady self.old code.now }
         ensures turned { (u : SetupOf) (t : Traced) → IsFollowed self.old.m.now u t self.old → Passes self.old.m.now u t → IfOk result (λ turn. Turned self.old.m.now u t turn self.new) }
@@ -150,7 +150,8 @@ impl TracedRun<'_> {
         }
     }
 
-    /// The step of an instruction of which each use is asked. Never inlined: few instructions need it, and it needs much room.
+    /// Takes the step of an instruction of which each checked use is asked. Never inlined: few instructions need it, and it needs
+    /// much room.
     #[inline(never)]
     fn check_and_go_on(&mut self, alloc: Global, code: &Code) -> Result<StepEnd, NoMemory>
         requires going { IsGoing self.old }
@@ -166,7 +167,7 @@ impl TracedRun<'_> {
         }
     }
 
-    /// One step. Where memory runs out the run is over.
+    /// Takes one step. Where memory runs out the run is over.
     pub fn step(&mut self, alloc: Global) -> Result<StepEnd, NoMemory>
         requires going { IsGoing self.old }
         ensures turned { (u : SetupOf) (t : Traced) → u.reports ≡ 1 → IsFollowed self.old.m.now u t self.old → IfOk result (λ turn. Turned self.old.m.now u t turn self.new) }

@@ -1,4 +1,5 @@
-//! A traced run, one step at a time, with the masks of its values beside it.
+//! A traced run, one step at a time, with the masks of its values beside it. `IsFollowed` says that it stands for a state of the
+//! shadow run with the moves so far, `Went` that it does so after a step, `Grew` how much a step adds at most.
 ghost use Rattle.std.specs.Prelude.{◌≡◌, ◌<◌, length, IfOk, false};
 ghost use Rattle.ms_ir.specs.ThreadCalls.{is_threaded};
 ghost use Rattle.ms_runs.specs.Limits.{WithinLimits};
@@ -33,7 +34,7 @@ pub enum StepEnd {
     Reported(Source),
 }
 
-/// A run of the machine that is followed: the masks of its values are kept beside the frames of its fiber, and the shadow of
+/// A run of the interpreter that is followed: the masks of its values are kept beside the frames of its fiber, and the shadow of
 /// memory in the planes of its world.
 #[derive(Drop)]
 pub struct TracedRun<'m> {
@@ -45,11 +46,11 @@ pub struct TracedRun<'m> {
     pub world: World,
     /// The masks of the innermost call's values.
     pub shade: FrameMasks,
-    /// Those of the calls below it, of which the last is its caller.
+    /// The masks of the calls below it, of which the last is its caller.
     pub below: Vec<FrameMasks>,
-    /// How many calls were made, which is the number of the next one.
+    /// How many calls, `main`'s among them, were made: the number of the next one. (In a world `made` counts uninitialised bytes.)
     pub made: u64,
-    /// How many steps were taken, which is the number of the next one.
+    /// How many steps were taken: the number of the next one.
     pub event: u64,
     /// The moves so far.
     pub log: Log,
@@ -83,7 +84,7 @@ impl<'m> TracedRun<'m> {
         })
     }
 
-    /// What an instruction reads.
+    /// What the instruction that is due reads its operands from.
     pub(crate) fn view(&self) -> View<'_>
         ensures values { result.values.now ≡ self.now.fiber.frame.values.items }
         ensures masks { result.masks.now ≡ self.now.shade.masks.items }
@@ -96,7 +97,7 @@ impl<'m> TracedRun<'m> {
         }
     }
 
-    /// The number that is read.
+    /// The number that an operand of the innermost call is.
     pub(crate) fn value(&self, source: WordSource) -> u64
         requires same { length self.now.shade.masks.items ≡ length self.now.fiber.frame.values.items }
         requires filled { 0 < length self.now.fill.now }
@@ -107,7 +108,7 @@ impl<'m> TracedRun<'m> {
         value_of(&view, 64, source)
     }
 
-    /// The mask that is read.
+    /// The mask of an operand of the innermost call.
     pub(crate) fn mask(&self, source: WordSource) -> u64
         requires same { length self.now.shade.masks.items ≡ length self.now.fiber.frame.values.items }
         requires filled { 0 < length self.now.fill.now }

@@ -16,7 +16,7 @@ use ms_trail_bytes::logs::{Log, MOVE_LIMIT};
 use ms_trail_moves::moves::Source;
 use std::alloc::Global;
 
-/// What following a run comes to that is reported, with the moves before that and what the report's use reads.
+/// What following a run comes to that has a report: the moves before it and what the report's use reads, or that they are too many.
 #[tactic(auto, unfolding(ms_trail_bytes::specs::Logs::move_limit))]
 fn reported(log: Log, at: Source) -> Trace
     ensures { (moves : List MoveOf) → IsLog log moves → result ≡ limited (Found moves at) }
@@ -33,7 +33,7 @@ fn reported(log: Log, at: Source) -> Trace
 /// Follows a run of a checked module up to its first report, whatever limit of reports the setup has. Ok is the moves of
 /// poisoned bits that come before it, with what the report's use reads, or why there is no such list.
 ///
-/// The run is that of the machine, one step at a time, and the masks of its values are computed beside it. A step takes as long
+/// The run is that of the interpreter, one step at a time, and the masks of its values are computed beside it. A step takes as long
 /// in a large module as in a small one, but for a phi, which takes the time of a walk over its edges.
 pub fn trace(alloc: Global, m: &CheckedModule, setup: &Setup) -> Result<Trace, NoMemory>
     requires plain { CanInstrument m.now }

@@ -1,5 +1,5 @@
-//! Moves of words, each told to the log where the word is poisoned: its mask isn't 0. `frame` is the number of the call in which the
-//! word is set.
+//! Moves of words, each told to the log where the word is poisoned: its mask isn't 0. `frame` is the number of the call in which
+//! the word is set.
 ghost use Rattle.std.specs.Prelude.{◌≡◌, ◌≤◌, ◌<◌, ◌+◌, ◌^◌, ◌++◌, [], ◌∷◌, List, OnOk, unwrap_or};
 ghost use Rattle.ms_ir.specs.{declared.syntax.Name.{Name as NameOf}, declared.syntax.Ty.{Ty as TyOf}};
 ghost use Rattle.ms_ir.specs.{declared.syntax.Operand.{Operand as OperandOf}, Instructions.{operands, count_undefs}};
@@ -20,7 +20,7 @@ use ms_trail_moves::sources::source_at;
 use ms_trail_uses::tables::InstRow;
 use std::alloc::Global;
 
-/// Logs a move from a source to a place, in the step of a stamp.
+/// Logs a move from a source to a target, in the step that the stamp tells.
 fn tell(log: &mut Log, stamp: Stamp, from: Source, to: Target) -> Result<(), NoMemory>
     requires { log.old.count + 1 < 2 ^ 64 }
     ensures told { (moves : List MoveOf) → IsLog log.old moves → OnOk result (IsLog log.new (moves ++ record { event = stamp.event; site = stamp.site; from = from; to = to } ∷ [])) }
@@ -34,7 +34,7 @@ fn tell(log: &mut Log, stamp: Stamp, from: Source, to: Target) -> Result<(), NoM
     })
 }
 
-/// A word with a mask moves from the operand with a place, in the call with a number, to the result of its instruction.
+/// Logs that a word with a mask moves from operand `from` of an instruction to its result.
 pub fn tell_result(
     alloc: Global,
     log: &mut Log,
@@ -57,7 +57,7 @@ pub fn tell_result(
     tell(log, stamp, moved, to)
 }
 
-/// A word with a mask moves from a byte, if one is given, to the result of an instruction in the call with a number.
+/// Logs that a word with a mask moves from a byte in memory to the result of an instruction: a load.
 pub fn tell_loaded(
     alloc: Global,
     log: &mut Log,
@@ -78,7 +78,7 @@ pub fn tell_loaded(
     tell(log, stamp, from, to)
 }
 
-/// A word with a mask moves to a phi, in a jump from the block with a name.
+/// Logs that a word with a mask moves to a phi, in a jump from the block with the name `block`.
 pub fn tell_phi(
     alloc: Global,
     log: &mut Log,
@@ -101,8 +101,8 @@ pub fn tell_phi(
     tell(log, stamp, moved, to)
 }
 
-/// An argument with a mask, the operand with a place of a call in the call with a number, moves to a parameter of the call that
-/// was entered.
+/// Logs that an argument with a mask, operand `k` of a call that stands in call `caller`, moves to a parameter of call `frame`,
+/// which was entered.
 pub fn tell_param(
     alloc: Global,
     log: &mut Log,
@@ -128,8 +128,9 @@ pub fn tell_param(
     tell(log, stamp, moved, to)
 }
 
-/// A word with a mask moves from the operand with a place, in the call `inner`, to the result of an instruction in the call
-/// `frame`, if that has one: from a return to a call that it goes back to, or from an argument to what is answered.
+/// Logs that a word with a mask moves from operand `from` of the row's instruction, in call `inner`, to the result of the
+/// instruction `inst` in call `frame`, if that has one: from a return to the call that it goes back to, or from an argument to what
+/// is answered.
 pub fn tell_back(
     alloc: Global,
     log: &mut Log,

@@ -1,4 +1,5 @@
-//! Shadow that is set or copied in memory, each with its moves, where the bytes are known to be good.
+//! Shadow that is set or copied in memory, each with its moves in the log: for a store, an `alloca`, and what `sets.rt` and
+//! `unsets.rt` do for externals. A traced run keeps no origins in memory: cells get 0, and the moves tell where bits come from.
 ghost use Rattle.std.specs.Prelude.{◌≡◌, ◌≤◌, ◌<◌, ◌+◌, ◌^◌, ◌≢◌, ◌++◌, [], ◌∷◌, ℕ, List, true, IsTrue, OnOk, if◌then◌else◌};
 ghost use Rattle.ms_alloc.specs.Allocations.{is_good as is_live};
 ghost use Rattle.ms_bits.specs.Maps.{byte_of};
@@ -17,7 +18,7 @@ use ms_host::World;
 use ms_trail_moves::moves::Source;
 use std::alloc::Global;
 
-/// The moves of `n` bytes that come from a root, where they are good.
+/// Logs the moves of `n` bytes, from the address `first` on, that come from root number `root`, where they are good.
 fn tell_unset(
     alloc: Global,
     world: &World,
@@ -41,8 +42,8 @@ fn tell_unset(
     }
 }
 
-/// Makes the bytes with the numbers from `from` to before `to`, counted from an address, uninitialised, where they are good:
-/// they come from a root.
+/// Poisons the bytes from `from` to before `to`, counted from an address, where they are good, and logs that they come from root
+/// number `root`: the instruction that made them.
 pub fn unset(
     alloc: Global,
     world: &mut World,
@@ -70,7 +71,8 @@ pub fn unset(
     }
 }
 
-/// Gives `size` good bytes the bytes of a mask as shadow, the least first: where it isn't 0, they come from a source.
+/// Gives `size` good bytes the bytes of a mask as shadow, the least first, and, where it isn't 0, logs that they come from a
+/// source: a store.
 pub fn shade_stored(
     alloc: Global,
     world: &mut World,
@@ -102,8 +104,7 @@ pub fn shade_stored(
     }
 }
 
-/// Copies the shadow and the origins of `n` bytes to good ones, and notes in the list that each came from the byte at its
-/// distance.
+/// Copies the shadow and the origins of `n` bytes to good ones, and logs that each came from the byte at its distance.
 pub fn shade_copied(
     alloc: Global,
     world: &mut World,
@@ -131,7 +132,7 @@ pub fn shade_copied(
     }
 }
 
-/// The moves of `n` bytes that were copied with their shadow, where they are good: each one comes from the byte at its
+/// Logs the moves of `n` bytes that were copied with their shadow, where they are good: each one comes from the byte at its
 /// distance.
 pub fn tell_copied(
     alloc: Global,
@@ -157,7 +158,7 @@ pub fn tell_copied(
     }
 }
 
-/// Gives `n` good bytes a mask that isn't 0 as shadow: they come from a source.
+/// Gives each of `n` good bytes a mask that isn't 0 as shadow, and logs that they come from a source.
 pub fn shade_filled(
     alloc: Global,
     world: &mut World,

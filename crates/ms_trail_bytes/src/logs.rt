@@ -1,4 +1,4 @@
-//! Moves as they are told, up to a limit.
+//! The log of a traced run: its moves as they are told, up to a limit. `IsLog log moves` says that these were told to it.
 ghost use Rattle.std.specs.Prelude.{◌≤◌, ◌<◌, ◌+◌, ◌^◌, ◌++◌, [], ◌∷◌, List, IsTrue, ◌↔◌, OnOk};
 ghost use Rattle.ms_trail_moves.specs.declared.moves.Move.{Move as MoveOf};
 ghost use Rattle.ms_trail_bytes.specs.Logs.{move_limit, IsLog};
@@ -36,7 +36,7 @@ impl Log {
         self.count < MOVE_LIMIT
     }
 
-    /// One move more, which is kept.
+    /// Adds one move more, which is kept.
     pub fn push(&mut self, told: Move) -> Result<(), NoMemory>
         requires room { self.old.count < move_limit }
         requires few { self.old.count + 1 < 2 ^ 64 }
@@ -48,7 +48,7 @@ impl Log {
         Ok(())
     }
 
-    /// One move more, which isn't kept.
+    /// Counts one move more, which isn't kept.
     pub fn skip(&mut self)
         requires full { move_limit ≤ self.old.count }
         requires few { self.old.count + 1 < 2 ^ 64 }
@@ -58,7 +58,7 @@ impl Log {
         self.count += 1;
     }
 
-    /// One move more, which is kept where there is room.
+    /// Adds one move more, which is kept where there is room, and else only counted.
     #[tactic(auto, unfolding(crate::specs::Logs::move_limit))]
     pub fn add(&mut self, told: Move) -> Result<(), NoMemory>
         requires { self.old.count + 1 < 2 ^ 64 }

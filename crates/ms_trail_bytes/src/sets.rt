@@ -16,14 +16,14 @@ use ms_host::World;
 use ms_trail_moves::moves::Source;
 use std::alloc::Global;
 
-/// Whether no byte is poisoned of so many that get a byte of a mask.
+/// Whether none of `n` bytes is poisoned that each get `mask`.
 fn is_clean(mask: u8, n: u64) -> bool
     ensures { result ≡ (eqb mask 0 || eqb n 0) }
 {
     mask == 0 || n == 0
 }
 
-/// Gives `n` good bytes a byte of a mask as shadow: where it isn't 0, they come from a source.
+/// Gives each of `n` good bytes a mask as shadow, and, where it isn't 0, logs that they come from a source.
 pub fn shade_set(
     alloc: Global,
     world: &mut World,

@@ -1,4 +1,5 @@
-//! What an instruction reads and writes, by the names of its operands and of its result.
+//! What an instruction reads and writes, by the names of its operands and of its result, as sources and targets of moves. `frame`
+//! is the number of the call, and `before` that of the roots of the text before the instruction.
 ghost use Rattle.std.specs.Prelude.{◌≡◌, ◌≢◌, ◌<◌, ◌+◌, ◌^◌, ℕ, List, unwrap_or, IfOk};
 ghost use Rattle.ms_ir.specs.{declared.syntax.Ty.{Ty as TyOf}, declared.syntax.Name.{Name as NameOf}};
 ghost use Rattle.ms_ir.specs.{declared.syntax.Operand.{Operand as OperandOf}, Instructions.{operands, count_undefs}};
@@ -12,7 +13,7 @@ use ms_trail_moves::moves::{Source, Target};
 use ms_trail_moves::sources::{roots_before, source_at};
 use std::alloc::Global;
 
-/// What a phi is read from in the call with a number, in a jump from the block with a name; so many roots stand before it.
+/// What a phi is read from, in a jump from the block with the name `from`.
 pub fn phi_source(
     alloc: Global,
     frame: u64,
@@ -29,8 +30,7 @@ pub fn phi_source(
     }
 }
 
-/// What the operand that is stored is read from, in the call with a number; so many roots stand before the instruction. Root
-/// 0 where its mask is 0.
+/// What the operand that a `store` stores is read from; root 0 where its mask is 0.
 pub fn stored_source(
     alloc: Global,
     frame: u64,
@@ -49,7 +49,7 @@ pub fn stored_source(
     Ok(from)
 }
 
-/// The root that an instruction is itself, before which so many roots stand: it comes after those of its operands.
+/// The number of the root that an instruction is itself: it comes after those of its operands.
 pub fn own_root(before: u32, op: &Op) -> u32
     requires { before + count_undefs (operands op.now) + 1 < 2 ^ 32 }
     ensures { result ≡ before + count_undefs (operands op.now) + 1 }
@@ -57,7 +57,7 @@ pub fn own_root(before: u32, op: &Op) -> u32
     before + roots_before(op, op.operand_count()) + 1
 }
 
-/// The result of an instruction of the call with a number, as a place that is written; `%0` where it has no name.
+/// The result of an instruction, as what is written; `%0` where it has no name.
 pub fn result_target(alloc: Global, frame: u64, inst: &Inst) -> Result<Target, NoMemory>
     ensures { IfOk result (λ t. t ≡ place.Value frame (unwrap_or inst.now.result (Name.Number 0))) }
 {

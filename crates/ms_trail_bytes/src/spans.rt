@@ -1,4 +1,6 @@
-//! Runs of poisoned bytes, and their moves.
+//! Moves of bytes: one for each stretch of poisoned bytes, called a run here, among `n` live bytes from `addr` on. `k` and `first`
+//! are numbers of bytes among these. Where bytes were `copied`, each run comes from the bytes at its own distance in the source;
+//! else all come from the source itself.
 ghost use Rattle.std.specs.Prelude.{◌≡◌, ◌≢◌, ◌≤◌, ◌<◌, ◌+◌, ◌^◌, ◌++◌, ℕ, List, IsTrue, IfOk, OnOk};
 ghost use Rattle.ms_alloc.specs.Allocations.{is_good as is_live};
 ghost use Rattle.ms_runs.specs.World.{World as Meant};
@@ -14,7 +16,7 @@ use ms_ir::Name;
 use ms_trail_moves::moves::{Move, Source, Target};
 use std::alloc::Global;
 
-/// The shadow byte of the byte with a number among `n` live ones.
+/// The shadow of byte number `k`.
 fn shadow_at(world: &World, addr: u64, n: u64, k: u64) -> u64
     requires live { IsTrue (is_live addr n world.now.planes.table) }
     requires within { k < n }
@@ -28,7 +30,7 @@ fn shadow_at(world: &World, addr: u64, n: u64, k: u64) -> u64
     }
 }
 
-/// The number that lies so far after another, but at most `n`.
+/// The number `part` after `first`, but at most `n`.
 fn at_most(n: u64, first: u64, part: u64) -> u64
     requires { first ≤ n }
     ensures past { first ≤ result }
@@ -38,7 +40,7 @@ fn at_most(n: u64, first: u64, part: u64) -> u64
     if part < n - first { first + part } else { n }
 }
 
-/// The number of the first poisoned byte from one with a number on, among `n` live ones; `n` where there is none.
+/// The number of the first poisoned byte from number `first` on; `n` where there is none.
 fn past_clean(world: &World, addr: u64, n: u64, first: u64) -> u64
     requires live { IsTrue (is_live addr n world.now.planes.table) }
     requires within { first < n }
@@ -54,7 +56,7 @@ fn past_clean(world: &World, addr: u64, n: u64, first: u64) -> u64
     }
 }
 
-/// Whether eight of `n` live bytes, from one with a number on, are poisoned in each bit.
+/// Whether eight bytes, from number `k` on, are poisoned in each bit.
 fn is_full(world: &World, addr: u64, n: u64, k: u64) -> bool
     requires live { IsTrue (is_live addr n world.now.planes.table) }
     requires within { k + 8 ≤ n }
@@ -68,8 +70,8 @@ fn is_full(world: &World, addr: u64, n: u64, k: u64) -> bool
     }
 }
 
-/// The number of a byte after which no eight of `n` live ones are poisoned in each bit, and before which all are poisoned from one
-/// with a number on.
+/// The number of a byte up to which all are poisoned from number `first` on: passes eight at a time, as long as each of their bits
+/// is poisoned.
 fn past_full(world: &World, addr: u64, n: u64, first: u64) -> u64
     requires live { IsTrue (is_live addr n world.now.planes.table) }
     requires within { first ≤ n }
@@ -88,7 +90,7 @@ fn past_full(world: &World, addr: u64, n: u64, first: u64) -> u64
     k
 }
 
-/// The number of the first clean byte from one with a number on, among `n` live ones; `n` where there is none.
+/// The number of the first clean byte from number `first` on; `n` where there is none.
 fn past_poisoned(world: &World, addr: u64, n: u64, first: u64) -> u64
     requires live { IsTrue (is_live addr n world.now.planes.table) }
     requires within { first ≤ n }
@@ -107,7 +109,7 @@ fn past_poisoned(world: &World, addr: u64, n: u64, first: u64) -> u64
     n
 }
 
-/// Where a run of bytes comes from that begins so far after the first of bytes that come from a byte.
+/// Where the run that begins with byte number `k` comes from, where the source is the byte at `addr`.
 fn byte_source(addr: u64, copied: bool, k: u64) -> Source
     requires { addr + k < 2 ^ 64 }
     ensures { result ≡ source_in (Source.Byte addr) copied k }
@@ -130,8 +132,7 @@ fn value_source(alloc: Global, frame: u64, name: &Name) -> Result<Source, NoMemo
     })
 }
 
-/// Where a run of bytes comes from that begins so far after the first byte: bytes that were copied come from the bytes at
-/// their distance, and others from one source.
+/// Where the run that begins with byte number `k` comes from, of bytes that come from a source.
 fn run_source(alloc: Global, from: &Source, copied: bool, k: u64) -> Result<Source, NoMemory>
     requires { (a : ℕ) → from.now ≡ Source.Byte a → a + k < 2 ^ 64 }
     ensures { IfOk result (λ s. s ≡ source_in from.now copied k) }
@@ -152,8 +153,8 @@ pub struct Stamp {
     pub site: u32,
 }
 
-/// The move of the run that begins with byte number `k` of `n` live ones, if one does. Returns the number of the byte after it,
-/// else of the next one.
+/// Logs the move of the run that begins with byte number `k`, if one does. Returns the number of the byte after it, else of the
+/// next one.
 fn tell_run(
     alloc: Global,
     world: &World,
@@ -193,8 +194,7 @@ fn tell_run(
     }
 }
 
-/// The move of the next run from byte number `k` of `n` live ones on, if there is one. Returns the number of the byte after it,
-/// else `n`.
+/// Logs the move of the next run from byte number `k` on, if there is one. Returns the number of the byte after it, else `n`.
 fn tell_next(
     alloc: Global,
     world: &World,
@@ -223,7 +223,7 @@ fn tell_next(
     }
 }
 
-/// The moves of `n` live bytes that were written: one for each of the longest runs of poisoned ones.
+/// Logs the moves of `n` live bytes that were written: one for each of the longest runs of poisoned ones.
 pub fn tell_bytes(
     alloc: Global,
     world: &World,

@@ -1,4 +1,5 @@
-//! Externals that make uninitialised bytes or copy bytes, followed: `malloc`, `realloc`, lifetimes, `memcpy`, with the moves.
+//! Externals that make uninitialised bytes or copy bytes, followed: `malloc`, `realloc`, lifetimes, `memcpy`, with the moves. A
+//! traced run keeps no origins in memory: cells get 0.
 ghost use Rattle.std.specs.Prelude.{◌≡◌, ◌≤◌, ◌<◌, ◌+◌, ◌^◌, ◌++◌, [], ◌∷◌, ℕ, List, Some, min, true, unwrap_or, IsTrue, OnOk, if◌then◌else◌};
 ghost use Rattle.ms_alloc.specs.Allocations.{heap_size as block_size, is_good as is_live};
 ghost use Rattle.ms_ir.specs.Areas.{Heap};
@@ -37,7 +38,7 @@ fn law_block(world: &World, base: u64, size: u64)
     world.law_laid_out();
 }
 
-/// The size of the heap block that an address is the base of; 0 where there is none.
+/// The size of the heap block that begins at an address; 0 where none does.
 pub fn size_of(world: &World, base: u64) -> u64
     ensures size { (beside : Beside) (meant : Meant) → Shows world.now beside meant → result ≡ unwrap_or (heap_size meant base) 0 }
     ensures low { 0 < result → base + result < 2 ^ 64 }
@@ -54,7 +55,7 @@ pub fn size_of(world: &World, base: u64) -> u64
     }
 }
 
-/// The moves of `n` bytes that come from a root, where they are good.
+/// Logs the moves of `n` bytes, from the address `first` on, that come from root number `root`, where they are good.
 fn tell_good(
     alloc: Global,
     world: &World,
@@ -80,8 +81,8 @@ fn tell_good(
     }
 }
 
-/// The moves of the bytes with the numbers from `from` to before `to`, counted from an address, where they are good: they
-/// come from a root.
+/// Logs the moves of the bytes from `from` to before `to`, counted from an address, where they are good: they come from root number
+/// `root`.
 fn tell_made(
     alloc: Global,
     world: &World,
@@ -106,8 +107,8 @@ fn tell_made(
     }
 }
 
-/// Makes the bytes with the numbers from `from` to before `to`, counted from an address, uninitialised, where they are good:
-/// they come from a root.
+/// Poisons the bytes from `from` to before `to`, counted from an address, where they are good, and logs that they come from root
+/// number `root`: the call of the external that made them.
 pub fn shade_unset(
     alloc: Global,
     world: &mut World,
@@ -129,7 +130,7 @@ pub fn shade_unset(
     tell_made(alloc, world, log, stamp, root, addr, from, to)
 }
 
-/// Copies the shadow of `n` bytes from one good range to another: each byte comes from the one at its distance.
+/// Copies the shadow of `n` bytes from one good range to another, and logs that each byte comes from the one at its distance.
 pub fn shade_copy(
     alloc: Global,
     world: &mut World,
@@ -159,7 +160,8 @@ pub fn shade_copy(
     }
 }
 
-/// The moves of bytes that came along to a new block, if there is one.
+/// Logs the moves of the first `kept` bytes of the heap block at `block`, which `realloc` copied to the new one at `given`, if that
+/// isn't null.
 fn tell_block(
     alloc: Global,
     world: &World,
@@ -184,7 +186,8 @@ fn tell_block(
     }
 }
 
-/// A block was reallocated to `n` bytes: its bytes were copied, and the rest is uninitialised.
+/// What `realloc` of the `old` bytes at `block` to `n` bytes at `given` does to the shadow, with its moves: the old bytes were
+/// copied, and the rest is uninitialised and comes from root number `root`.
 pub fn shade_moved(
     alloc: Global,
     world: &mut World,

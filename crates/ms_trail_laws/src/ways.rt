@@ -14,7 +14,7 @@ pub fn some_way()
     ensures { (m : Module) → is_threaded m ≡ false → (setup : Setup) (moves : List AMove) (at : ASource) → trace m setup ≡ Found moves at → FromReached m (to_first_report setup) moves at }
 {}
 
-/// There is such a list exactly where the run ends at a report.
+/// The moves of a run and what its report's use reads are found exactly where the run ends at a report.
 pub fn found_at_reports()
     ensures reported { (m : Module) (setup : Setup) → (shadow m (to_first_report setup)).«end» ≡ end_of.Reported → (moves : List AMove) × (at : ASource) × (trace m setup ≡ Found moves at) }
     ensures found { (m : Module) (setup : Setup) (moves : List AMove) (at : ASource) → trace m setup ≡ Found moves at → (shadow m (to_first_report setup)).«end» ≡ end_of.Reported }

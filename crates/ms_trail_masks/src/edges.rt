@@ -7,7 +7,7 @@ use crate::words::{View, mask_of};
 use ms_bits::NoMemory;
 use ms_machine_code::PhiMove;
 
-/// Reads the masks of phis, in the place of what stands in a row, whose memory is used again.
+/// Reads the masks of a jump's phis, in the place of what stands in `row`, whose memory is used again.
 pub fn read_masks(view: &View<'_>, moves: &[PhiMove], row: &mut Vec<u64>) -> Result<(), NoMemory>
     requires view { IsView view.now }
     requires moves { All (IsMove (length view.now.values.now)) moves.now }

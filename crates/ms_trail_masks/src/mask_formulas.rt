@@ -1,5 +1,5 @@
-//! Masks of results, by the formulas, as numbers (after Stepanov and Serebryany, CGO 2015). `v` and `u` are the words of the operands,
-//! `m` and `k` their masks; `t` is a condition and `n` its mask.
+//! Masks of results, by the formulas, as numbers (after Stepanov and Serebryany, CGO 2015). `v` and `u` are the words of the
+//! operands, `m` and `k` their masks; `t` is a condition and `n` its mask.
 ghost use Rattle.std.specs.Prelude.{◌≡◌, ◌≤◌, ◌<◌, ◌+◌, ◌-◌, ◌%◌, ◌^◌, ltb, leb};
 ghost use Rattle.ms_bits.specs.{Arithmetic.{binary_of}, Conversions.{Allows, cast_of, select_of}, NoFlags.{no_flags}};
 ghost use Rattle.ms_bits.specs.Formulas.{and_mask as and_mask_of, or_mask as or_mask_of, eq_mask as eq_mask_of, order_mask as order_mask_of, turned_sign as turned_sign_of, compare_mask as compare_mask_of, select_mask as select_mask_of, carry_mask as carry_mask_of};
@@ -38,7 +38,7 @@ pub fn or_mask(width: u8, v: u64, m: u64, u: u64, k: u64) -> u64
     ((v ^ all) | m) & ((u ^ all) | k) & (m | k)
 }
 
-/// 0 less a number, in so many bits.
+/// 0 less a number, in `width` bits.
 pub(crate) fn negated(width: u8, number: u64) -> u64
     requires some { 1 ≤ width }
     requires few { width ≤ 64 }
@@ -52,8 +52,8 @@ pub(crate) fn negated(width: u8, number: u64) -> u64
     }
 }
 
-/// 'add', 'sub', 'mul' and 'getelementptr', where carries count: the poisoned bits of the operands and all bits above the
-/// lowest one.
+/// 'add', 'sub', 'mul' and 'getelementptr', where carries count: `union`, the poisoned bits of the operands, and all bits above the
+/// lowest of them.
 #[tactic(auto, unfolding(ms_bits::specs::Formulas::carry_mask))]
 pub fn carry_mask(width: u8, union: u64) -> u64
     requires some { 1 ≤ width }
@@ -64,7 +64,7 @@ pub fn carry_mask(width: u8, union: u64) -> u64
     union | negated(width, union)
 }
 
-/// An operation without flags.
+/// What an operation without flags gives of two numbers: a mask shifted as its word is.
 pub fn combined(op: BinOp, width: u8, a: u64, b: u64) -> Result<u64, Trap>
     requires some { 1 ≤ width }
     requires few { width ≤ 64 }
@@ -76,7 +76,7 @@ pub fn combined(op: BinOp, width: u8, a: u64, b: u64) -> Result<u64, Trap>
     Ok(word.value())
 }
 
-/// A cast without flags.
+/// What a cast without flags gives of a number: a mask cast as its word is.
 pub fn converted(op: CastOp, width: u8, a: u64, into: u8) -> Result<u64, Trap>
     requires some { 1 ≤ width }
     requires few { width ≤ 64 }
@@ -97,7 +97,8 @@ fn eq_mask(v: u64, m: u64, u: u64, k: u64) -> u64
     (((v ^ u) | poisoned) == poisoned) as u64 & !(poisoned == 0) as u64
 }
 
-/// An ordered comparison by `<`: the answers at the two extremes differ.
+/// An ordered comparison by `<`: 1 where its answers differ for the least `v` beside the greatest `u`, and for the greatest `v`
+/// beside the least `u`.
 #[tactic(auto, unfolding(ms_bits::specs::Formulas::order_mask, ms_bits::specs::Formulas::greatest, ms_bits::specs::Formulas::least))]
 fn less_mask(v: u64, m: u64, u: u64, k: u64) -> u64
     ensures { result ≡ order_mask_of ltb v m u k }
@@ -105,7 +106,7 @@ fn less_mask(v: u64, m: u64, u: u64, k: u64) -> u64
     ((((v | m) ^ m) < (u | k)) as u64) ^ (((v | m) < ((u | k) ^ k)) as u64)
 }
 
-/// An ordered comparison by `<=`.
+/// An ordered comparison by `<=`, in the same way.
 #[tactic(auto, unfolding(ms_bits::specs::Formulas::order_mask, ms_bits::specs::Formulas::greatest, ms_bits::specs::Formulas::least))]
 fn at_most_mask(v: u64, m: u64, u: u64, k: u64) -> u64
     ensures { result ≡ order_mask_of leb v m u k }
@@ -123,7 +124,8 @@ pub(crate) fn turned(width: u8, v: u64) -> u64
     v ^ (1u64 << (width - 1))
 }
 
-/// The mask of a comparison's result.
+/// The mask of a comparison's result, a bit: which formula the predicate takes. Signed order is that of words whose sign bits are
+/// turned.
 #[tactic(auto, unfolding(ms_bits::specs::Formulas::compare_mask))]
 pub fn compare_mask(pred: Pred, width: u8, v: u64, m: u64, u: u64, k: u64) -> u64
     requires some { 1 ≤ width }
@@ -143,7 +145,7 @@ pub fn compare_mask(pred: Pred, width: u8, v: u64, m: u64, u: u64, k: u64) -> u6
     }
 }
 
-/// The first of two numbers where a third isn't 0, else the second.
+/// `a` where the condition `c` isn't 0, else `b`.
 #[tactic(auto, unfolding(ms_bits::specs::Conversions::select_of))]
 fn chosen(c: u64, a: u64, b: u64) -> u64
     ensures { result ≡ select_of c a b }

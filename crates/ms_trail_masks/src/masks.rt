@@ -8,7 +8,7 @@ use crate::words::Seen;
 use crate::{and_mask, carry_mask, combined, converted, ones, or_mask};
 use ms_bits::{BinOp, CastOp, Trap};
 
-/// The number of an answer, 0 for a trap.
+/// The number that an operation on masks gives; 0 where the operation traps.
 fn or_zero(answer: Result<u64, Trap>) -> u64
     ensures { result ≡ or_zero_of answer }
 {
@@ -18,7 +18,7 @@ fn or_zero(answer: Result<u64, Trap>) -> u64
     }
 }
 
-/// A shift: the mask shifted alike, or all bits where the amount is poisoned.
+/// A shift of `a` by `b`: the mask of `a` shifted in the same way, or all bits where some bit of the amount is poisoned.
 fn shift_mask(op: BinOp, width: u8, a: Seen, b: Seen) -> u64
     requires some { 1 ≤ width }
     requires few { width ≤ 64 }

@@ -14,7 +14,7 @@ fn greatest(v: u64, m: u64) -> u64
     v | m
 }
 
-/// The least one.
+/// The least number that a word with a mask may be.
 #[tactic(auto, unfolding(ms_bits::specs::Formulas::least))]
 fn least(v: u64, m: u64) -> u64
     ensures { result ≡ least_of v m }
@@ -22,7 +22,7 @@ fn least(v: u64, m: u64) -> u64
     (v | m) ^ m
 }
 
-/// The number of places of a count up to a width.
+/// How many bits a count from 0 to `width` takes.
 #[tactic(auto, unfolding(ms_bits::specs::WordFunctions::places))]
 fn places(width: u8) -> u8
     ensures is { result ≡ places_of width }
@@ -46,7 +46,7 @@ fn places(width: u8) -> u8
     }
 }
 
-/// All places of a count, unless it is known.
+/// The mask of a count of bits: all bits that it takes, unless the count is known.
 #[tactic(auto, unfolding(ms_bits::specs::WordFunctions::count_mask))]
 fn count_mask(width: u8, known: bool) -> u64
     ensures { result ≡ count_mask_of width known }
@@ -118,7 +118,7 @@ fn greater_mask(v: u64, m: u64, u: u64, k: u64) -> u64
     }
 }
 
-/// 'llvm.umin'.
+/// 'llvm.umin': as 'llvm.umax', by the smaller operand.
 #[tactic(auto, unfolding(ms_bits::specs::WordFunctions::smaller_mask))]
 fn smaller_mask(v: u64, m: u64, u: u64, k: u64) -> u64
     ensures { result ≡ smaller_mask_of v m u k }
@@ -132,7 +132,7 @@ fn smaller_mask(v: u64, m: u64, u: u64, k: u64) -> u64
     }
 }
 
-/// Every bit, where some bit of a mask is set.
+/// Every bit, where some bit of a mask is set: the saturating sums and differences.
 fn whole_mask(width: u8, m: u64) -> u64
     requires some { 1 ≤ width }
     requires few { width ≤ 64 }
@@ -141,7 +141,7 @@ fn whole_mask(width: u8, m: u64) -> u64
     if m == 0 { 0 } else { ones(width) }
 }
 
-/// What a function of whole words returns of three masks, where it answers; 0 where it traps.
+/// What a function of whole words answers when given the masks of its arguments as words; 0 where it traps.
 fn moved_mask(function: WordFn, width: WordWidth, m: u64, k: u64, t: u64) -> u64
     requires { m < 2 ^ bits_of width }
     ensures { IfOk (word_answer function (bits_of width) m k t) (λ moved. result ≡ moved) }
@@ -152,7 +152,8 @@ fn moved_mask(function: WordFn, width: WordWidth, m: u64, k: u64, t: u64) -> u64
     }
 }
 
-/// The mask of 'llvm.fshl' and 'llvm.fshr': the same of the masks, where the amount is known.
+/// The mask of 'llvm.fshl' and 'llvm.fshr': the same function of the masks, where the amount `t` is known (its mask `n` is 0), else
+/// every bit.
 fn shifted_mask(function: WordFn, width: WordWidth, m: u64, k: u64, t: u64, n: u64) -> u64
     requires { m < 2 ^ bits_of width }
     ensures { IfOk (word_answer function (bits_of width) m k t) (λ moved. result ≡ (if eqb n 0 then moved else (2 ^ bits_of width - 1))) }

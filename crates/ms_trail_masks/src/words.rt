@@ -1,4 +1,4 @@
-//! The words that code reads, with their masks.
+//! The words that code reads in a run that is followed, with their masks. In what `IsView` each value has a mask.
 ghost use Rattle.std.specs.Prelude.{◌≡◌, ◌<◌, ◌^◌, length};
 ghost use Rattle.ms_machine_code.specs.{Words.{word_of}, Fits.{IsSource}};
 ghost use Rattle.ms_trail_masks.specs.{Shades.{mask_of as mask_read}, Views.{IsView}};
@@ -14,7 +14,7 @@ pub struct Seen {
     pub mask: u64,
 }
 
-/// What an instruction reads words from: the values of its frame by number, their masks, and the fill of the run.
+/// What an instruction reads words from: the values of its frame by number, their masks of poisoned bits, and the fill of the run.
 #[derive(Clone, Copy)]
 pub struct View<'a> {
     pub values: &'a [u64],
@@ -22,7 +22,7 @@ pub struct View<'a> {
     pub fill: &'a [u8],
 }
 
-/// The number that is read.
+/// The number that an operand is. `width` bounds it.
 #[tactic(auto, using(std::proofs::lemmas::Nat::and_le_r, crate::proofs::Fills::below_wider))]
 pub fn value_of(view: &View<'_>, width: u8, source: WordSource) -> u64
     requires view { IsView view.now }
@@ -37,7 +37,7 @@ pub fn value_of(view: &View<'_>, width: u8, source: WordSource) -> u64
     }
 }
 
-/// The mask that is read.
+/// The mask of poisoned bits that an operand has.
 #[tactic(auto, using(std::proofs::lemmas::Nat::and_le_r, crate::proofs::Fills::ones_below))]
 pub fn mask_of(view: &View<'_>, width: u8, source: WordSource) -> u64
     requires view { IsView view.now }
@@ -52,7 +52,7 @@ pub fn mask_of(view: &View<'_>, width: u8, source: WordSource) -> u64
     }
 }
 
-/// The word that is read.
+/// The word that an operand is, with its mask.
 pub fn read_word(view: &View<'_>, width: u8, source: WordSource) -> Seen
     requires view { IsView view.now }
     requires source { IsSource (length view.now.values.now) width source }

@@ -1,4 +1,4 @@
-//! The way to a use, found from the last move back. `event` is the step that reads; none at the report's use.
+//! The way to a use, found from the last move back. `event` is the number of the step that reads; none at the report's use.
 ghost use Rattle.std.specs.Prelude.{◌≡◌, ◌≤◌, ◌<◌, ◌+◌, ◌^◌, length, IfOk, option_map};
 ghost use Rattle.ms_ir.specs.Names.{name_eq};
 ghost use Rattle.ms_trail_moves.specs.Scanned.{Ascending, byte_in as byte_of_target, is_root as is_root_source, counted_byte as counted, trail_of};
@@ -34,7 +34,7 @@ pub(crate) fn place_of(source: &Source) -> Reading<'_>
     }
 }
 
-/// Whether two names are one.
+/// Whether two names are the same.
 fn same_name(a: &Name, b: &Name) -> bool
     ensures { result ≡ name_eq a.now b.now }
 {
@@ -71,7 +71,7 @@ fn byte_in(target: &Target, reading: Reading<'_>) -> Option<u64>
     }
 }
 
-/// What a byte of a move's target comes from.
+/// What byte `k` of a move's target comes from.
 pub(crate) fn came_from(m: &Move, k: u64) -> Reading<'_>
     ensures { source_of result ≡ source_after m.now.from m.now.to k }
 {
@@ -90,7 +90,7 @@ pub(crate) fn is_root(reading: Reading<'_>) -> bool
     matches!(reading, Reading::Root { .. })
 }
 
-/// Which byte of a move that is of an earlier step is read.
+/// Which byte of a move's target is read, if the move is of a step before `event` and writes what is read.
 pub(crate) fn counted_byte(m: &Move, event: Option<u64>, reading: Reading<'_>) -> Option<u64>
     ensures { result ≡ counted event (source_of reading.entry) m.now }
 {
@@ -105,7 +105,8 @@ pub(crate) fn counted_byte(m: &Move, event: Option<u64>, reading: Reading<'_>) -
     }
 }
 
-/// The hops that lead to what a use reads, if any do: one pass over the moves from the last one back.
+/// The hops that lead to what a use reads (`at`), if any do: one pass over the moves from the last one back. The moves are in the
+/// order of their steps.
 pub fn trail(alloc: Global, moves: &[Move], at: &Source) -> Result<Option<Vec<Hop>>, NoMemory>
     requires ascending { Ascending moves.now }
     requires few { length moves.now < 2 ^ 32 }

@@ -1,6 +1,6 @@
-//! Whether hops are a way over moves, told from what a way is: nothing but the types is shared with how one is found. The way is gone
-//! back from its end. What is read is a source and a distance: where the source is a byte, the byte so far after it. `event` is the
-//! step that reads it; none at the report's use.
+//! Whether hops are a way over moves, told from what a way is: nothing but the types is shared with how one is found. The way is
+//! gone back from its end. What is read is a source and a distance: where the source is a byte, the byte so far after it. `event`
+//! is the step that reads it; none at the report's use.
 ghost use Rattle.std.specs.Prelude.{◌≡◌, ◌≤◌, ◌&&◌, MatchBool, eqb, length, slice_get, Some as Held};
 ghost use Rattle.ms_ir.specs.Names.{name_eq};
 ghost use Rattle.ms_trail_moves.specs.{Leads.{Leads}, Scanned.{is_before}};
@@ -9,7 +9,7 @@ ghost use Rattle.ms_trail_moves.specs.Checked.{distance_in, is_reached, is_writt
 use crate::moves::{Hop, Move, Source, Target};
 use ms_ir::Name;
 
-/// Whether two values are one: the frame and the name of the one, then those of the other.
+/// Whether two values are the same one: the frame and the name of the one, then those of the other.
 fn is_value(frame: u64, name: &Name, other: u64, read: &Name) -> bool
     ensures { result ≡ (eqb frame other && name_eq name.now read.now) }
 {
@@ -56,7 +56,7 @@ fn covers(target: &Target, read: &Source, distance: u64) -> bool
     }
 }
 
-/// Whether a move is of a step before one, if one is given.
+/// Whether a move is of a step before step `event`, if that is given.
 fn is_earlier(made: &Move, event: Option<u64>) -> bool
     ensures { result ≡ is_before event made.now }
 {
@@ -66,14 +66,14 @@ fn is_earlier(made: &Move, event: Option<u64>) -> bool
     }
 }
 
-/// Whether a move of a step before one writes what is read.
+/// Whether a move is of a step before step `event` and writes what is read.
 fn writes(made: &Move, event: Option<u64>, read: &Source, distance: u64) -> bool
     ensures { result ≡ counts_there event read.now distance made.now }
 {
     is_earlier(made, event) && covers(&made.to, read, distance)
 }
 
-/// Whether none of the moves from a number on does.
+/// Whether none of the moves from number `first` on is of a step before step `event` and writes what is read.
 fn none_writes(
     moves: &[Move],
     first: usize,
@@ -91,7 +91,7 @@ fn none_writes(
     true
 }
 
-/// Whether a hop's move is the last one, of the steps before one, that writes what is read.
+/// Whether a hop's move is the last one, of the steps before step `event`, that writes what is read.
 fn is_next(moves: &[Move], event: Option<u64>, read: &Source, distance: u64, hop: Hop) -> bool
     ensures { MatchBool result (IsNext moves.now event read.now distance hop) (IsNext moves.now event read.now distance hop → ⊥) }
 {
@@ -123,8 +123,8 @@ fn is_root(source: &Source) -> bool
 }
 
 /// Whether hops lead to what a use reads: each is the last move, of the steps before the next one's, that wrote what the next one
-/// reads, and the first one reads a root. The moves may stand in any order. It takes no memory; each hop takes a pass over the moves
-/// after its own.
+/// reads, and the first one reads a root. The moves may stand in any order. It takes no memory; each hop takes a pass over the
+/// moves after its own.
 pub fn check_trail(moves: &[Move], at: &Source, hops: &[Hop]) -> bool
     ensures { MatchBool result (Leads moves.now at.now hops.now) (Leads moves.now at.now hops.now → ⊥) }
 {

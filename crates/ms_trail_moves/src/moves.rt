@@ -1,4 +1,4 @@
-//! Moves of poisoned bits, and ways over them.
+//! Moves of poisoned bits, and ways over them, as data.
 
 use ms_ir::Name;
 
@@ -16,7 +16,7 @@ pub enum Source {
 /// What poisoned bits are written to.
 #[derive(Debug, PartialEq, Eq, Drop)]
 pub enum Target {
-    /// A value of the frame with a number.
+    /// A value of the frame with a number, as in `Source`.
     Value { frame: u64, name: Name },
     /// Bytes that follow one another.
     Bytes { addr: u64, len: u64 },

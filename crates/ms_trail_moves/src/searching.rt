@@ -1,4 +1,4 @@
-//! The way to a use over moves in any order.
+//! The way to a use over moves in any order, for callers that have such lists; the program's are in the order of their steps.
 ghost use Rattle.std.specs.Prelude.{◌≡◌, ◌<◌, ◌^◌, true, length, IfOk};
 ghost use Rattle.ms_trail_moves.specs.{Readings.{source_of}, Scanned.{Ascending}, Searched.{IsLastWrite, IsWay}};
 
@@ -21,7 +21,7 @@ pub(crate) fn are_ascending(moves: &[Move]) -> bool
     true
 }
 
-/// The last move, of the steps before one, that writes what is read, and which byte of it that is.
+/// The last move, of the steps before step `event`, that writes what is read, and which byte of its target that is.
 fn last_write(moves: &[Move], event: Option<u64>, reading: Reading<'_>) -> Option<Hop>
     requires { length moves.now < 2 ^ 32 }
     ensures { IsLastWrite moves.now event (source_of reading.entry) result }
@@ -68,8 +68,8 @@ fn search(alloc: Global, moves: &[Move], at: &Source) -> Result<Option<List<Hop>
     Ok(Some(List::from_vec(hops)))
 }
 
-/// The hops that lead over moves to what a use reads: each is the last move, of the steps before the next one's, that wrote what the
-/// next one reads, and the first one reads a root. None where no hops do; there is never more than one such list.
+/// The hops that lead over moves to what a use reads: each is the last move, of the steps before the next one's, that wrote what
+/// the next one reads, and the first one reads a root. None where no hops do; there is never more than one such list.
 ///
 /// The moves may stand in any order. Where none is of an earlier step than one before it, one pass from the last one back finds the
 /// way; else each hop takes a pass.

@@ -1,5 +1,5 @@
-//! What each operand of an instruction is read from. `frame` is the number of the call, and `before` that of the roots before it in
-//! the text.
+//! What each operand of an instruction is read from: a source of moves. `frame` is the number of the call, and `before` that of the
+//! roots that stand before the instruction, or the operand, in the text.
 ghost use Rattle.std.specs.Prelude.{◌≡◌, ◌<◌, ◌+◌, ◌^◌, take, IfOk};
 ghost use Rattle.ms_ir.specs.Instructions.{operands, one_undef, count_undefs};
 ghost use Rattle.ms_trail_moves.specs.Sources.{operand_source as source_of_operand, sources, source_at as source_in};
@@ -9,7 +9,7 @@ use ms_bits::{Duplicate, NoMemory};
 use ms_ir::{Op, Operand};
 use std::alloc::Global;
 
-/// 1 for an operand that is a root.
+/// 1 for an operand that is a root, an undefined one, else 0.
 pub fn one_root(operand: &Operand) -> u32
     ensures { result ≡ one_undef operand.now }
 {
@@ -30,7 +30,7 @@ fn root_at(op: &Op, place: usize) -> u32
     }
 }
 
-/// How many of the first operands of an operation are roots.
+/// How many of the first `count` operands of an operation are roots.
 #[tactic(auto, using(crate::proofs::Operands::undefs_within))]
 pub fn roots_before(op: &Op, count: usize) -> u32
     requires { count_undefs (operands op.now) < 2 ^ 32 }
@@ -43,7 +43,7 @@ pub fn roots_before(op: &Op, count: usize) -> u32
     roots
 }
 
-/// What an operand is read from, before which so many roots stand; the root 0 of a constant, which is never poisoned.
+/// What an operand is read from, before which `before` roots stand; root 0, which is none, for a constant: it is never poisoned.
 pub fn operand_source(
     alloc: Global,
     frame: u64,
@@ -63,7 +63,7 @@ pub fn operand_source(
     }
 }
 
-/// What the operand with a place is read from, in the call with a number; so many roots stand before the instruction.
+/// What the operand of an operation with a place, counted from 0, is read from.
 #[tactic(auto, using(crate::proofs::Operands::source_some, crate::proofs::Operands::source_none, crate::proofs::Operands::undefs_upto))]
 pub fn source_at(
     alloc: Global,

@@ -1,4 +1,4 @@
-//! Ways over moves.
+//! Laws of ways over moves: each a function with an empty body, whose promise is the law.
 ghost use Rattle.std.specs.Prelude.{◌≡◌, List, Some};
 ghost use Rattle.ms_trail_moves.specs.{declared.moves.Move.{Move as AMove}, declared.moves.Hop.{Hop as AHop}};
 ghost use Rattle.ms_trail_moves.specs.{declared.moves.Source.{Source as ASource}, Leads.{Leads}};

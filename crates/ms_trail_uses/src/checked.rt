@@ -1,4 +1,5 @@
-//! The first checked use of an instruction that is poisoned: its uses are asked in their order.
+//! The first checked use of an instruction that is poisoned: its uses are asked in their order. Each function returns what that use
+//! reads, or none.
 ghost use Rattle.std.specs.Prelude.{◌≡◌, ◌<◌, false, length, get_or, drop, map, All, Some, None};
 ghost use Rattle.ms_runs.specs.{World.{World as Meant}, Uses.{value_uses, string_uses}};
 ghost use Rattle.ms_runs_uses.specs.Uses.{use_of};
@@ -14,7 +15,7 @@ use ms_machine_code::{Code, WordSource};
 use ms_runs_uses::uses::{CheckedUse, checked_uses, printed_args, printed_string, printed_word};
 use ms_trail_masks::View;
 
-/// The operand with a place.
+/// The operand with the place `k`.
 pub fn typed_at(typed: &[(Ty, Operand)], k: usize) -> &(Ty, Operand)
     requires { k < length typed.now }
     ensures { result.now ≡ get_or typed.now k result.now }
@@ -22,7 +23,7 @@ pub fn typed_at(typed: &[(Ty, Operand)], k: usize) -> &(Ty, Operand)
     &typed[k]
 }
 
-/// The first of two uses.
+/// The first of two poisoned uses, if it is there, else the second.
 fn or_else(first: Option<Used>, second: Option<Used>) -> Option<Used>
     ensures { result ≡ or_used first second }
 {
@@ -32,7 +33,7 @@ fn or_else(first: Option<Used>, second: Option<Used>) -> Option<Used>
     }
 }
 
-/// The first use of a table that is poisoned.
+/// The first use of a table of uses that is poisoned.
 fn first_listed(
     view: &View<'_>,
     world: &World,
@@ -70,7 +71,7 @@ fn first_word(
     None
 }
 
-/// A use of the string at an argument of `printf` after its format.
+/// The use of the string to which argument `k` of `printf`, after its format, points, where it is poisoned.
 fn string_at(
     view: &View<'_>,
     world: &World,

@@ -8,7 +8,7 @@ use ms_bits::BinOp;
 use ms_machine_code::{Code, WordSource};
 use ms_trail_masks::{View, mask_of};
 
-/// Whether a word is clean.
+/// Whether the word of an operand is clean.
 fn is_clean(view: &View<'_>, source: WordSource) -> bool
     requires view { IsView view.now }
     requires source { IsSource (length view.now.values.now) 64 source }

@@ -1,4 +1,4 @@
-//! The edge that a jump takes, by the words that it reads.
+//! The edge that a jump of a traced run takes, by the words that it reads.
 ghost use Rattle.std.specs.Prelude.{length, MatchOption};
 ghost use Rattle.ms_machine_frames.specs.Meaning.{IsJump};
 ghost use Rattle.ms_trail_masks.specs.Views.{IsView};

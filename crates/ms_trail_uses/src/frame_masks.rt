@@ -1,4 +1,4 @@
-//! The masks of a frame's values.
+//! The masks of a frame's values, kept beside it in a traced run.
 ghost use Rattle.std.specs.Prelude.{◌≡◌, replicate, IfOk};
 
 use ms_bits::NoMemory;

@@ -1,4 +1,5 @@
-//! What the code of a module reads, and where: operands of instructions, checked uses, places in the module, tables of masks beside the frames.
+//! What a step of a traced run reads, for `ms_trail`: operands, checked uses, masks beside the frames, and what is known of each
+//! instruction.
 #![tactic(auto)]
 
 pub mod checked;

@@ -1,4 +1,4 @@
-//! The masks of words that are loaded, and where they come from.
+//! The masks of words that a traced run loads, and the byte that they come from.
 ghost use Rattle.std.specs.Prelude.{◌≡◌, ◌≢◌, ◌≤◌, true, bit_and};
 ghost use Rattle.ms_bits.specs.Maps.{first_nonzero, number_at};
 ghost use Rattle.ms_runs.specs.{World.{World as Meant}, Memory.{is_good}};
@@ -21,7 +21,7 @@ pub fn loaded_mask(world: &World, addr: u64, size: u8, cut: u64) -> u64
     }
 }
 
-/// A byte that was found, as a source; no root where none was.
+/// A byte that was found, as a source; root 0, which is no root, where none was.
 fn source_of_byte(used: Option<Used>) -> Source
     ensures { result ≡ byte_used used }
 {

@@ -1,4 +1,5 @@
-//! Which operand the poisoned bits of a result come from.
+//! Which operand the poisoned bits of a result come from, by the operand's place, counted from 0: the one whose origin the result
+//! has.
 ghost use Rattle.std.specs.Prelude.{◌≡◌, ◌≤◌, ◌<◌, ◌+◌, ◌^◌, length, drop, get_or, eqb, if◌then◌else◌, All};
 ghost use Rattle.ms_bits.specs.Conversions.{select_of};
 ghost use Rattle.ms_machine_code.specs.{Words.{word_of}, Fits.{IsSource, IsStride}, Reads.{is_integer as is_integer_operand}};
@@ -10,7 +11,7 @@ use ms_ir::{Op, Operand, Ty};
 use ms_machine_code::{Code, Stride, WordSource};
 use ms_trail_masks::{View, mask_of, value_of};
 
-/// The place of the last of two operands whose mask isn't 0; 0 where there is none.
+/// The place of the last of two operands whose mask isn't 0, given the second: 1 where its mask isn't 0, else 0.
 fn last_of_two(view: &View<'_>, second: WordSource) -> usize
     requires view { IsView view.now }
     requires source { IsSource (length view.now.values.now) 64 second }
@@ -20,7 +21,7 @@ fn last_of_two(view: &View<'_>, second: WordSource) -> usize
     if mask != 0 { 1 } else { 0 }
 }
 
-/// One of two places, by a word.
+/// The first of two places where a word isn't 0, else the second.
 #[tactic(auto, using(ms_machine_frames::proofs::Selections::select_zero, ms_machine_frames::proofs::Selections::select_other))]
 fn chosen(word: u64, first: usize, second: usize) -> usize
     ensures { result ≡ select_of word first second }
@@ -28,7 +29,7 @@ fn chosen(word: u64, first: usize, second: usize) -> usize
     if word == 0 { second } else { first }
 }
 
-/// The place of the operand that a selection takes its origin from.
+/// The place of the operand that a `select` takes its origin from: the condition where that is poisoned, else the chosen one.
 fn selected(view: &View<'_>, cond: WordSource) -> usize
     requires view { IsView view.now }
     requires source { IsSource (length view.now.values.now) 64 cond }
@@ -40,7 +41,7 @@ fn selected(view: &View<'_>, cond: WordSource) -> usize
     chosen(mask, 0, place)
 }
 
-/// Whether an operand is an integer, which has no stride.
+/// Whether an operand is an integer: as an index it has no stride in the code.
 fn is_integer(typed: &(Ty, Operand)) -> bool
     ensures { result ≡ is_integer_operand typed.now.1 }
 {
@@ -58,7 +59,7 @@ fn stride_at(strides: &[Stride], number: usize) -> &Stride
     &strides[number]
 }
 
-/// The mask of the index of the stride with a number; 0 where there is none.
+/// The mask of the index of stride number `next`; 0 where there is none.
 fn index_mask(view: &View<'_>, strides: &[Stride], next: usize) -> u64
     requires view { IsView view.now }
     requires strides { All (IsStride (length view.now.values.now)) strides.now }
@@ -73,14 +74,14 @@ fn index_mask(view: &View<'_>, strides: &[Stride], next: usize) -> u64
     }
 }
 
-/// The place found so far, once an operand was looked at: an integer is passed, and so is one whose mask is 0.
+/// The place found so far, `best`, once operand `k` was looked at: an integer is passed, and so is one whose mask is 0.
 fn better(integer: bool, mask: u64, best: usize, k: usize) -> usize
     ensures { result ≡ (if integer then best else (if eqb mask 0 then best else k)) }
 {
     if integer || mask == 0 { best } else { k }
 }
 
-/// The number of the next stride after an operand.
+/// The number of the next stride after an index: an integer has none of its own.
 fn place_after(integer: bool, next: usize) -> usize
     requires { next + 1 < 2 ^ 64 }
     ensures is { result ≡ (if integer then next else next + 1) }
@@ -133,7 +134,8 @@ pub fn result_place(view: &View<'_>, code: &Code, op: &Op) -> usize
     }
 }
 
-/// The place of the last of some masks that isn't 0; 0 where there is none.
+/// The place of the last of some masks that isn't 0, those of an external's arguments: the argument whose origin the answer has. 0
+/// where there is none.
 pub fn last_of(masks: &[u64]) -> usize
     ensures { result ≡ last_masked 0 masks.now 0 }
 {

@@ -1,4 +1,4 @@
-//! Has the interpreter take one step, where it asks for no call.
+//! Has the interpreter take one step of a traced run, where the instruction calls nothing outside the module.
 ghost use Rattle.std.specs.Prelude.{◌≡◌, ◌≤◌, ◌<◌, ◌+◌, ◌^◌, IfOk};
 ghost use Rattle.ms_ir.specs.Instructions.{NoMarks};
 ghost use Rattle.ms_runs.specs.{declared.runs.Setup.{Setup}, Plain.{PlainState}};
@@ -13,15 +13,15 @@ use ms_machine::advance;
 use ms_machine_frames::{Budget, Fiber, Pause};
 use std::alloc::Global;
 
-/// Whether the machine stopped for want of steps alone.
+/// Whether the interpreter stopped only since no step was left.
 fn is_spent(pause: &Pause) -> bool
     ensures { result ≡ spent pause.now }
 {
     matches!(pause, Pause::Spent)
 }
 
-/// Has the machine take one step, in a module without marked instructions, from an instruction that asks for no call. Returns
-/// whether the run goes on.
+/// Has the interpreter take one step, in a module without marked instructions, at an instruction that calls nothing outside the
+/// module. Returns whether the run goes on.
 pub fn step(
     alloc: Global,
     m: &CheckedModule,

@@ -1,4 +1,5 @@
-//! The row of each instruction: its text, its block, and the number of roots before it; made once a module.
+//! What a traced run knows of each instruction by its number in the code, a row for each: the instruction, its block, and the
+//! number of roots before it. Made once a module.
 ghost use Rattle.std.specs.Prelude.{◌≡◌, ◌+◌, ◌<◌, ◌^◌, ℕ, IfOk, length, slice_get, Some, if◌then◌else◌};
 ghost use Rattle.ms_ir.specs.declared.syntax.Module.{Module as ModuleOf};
 ghost use Rattle.ms_ir.specs.Instructions.{blocks_at, insts_at, root_at, roots_in, count_roots, func_index, over_insts, over_blocks, external_named, is_root, makes_unset};
@@ -14,7 +15,7 @@ use ms_ir::{Block, External, Inst, Module, Name, Op};
 use ms_trail_moves::sources::roots_before;
 use std::alloc::Global;
 
-/// An instruction, how many roots stand before it in the text, and the name of its block.
+/// An instruction, how many roots stand before it in the text (`roots`), and the name of its block.
 #[derive(Clone, Copy)]
 pub struct InstRow<'m> {
     pub inst: &'m Inst,
@@ -50,7 +51,7 @@ fn one_unset(external: Option<External>) -> u32
     }
 }
 
-/// 1 where an operation is a root itself, in a module with these functions.
+/// 1 where an operation is a root itself (makes uninitialised bytes), in a module with these functions, else 0.
 fn own_roots(functions: &NameTable<'_>, op: &Op) -> u32
     ensures { result ≡ if is_root (first_place functions.now) op.now then 1 else 0 }
 {
@@ -73,7 +74,7 @@ fn roots_after(functions: &NameTable<'_>, first: u32, inst: &Inst) -> u32
     first + undefined + own_roots(functions, &inst.op)
 }
 
-/// Appends the rows of the instructions of a block with a name, before which so many roots stand. Returns how many stand
+/// Appends the rows of the instructions of a block with the name `block`, before which `first` roots stand. Returns how many stand
 /// after them.
 fn push_insts<'m>(
     rows: &mut Vec<InstRow<'m>>,
@@ -95,7 +96,8 @@ fn push_insts<'m>(
     Ok(roots)
 }
 
-/// Appends the rows of the instructions of the blocks of a function. Returns how many roots stand after them.
+/// Appends the rows of the instructions of the blocks of a function, before which `first` roots stand. Returns how many stand after
+/// them.
 fn push_blocks<'m>(
     rows: &mut Vec<InstRow<'m>>,
     functions: &NameTable<'m>,

@@ -1,5 +1,5 @@
-//! Whether one checked use is poisoned, and what it then reads: an operand, or a byte. Each answer is none where nothing that is used
-//! is poisoned. `args` are the words that a call hands over, by their places.
+//! Whether one checked use is poisoned, and what it then reads: an operand, or a byte. Each answer is none where nothing that is
+//! used is poisoned. `args` are the words that a call hands over, by their places.
 ghost use Rattle.std.specs.Prelude.{◌≡◌, length, get_or, All};
 ghost use Rattle.ms_runs.specs.{World.{World as Meant}, Masks.{word_at}};
 ghost use Rattle.ms_machine_code.specs.Fits.{IsSource};
@@ -23,7 +23,7 @@ pub enum Used {
     Byte(u64),
 }
 
-/// The argument with a place; the word 0 where it is missing.
+/// The source of argument `k`; the word 0 where it is missing.
 #[tactic(auto, using(crate::proofs::Uses::same_default, crate::proofs::Uses::past_default))]
 fn arg(args: &[WordSource], k: usize) -> WordSource
     ensures { result ≡ get_or args.now k (WordSource.Word 0) }
@@ -35,7 +35,7 @@ fn arg(args: &[WordSource], k: usize) -> WordSource
     }
 }
 
-/// The use of an argument's word.
+/// The use of argument `k`'s word.
 fn word(view: &View<'_>, args: &[WordSource], k: usize) -> Option<Used>
     requires view { IsView view.now }
     requires args { All (IsSource (length view.now.values.now) 64) args.now }
@@ -50,7 +50,7 @@ fn word(view: &View<'_>, args: &[WordSource], k: usize) -> Option<Used>
     }
 }
 
-/// The number that an argument is.
+/// The number that argument `k` is.
 fn arg_number(view: &View<'_>, args: &[WordSource], k: usize) -> u64
     requires view { IsView view.now }
     requires args { All (IsSource (length view.now.values.now) 64) args.now }
@@ -60,7 +60,7 @@ fn arg_number(view: &View<'_>, args: &[WordSource], k: usize) -> u64
     value_of(view, 64, source)
 }
 
-/// The byte at which a search from an address ended.
+/// The poisoned byte that a search from the address `start` found, if it found one.
 fn byte_found(start: u64, found: Option<PoisonedByte>) -> Option<Used>
     ensures { result ≡ found_used start found }
 {
@@ -136,7 +136,7 @@ fn asked(view: &View<'_>, world: &World, args: &[WordSource], at: usize) -> Opti
     }
 }
 
-/// What a use reads of arguments, where it is poisoned.
+/// What a checked use reads, where that is poisoned: the word of an argument, or the first poisoned byte to which one points.
 pub fn used_by(
     view: &View<'_>,
     world: &World,
