@@ -11,8 +11,6 @@ use Rattle.ms_alloc.specs.declared.kinds.AllocKind.TheVariants.{Fixed, Heap, Sta
 use Rattle.ms_alloc.specs.declared.allocations.Allocation.{Allocation}
 use Rattle.ms_alloc.specs.Layout.{room, area_base, area_limit}
 use Rattle.ms_alloc.specs.Allocations.{Allocations, IsArea, IsLaidOut, used, listed, of_kind, covers, is_block, is_good}
-use Rattle.ms_alloc.specs.declared.allocations.TablePlace.{TablePlace}
-use Rattle.ms_alloc.specs.Places.{IsPlace}
 use Rattle.ms_alloc.specs.Only.{IsOnly}
 use Rattle.ms_alloc.specs.Owners.{Has, IsOutside}
 use Rattle.ms_alloc.proofs.Rows.{row-from, row-to, row-apart, size-le}
@@ -159,15 +157,6 @@ owner-only k xs addr n o d some area has is = record {
 -- a range that is not found is not good
 pub none-good : (t : Allocations) (addr n : ℕ) → 0 < n → find (covers addr n) (listed t) ≡ None → is_good addr n t ≡ false
 none-good t addr n some none = ap (λ (b : Bool). b || is_some (find (covers addr n) (listed t))) (ne_eqb n 0 (λ e. omega arith)) ∙ ap is_some none
-
--- in its area, and so in the whole table
-pub place-listed : (r : Option TablePlace) (j k : AllocKind) (t : Allocations) (addr n : ℕ) → 0 < n → j ≡ k → find (covers addr n) (listed t) ≡ find (covers addr n) (of_kind k t) →
-    MatchOption r (find (covers addr n) (of_kind k t) ≡ None) (λ p. IsPlace j (of_kind k t) addr n p) →
-    MatchOption r (is_good addr n t ≡ false) (λ p. IsPlace p.kind (of_kind p.kind t) addr n p)
-place-listed None j k t addr n some here same none =
-    none-good t addr n some (same ∙ none)
-place-listed (Some p) j k t addr n some here same is =
-    subst (λ (i : AllocKind). IsPlace i (of_kind i t) addr n p) (sym (is.kind_is ∙ here)) (record { kind_is = is.kind_is ∙ here; only = is.only; base_is = is.base_is })
 
 -- below the first area nothing is found
 pub listed-below : (t : Allocations) (addr n : ℕ) → 0 < n → IsLaidOut t → addr < area_base Fixed → find (covers addr n) (listed t) ≡ None
