@@ -93,8 +93,8 @@ impl Planes {
         Ok(base)
     }
 
-    /// Gives an area at least `n` bytes. It grows at least by half, so that what is copied is in all at most twice what it has
-    /// in the end, and by no more, so that old and new bytes together are at most two and a half times what was taken.
+    /// Gives an area at least `n` bytes. It grows by half, or by what is asked where that is more, so that what is copied is in all
+    /// at most twice what it has in the end, and old and new bytes together are at most two and a half times what was taken.
     fn reach(&mut self, kind: AllocKind, n: u64) -> Result<(), NoMemory>
         requires { n ≤ area_limit kind }
         ensures same { IsSame self.old self.new }
