@@ -1,20 +1,22 @@
 -- Counts of live bytes, one for each 16 bytes that an area takes.
-use Rattle.std.proofs.Common.{◌≡◌, ℕ, zero, suc, ◌+◌, ◌-◌, ◌*◌, ◌/◌, ◌%◌, ◌<◌, ◌≤◌, Bool, true, false, cond, List, [], ◌∷◌, ◌++◌, length, get_or, set, take, replicate, arith, refl, sym, ap, subst, ◌∙◌, ⊎_elim, is_some, Option, Some}
+use Rattle.std.proofs.Common.{◌≡◌, ℕ, zero, suc, ◌+◌, ◌-◌, ◌*◌, ◌/◌, ◌%◌, ◌<◌, ◌≤◌, Bool, true, false, cond, List, [], ◌∷◌, ◌++◌, length, get_or, set, take, replicate, arith, refl, sym, ap, subst, ◌∙◌, ⊎_elim, is_some, eqb, Option, Some}
 use Rattle.std.specs.List.{find}
-use Rattle.std.proofs.lemmas.Bool.{cases_lt, and_from, le-leb}
+use Rattle.std.proofs.lemmas.Bool.{cases_lt, and_from, and_parts, le-leb, eqb-true}
 use Rattle.std.proofs.lemmas.List.{append-nil, append_assoc, length-append, length-replicate, length-set, take_all, get_or_default, get_or_append_left, get_or-append_right, get_or-replicate}
 use Rattle.ms_alloc.specs.declared.kinds.AllocKind.{AllocKind}
+use Rattle.ms_alloc.specs.declared.kinds.AllocKind.TheVariants.{Heap}
 use Rattle.ms_alloc.specs.declared.allocations.Allocation.{Allocation}
 use Rattle.ms_alloc.specs.Layout.{room, area_base}
-use Rattle.ms_alloc.specs.Allocations.{IsRow, IsArea, used, covers}
+use Rattle.ms_alloc.specs.Allocations.{IsRow, IsArea, used, covers, is_block}
+use Rattle.ms_alloc.specs.Only.{IsOnly}
 use Rattle.ms_alloc.specs.Counts.{counts, counts_of, cleared, IsNear}
 use Rattle.ms_alloc.proofs.Rows.{row-at}
 use Rattle.ms_alloc.proofs.Owners.{take-past}
 
 -- there is a count for each 16 bytes
 pub counts-long : (live : Bool) (n : ℕ) → length (counts live n) ≡ room n / 16
-counts-long true n = omega (arith, length-append (replicate (room n / 16 - 1) 16) ((n + 16 - room n) ∷ []), length-replicate (room n / 16 - 1) 16)
-counts-long false n = length-replicate (room n / 16) 0
+counts-long true n = omega (arith, length-append (replicate (room n / 16 - 1) 16) ((n + 16 - room n) ∷ []), length-replicate {A = ℕ} (room n / 16 - 1) 16)
+counts-long false n = length-replicate {A = ℕ} (room n / 16) 0
 
 pub counts-length : (xs : List Allocation) → 16 * length (counts_of xs) ≡ used xs
 counts-length [] = refl
@@ -30,6 +32,11 @@ counts-append (a ∷ as') x =
 pub counted-push : (xs : List Allocation) (x : Allocation) (live new : List ℕ) → live ≡ counts_of xs → x.live ≡ true → new ≡ live ++ counts true x.size → new ≡ counts_of (xs ++ x ∷ [])
 counted-push xs x live new counted alive is =
     is ∙ ap (λ (l : List ℕ). l ++ counts true x.size) counted ∙ ap (λ (b : Bool). counts_of xs ++ counts b x.size) (sym alive) ∙ sym (counts-append xs x)
+
+pub counts-pushed : (live new : List ℕ) (n m last size : ℕ) → new ≡ (take n live ++ replicate m 16) ++ last ∷ [] → length live ≤ n → m ≡ room size / 16 - 1 → last ≡ size + 16 - room size → new ≡ live ++ counts true size
+counts-pushed live new n m last size is within pieces rest =
+    is ∙ ap (λ (l : List ℕ). (l ++ replicate m 16) ++ last ∷ []) (take_all n live within) ∙ append_assoc live (replicate m 16) (last ∷ [])
+    ∙ ap (λ (j : ℕ). live ++ (replicate j 16 ++ last ∷ [])) pieces ∙ ap (λ (v : ℕ). live ++ (replicate (room size / 16 - 1) 16 ++ v ∷ [])) rest
 
 -- the first allocations alone
 counts-take : (m : ℕ) (xs : List Allocation) → take (used (take m xs) / 16) (counts_of xs) ≡ counts_of (take m xs)
@@ -111,13 +118,21 @@ ended-counts k xs j first n d y live counted area inside ended same at is =
     taken zero (a ∷ as') lt = omega arith
     taken (suc i) (a ∷ as') lt = omega (arith, taken i as' (omega (arith, lt)))
 
+-- the block of the heap that begins at an address
+pub ended-block : (xs : List Allocation) (j base first n : ℕ) (d e y : Allocation) (live : List ℕ) → live ≡ counts_of xs → IsArea Heap xs → IsOnly (is_block base) xs j → y.live ≡ false → y.size ≡ (get_or xs j d).size →
+    e ≡ get_or xs j e → first ≡ (base - area_base Heap) / 16 → n ≡ room e.size / 16 → Ended xs j first n d y live
+ended-block xs j base first n d e y live counted area only ended same is at long =
+    ended-counts Heap xs j first n d y live counted area only.within ended same
+    (at ∙ ap (λ (b : ℕ). (b - area_base Heap) / 16) (sym (eqb-true (get_or xs j d).base base (and_parts (get_or xs j d).live (eqb (get_or xs j d).base base) (only.passes d)).1)))
+    (long ∙ ap (λ (a : Allocation). room a.size / 16) (is ∙ get_or_default xs j e d only.within) ∙ ap (λ (k : ℕ). room k / 16) (sym same))
+
 -- ---- bytes that lie in one piece of 16
 
 -- of a live allocation a count is of bytes that were asked for
 count-in : (n j : ℕ) → j < room n / 16 → 16 * j + get_or (counts true n) j 0 ≤ n
 count-in n j inside = ⊎_elim
     (λ (low : j < p).
-    let is : get_or (counts true n) j 0 ≡ 16 = get_or_append_left (replicate p 16) last 0 j (omega (arith, low, count)) ∙ get_or-replicate p j 16 0 low in
+    let is : get_or (counts true n) j 0 ≡ 16 = get_or_append_left (replicate p 16) last 0 j (omega (arith, low, count)) ∙ get_or-replicate {A = ℕ} p j 16 0 low in
     omega (arith, is, low))
     (λ (high : p ≤ j).
     let is : get_or (counts true n) j 0 ≡ n + 16 - room n =
@@ -131,15 +146,15 @@ count-in n j inside = ⊎_elim
     last : List ℕ
     last = (n + 16 - room n) ∷ []
 
-    count : length (replicate p 16) ≡ p
-    count = length-replicate p 16
+    count : length {A = ℕ} (replicate p 16) ≡ p
+    count = length-replicate {A = ℕ} p 16
 
 covers-live : (live : Bool) (a : Allocation) (addr at n : ℕ) → a.live ≡ live → addr ≡ a.base + at → at / 16 < room a.size / 16 → 0 < n → at % 16 + n ≤ get_or (counts live a.size) (at / 16) 0 → covers addr n a ≡ true
 covers-live true a addr at n is from inside some fits =
     and_from _ _ (and_from _ _ is (le-leb a.base addr (omega (arith, from))))
     (le-leb (addr + n) (a.base + a.size) (omega (arith, from, fits, count-in a.size (at / 16) inside)))
 covers-live false a addr at n is from inside some fits =
-    absurd (omega (arith, some, fits, get_or-replicate (room a.size / 16) (at / 16) 0 0 inside))
+    absurd (omega (arith, some, fits, get_or-replicate {A = ℕ} (room a.size / 16) (at / 16) 0 0 inside))
 
 some-found : (b : Bool) (a : Allocation) (r : Option Allocation) → is_some r ≡ true → is_some (cond b (Some a) r) ≡ true
 some-found true a r e = refl

@@ -1,8 +1,8 @@
 -- Which allocation of an area has an address: only the one that takes it can.
-use Rattle.std.proofs.Common.{◌≡◌, ◌≢◌, ℕ, ◌+◌, ◌<◌, ◌≤◌, Bool, true, false, cond, eqb, List, ◌++◌, length, get_or, set, map, if◌then◌else◌, option_map, arith, refl, sym, ap, ◌∙◌, Option, Some, None, ◌⊎◌, inl, inr, ⊎_elim, is_some, subst, ◌||◌, MatchOption}
+use Rattle.std.proofs.Common.{◌≡◌, ◌≢◌, ℕ, ◌+◌, ◌<◌, ◌≤◌, ◌^◌, Bool, true, false, cond, eqb, List, ◌++◌, length, get_or, set, map, if◌then◌else◌, option_map, arith, refl, sym, ap, ◌∙◌, Option, Some, None, ◌⊎◌, inl, inr, ⊎_elim, is_some, subst, ◌||◌, MatchOption}
 use Rattle.std.specs.List.{find}
 use Rattle.std.specs.Option.{option_or}
-use Rattle.std.proofs.lemmas.Bool.{cases_lt, and_from, and_left, eq-eqb, ne_eqb}
+use Rattle.std.proofs.lemmas.Bool.{cases_lt, and_from, and_left, and_parts, eq-eqb, eqb-true, ne_eqb}
 use Rattle.std.proofs.lemmas.List.{get_or_default}
 use Rattle.std.proofs.lemmas.Grind.{common_steps}
 use Rattle.std.proofs.lemmas.List.Folds.{find-append}
@@ -165,3 +165,13 @@ listed-below t addr n some laid low = listed-fixed t addr n some laid (omega ari
 -- an answer that is nothing
 pub none-matches : {X : Type 0} (P : Type 0) (Q : X → Type 0) (r : Option X) → r ≡ None → P → MatchOption r P Q
 none-matches P Q r is p = subst (λ (o : Option _). MatchOption o P Q) (sym is) p
+
+-- a live block of the heap stands in the heap
+pub block-above : (xs : List Allocation) (base i : ℕ) → IsArea Heap xs → IsOnly (is_block base) xs i → area_base Heap ≤ base
+block-above xs base i area only =
+    let d : Allocation = record { base = base; size = 0; kind = Heap; live = true } in
+    omega (arith, row-from Heap (area_base Heap) xs area.row i d only.within, eqb-true (get_or xs i d).base base (and_parts (get_or xs i d).live (eqb (get_or xs i d).base base) (only.passes d)).1)
+
+pub size-small : (xs : List Allocation) (i : ℕ) (a : Allocation) → IsArea Heap xs → i < length xs → a ≡ get_or xs i a → a.size ≤ 2 ^ 26
+size-small xs i a area inside is =
+    omega (arith, ap (λ (b : Allocation). b.size) is, size-le (get_or xs i a).size, row-from Heap (area_base Heap) xs area.row i a inside, row-to Heap (area_base Heap) xs area.row i a inside, area.within)

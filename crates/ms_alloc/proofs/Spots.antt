@@ -2,6 +2,7 @@
 use Rattle.std.proofs.Common.{◌≡◌, ℕ, zero, suc, ◌+◌, ◌-◌, ◌*◌, ◌^◌, ◌<◌, ◌≤◌, Bool, true, false, cond, List, [], ◌∷◌, length, get_or, set, arith, refl, sym, ap, subst, ◌∙◌, ⊎_elim, is_some, Option, Some, ◌||◌, ◌&&◌, leb}
 use Rattle.std.specs.List.{find}
 use Rattle.std.proofs.lemmas.Bool.{cases_Bool, and_parts, leb-true, ne_eqb}
+use Rattle.std.proofs.lemmas.List.{get_or_default}
 use Rattle.ms_alloc.specs.declared.kinds.AllocKind.{AllocKind}
 use Rattle.ms_alloc.specs.declared.kinds.AllocKind.TheVariants.{Fixed, Heap, Stack}
 use Rattle.ms_alloc.specs.declared.allocations.Allocation.{Allocation}
@@ -17,6 +18,11 @@ pub kind-area : (k : AllocKind) (as' : List (List Allocation)) → of_kind k (ta
 kind-area Fixed as' = refl
 kind-area Heap as' = refl
 kind-area Stack as' = refl
+
+pub area-seen : (k : AllocKind) (as' : List (List Allocation)) (i : ℕ) (d : List Allocation) → length as' ≡ 3 → i ≡ area_index k → get_or as' i d ≡ of_kind k (table_of as')
+area-seen Fixed as' i d three is = ap (λ (j : ℕ). get_or as' j d) is ∙ get_or_default as' 0 d [] (omega (arith, three))
+area-seen Heap as' i d three is = ap (λ (j : ℕ). get_or as' j d) is ∙ get_or_default as' 1 d [] (omega (arith, three))
+area-seen Stack as' i d three is = ap (λ (j : ℕ). get_or as' j d) is ∙ get_or_default as' 2 d [] (omega (arith, three))
 
 pub kind-laid : (k : AllocKind) (as' : List (List Allocation)) → IsLaidOut (table_of as') → IsArea k (get_or as' (area_index k) [])
 kind-laid Fixed as' laid = laid.fixed
@@ -77,16 +83,16 @@ spot-in k t addr n at i some laid from is found = by_kind k from is found
           within = omega (arith, w.1, from, ap (λ (j : ℕ). used (area_at j t)) is);
         }
 
--- the spot that a count tells
-pub spot-near : (i : ℕ) (as' : List (List Allocation)) (addr n at : ℕ) → 0 < n → IsLaidOut (table_of as') → i < 3 → addr ≡ (112 + i) * 2 ^ 40 + at → IsNear (get_or as' i []) at n → IsSpot (table_of as') addr n (record { area = i; at = at })
-spot-near zero as' addr n at some laid low from near = near-in Fixed as' addr n at 0 some laid refl (omega (arith, from)) near
-spot-near (suc zero) as' addr n at some laid low from near = near-in Heap as' addr n at 1 some laid refl (omega (arith, from)) near
-spot-near (suc (suc zero)) as' addr n at some laid low from near = near-in Stack as' addr n at 2 some laid refl (omega (arith, from)) near
-spot-near (suc (suc (suc i))) as' addr n at some laid low from near = absurd (omega (arith, low))
-
 near-in : (k : AllocKind) (as' : List (List Allocation)) (addr n at i : ℕ) → 0 < n → IsLaidOut (table_of as') → i ≡ area_index k → addr ≡ area_base k + at → IsNear (get_or as' (area_index k) []) at n → IsSpot (table_of as') addr n (record { area = i; at = at })
 near-in k as' addr n at i some laid is from near =
     spot-in k (table_of as') addr n at i some laid from is
     (ap (λ (xs : List Allocation). is_some (find (covers addr n) xs)) (kind-area k as')
     ∙ ap (λ (x : ℕ). is_some (find (covers x n) (get_or as' (area_index k) []))) from
     ∙ near k (kind-laid k as' laid) some)
+
+-- the spot that a count tells
+pub spot-near : (i : ℕ) (as' : List (List Allocation)) (addr n at : ℕ) → 0 < n → IsLaidOut (table_of as') → i < 3 → addr ≡ (112 + i) * 2 ^ 40 + at → IsNear (get_or as' i []) at n → IsSpot (table_of as') addr n (record { area = i; at = at })
+spot-near zero as' addr n at some laid low from near = near-in Fixed as' addr n at 0 some laid refl (omega (arith, from)) near
+spot-near (suc zero) as' addr n at some laid low from near = near-in Heap as' addr n at 1 some laid refl (omega (arith, from)) near
+spot-near (suc (suc zero)) as' addr n at some laid low from near = near-in Stack as' addr n at 2 some laid refl (omega (arith, from)) near
+spot-near (suc (suc (suc i))) as' addr n at some laid low from near = absurd (omega (arith, low))

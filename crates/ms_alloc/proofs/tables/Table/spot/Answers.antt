@@ -1,5 +1,4 @@
-use Rattle.ms_alloc.proofs.Spots.{spot-near}
 use Rattle.ms_alloc.proofs.tables.Table.spot.Goals as goal
 
-pub returns-then-area : goal.returns-then-area
-returns-then-area c = ?
+pub returns-then-is_near : goal.returns-then-is_near
+returns-then-is_near c = ?
