@@ -35,6 +35,11 @@ listed-in Fixed t addr n some laid reached = listed-fixed t addr n some laid rea
 listed-in Heap t addr n some laid reached = listed-heap t addr n some laid reached.0 reached.1
 listed-in Stack t addr n some laid reached = listed-stack t addr n some laid reached
 
+pub reached-above : (k : AllocKind) (addr : ℕ) → IsReached addr k → area_base k ≤ addr
+reached-above Fixed addr r = r.0
+reached-above Heap addr r = r.0
+reached-above Stack addr r = r
+
 -- an allocation of a row that covers a range holds it within the row
 pub row-found : (k : AllocKind) (b : ℕ) (xs : List Allocation) (addr n : ℕ) → IsRow k b xs → is_some (find (covers addr n) xs) ≡ true → (b ≤ addr) × (addr + n ≤ b + used xs)
 row-found k b [] addr n r e = absurd (cc)
