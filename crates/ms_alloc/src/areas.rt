@@ -144,9 +144,13 @@ impl Area {
         ensures { IsTrue result → IsNear self.now at n }
     {
         let piece = at / 16;
-        n <= 16
-            && piece < self.live.len() as u64
-            && at % 16 + n <= u64::from(self.live[piece as usize])
+        if n > 16 {
+            return false;
+        }
+        if piece >= self.live.len() as u64 {
+            return false;
+        }
+        at % 16 + n <= u64::from(self.live[piece as usize])
     }
 
     /// What the allocations take.

@@ -24,7 +24,7 @@ returns-in_err-kind c =
 pub returns-in_err-covering : goal.returns-in_err-covering
 returns-in_err-covering c =
     let t : Allocations = table_of c.self.inside.areas in
-    none-matches _ _ c.from_residual-covering.result c.from_residual-covering.ensures
+    none-matches _ _ c.from_residual-in_err-covering.result c.from_residual-in_err-covering.ensures
     (subst (λ (u : Allocations). is_good c.args.addr c.args.n u ≡ false) c.self.view_is
     (none-good t c.args.addr c.args.n c.requires
     (listed-in c.in_ok-kind.kind t c.args.addr c.args.n c.requires c.self.invariant.0 c.in_ok-kind.ensures
