@@ -72,9 +72,9 @@ abbrev pub limit_at : ℕ → ℕ
 limit_at i = get_or (area_limit Fixed ∷ area_limit Heap ∷ area_limit Stack ∷ []) i 0
 
 -- an area has at least the bytes that are taken, and no more than may be
-pub record IsAreaOf (taken limit : ℕ) (l : Lists) : Type 0 where
+pub record IsAreaOf (least limit : ℕ) (l : Lists) : Type 0 where
   pub whole : IsLists (length l.bytes) l
-  pub taken : taken ≤ length l.bytes
+  pub taken : least ≤ length l.bytes
   pub within : length l.bytes ≤ limit
 
 -- what every memory has
