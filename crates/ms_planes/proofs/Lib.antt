@@ -4,12 +4,12 @@ pub mod Ranges
 pub mod Shown
 pub mod Lists
 pub mod Rounds
-pub mod Found
 pub mod Standing
 pub mod Readings
 pub mod Stores
-pub mod Histories
+pub mod Results
 pub mod Copied
-pub mod Good
 pub mod Cells
 pub mod Places
+pub mod Fills
+pub mod Made
