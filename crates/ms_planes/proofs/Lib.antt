@@ -13,3 +13,5 @@ pub mod Cells
 pub mod Places
 pub mod Fills
 pub mod Made
+pub mod Spotted
+pub mod Moved

@@ -146,7 +146,7 @@ pub kept-size : (part : Plane) (was l : Lists) → KeepsOthers part was l → Sa
 kept-size Bytes was l k = record { bytes = k.len; shadow = ap (λ (xs : List ℕ). length xs) k.rest; origins = ap (λ (xs : List ℕ). length xs) k.origins }
 kept-size Shadow was l k = record { bytes = ap (λ (xs : List ℕ). length xs) k.rest; shadow = k.len; origins = ap (λ (xs : List ℕ). length xs) k.origins }
 
-sized : (taken limit : ℕ) (was l : Lists) → SameSize was l → IsAreaOf taken limit was → IsAreaOf taken limit l
+pub sized : (taken limit : ℕ) (was l : Lists) → SameSize was l → IsAreaOf taken limit was → IsAreaOf taken limit l
 sized taken limit was l s w = record {
   whole = record {
     bytes = refl;
@@ -157,16 +157,19 @@ sized taken limit was l s w = record {
   within = omega (arith, s.bytes, w.within);
 }
 
-pub memory-put : (m : Memory) (i : ℕ) (l : Lists) → IsMemory m → i < 3 → SameSize (area i m) l → IsMemory (with_area m i l)
-memory-put m i l is low size = record {
+pub memory-with : (m : Memory) (i : ℕ) (l : Lists) → IsMemory m → i < 3 → IsAreaOf (used (area_at i m.table)) (limit_at i) l → IsMemory (with_area m i l)
+memory-with m i l is low fits = record {
   laid_out = is.laid_out;
   three = length-set m.areas i l ∙ is.three;
   areas = λ j below. ⊎_elim
       (λ (e : j ≡ i). subst (λ (k : ℕ). IsAreaOf (used (area_at k m.table)) (limit_at k) (area k (with_area m i l))) (sym e)
-      (subst (IsAreaOf (used (area_at i m.table)) (limit_at i)) (sym (area-set m i l is.three low)) (sized (used (area_at i m.table)) (limit_at i) (area i m) l size (is.areas i low))))
+      (subst (IsAreaOf (used (area_at i m.table)) (limit_at i)) (sym (area-set m i l is.three low)) fits))
       (λ (ne : j ≢ i). subst (IsAreaOf (used (area_at j m.table)) (limit_at j)) (sym (get_or-set_other m.areas i j l (blank 0) ne)) (is.areas j below))
       (cases_eq j i);
 }
+
+pub memory-put : (m : Memory) (i : ℕ) (l : Lists) → IsMemory m → i < 3 → SameSize (area i m) l → IsMemory (with_area m i l)
+memory-put m i l is low size = memory-with m i l is low (sized (used (area_at i m.table)) (limit_at i) (area i m) l size (is.areas i low))
 
 -- where a good range stands
 pub record Stands (m : Memory) (addr n i at : ℕ) : Type 0 where
@@ -176,7 +179,7 @@ pub record Stands (m : Memory) (addr n i at : ℕ) : Type 0 where
   pub small : at + n ≤ 2 ^ 26
   pub whole : IsLists (length (area i m).bytes) (area i m)
 
-limit-at : (i : ℕ) → i < 3 → limit_at i ≤ 2 ^ 26
+pub limit-at : (i : ℕ) → i < 3 → limit_at i ≤ 2 ^ 26
 limit-at zero low = omega arith
 limit-at (suc zero) low = omega arith
 limit-at (suc (suc zero)) low = omega arith

@@ -1,5 +1,5 @@
 -- The two lists of bytes of a block.
-use Rattle.std.specs.Prelude.{◌≡◌, ◌+◌, ◌/◌, ◌%◌, ℕ, List, length, set}
+use Rattle.std.specs.Prelude.{◌≡◌, ◌≤◌, ◌+◌, ◌/◌, ◌%◌, ℕ, List, length, set}
 use Rattle.ms_bits.specs.Maps.{with_range, with_cells, copied_cells}
 use Rattle.ms_raw.specs.Blocks.{Lists, IsLists}
 use Rattle.ms_planes.specs.Areas.{held}
@@ -70,3 +70,12 @@ pub record IsMoved (old new : Lists) (n : ℕ) : Type 0 where
   pub origins : held new.origins ≡ held old.origins
   pub len : length new.bytes ≡ n
   pub whole : IsLists (length new.bytes) new
+
+-- a block holds what it did, and may be longer, up to a limit
+pub record IsGrown (old new : Lists) (limit : ℕ) : Type 0 where
+  pub bytes : held new.bytes ≡ held old.bytes
+  pub shadow : held new.shadow ≡ held old.shadow
+  pub origins : held new.origins ≡ held old.origins
+  pub whole : IsLists (length new.bytes) new
+  pub longer : length old.bytes ≤ length new.bytes
+  pub within : length new.bytes ≤ limit

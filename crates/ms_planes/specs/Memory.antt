@@ -1,8 +1,7 @@
 -- The memory of a run: the table of allocations, and for each area a block of bytes, shadow and origins.
 use Rattle.std.specs.Prelude.{◌≡◌, ◌≤◌, ◌<◌, ◌+◌, ◌*◌, ◌-◌, ◌/◌, ◌%◌, ◌^◌, ℕ, List, [], ◌∷◌, length, get_or, ltb, if◌then◌else◌, IsTrue}
-use Rattle.ms_alloc.specs.declared.kinds.AllocKind.{AllocKind}
 use Rattle.ms_alloc.specs.declared.kinds.AllocKind.TheVariants.{Fixed, Heap, Stack}
-use Rattle.ms_alloc.specs.Layout.{area_index, area_limit}
+use Rattle.ms_alloc.specs.Layout.{area_limit}
 use Rattle.ms_alloc.specs.Allocations.{Allocations, IsLaidOut, area_at, used, is_good}
 use Rattle.ms_raw.specs.Blocks.{Lists, IsLists, blank}
 use Rattle.ms_planes.specs.declared.parts.Plane.{Plane}
@@ -19,9 +18,6 @@ pub record Memory : Type 0 where
 -- the bytes of the area with a number
 abbrev pub area : ℕ → Memory → Lists
 area i m = get_or m.areas i (blank 0)
-
-abbrev pub block_at : AllocKind → Memory → Lists
-block_at k m = area (area_index k) m
 
 -- what is read at an address: in its area, as far from the first of it; 0 below all areas
 abbrev pub shown : (Lists → ℕ → ℕ) → Memory → ℕ → ℕ

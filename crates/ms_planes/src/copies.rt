@@ -1,11 +1,17 @@
 //! Copies in a block, and from one block to another.
-ghost use Rattle.std.specs.Prelude.{◌≡◌, ◌≤◌, ◌<◌, ◌+◌, ◌^◌, length};
+ghost use Rattle.std.specs.Prelude.{◌≡◌, ◌≤◌, ◌<◌, ◌+◌, ◌^◌, length, OnOk};
 ghost use Rattle.ms_raw.specs.Blocks.{IsLists, blank};
-ghost use Rattle.ms_planes.specs.Blocks.{IsCopied, IsMoved};
+ghost use Rattle.ms_planes.specs.Blocks.{IsCopied, IsMoved, IsGrown};
 
 use crate::origins::{keep_origins, take_origins};
 use crate::parts::{Plane, copy, fill, is_clean};
+use ms_bits::NoMemory;
 use ms_raw::Block;
+use std::alloc::Global;
+use std::mem::replace;
+
+/// How many bytes an area has at least, once it has any.
+const FIRST: u64 = 1 << 12;
 
 /// Copies `n` bytes of a block, or shadow bytes with their origins, from place `from` on to place `to` on, as they were
 /// before.
@@ -58,4 +64,27 @@ pub(crate) fn moved(longer: Block, block: Block) -> Block
     let bytes = copy(longer, Plane::Bytes, 0, &block, 0, n);
     let both = copy(bytes, Plane::Shadow, 0, &block, 0, n);
     keep_origins(both, &block, (n + 3) / 4)
+}
+
+/// Gives a block at least `least` bytes. It grows by half, or to what is asked for where that is more, so that what is copied is
+/// in all at most twice what it has in the end, and old and new bytes together are at most two and a half times what was asked
+/// for. Where memory runs out it is as it was.
+pub(crate) fn reach(block: &mut Block, alloc: Global, least: u64, limit: u64) -> Result<(), NoMemory>
+    requires fits { least ≤ limit }
+    requires small { limit ≤ 2 ^ 26 }
+    requires within { length block.old.bytes ≤ limit }
+    requires whole { IsLists (length block.old.bytes) block.old }
+    ensures grown { IsGrown block.old block.new limit }
+    ensures reached { OnOk result (least ≤ length block.new.bytes) }
+{
+    let len = block.len();
+    if least <= len {
+        return Ok(());
+    }
+    let size = least.max(len + len / 2).max(FIRST).min(limit);
+    let none = Block::new(alloc, 0)?;
+    let longer = Block::new(alloc, size)?;
+    let short = replace(block, none);
+    *block = moved(longer, short);
+    Ok(())
 }

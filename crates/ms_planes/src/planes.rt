@@ -1,11 +1,11 @@
 //! The memory of a run: bytes, shadow and origins of each allocation.
-ghost use Rattle.std.specs.Prelude.{◌≡◌, ◌≢◌, ◌≤◌, ◌<◌, ◌+◌, ◌*◌, ◌/◌, ◌%◌, ◌^◌, Some, None, IsTrue, IsErr, ◌↔◌, OnOk, OnErr, IfOk, IsErrOf, option_map, eqb, length, get_or, if◌then◌else◌, [], MatchOption, true, false};
+ghost use Rattle.std.specs.Prelude.{◌≡◌, ◌≤◌, ◌<◌, ◌+◌, ◌/◌, Some, None, IsTrue, IsErr, ◌↔◌, OnOk, OnErr, IfOk, IsErrOf, option_map, eqb, length, get_or, if◌then◌else◌, MatchOption, true, false};
 ghost use Rattle.ms_bits.specs.Fill.{made_byte};
 ghost use Rattle.ms_bits.specs.Maps.{with_range, byte_of, number_at, first_nonzero, copied, with_cells, with_cell, copied_cells};
 ghost use Rattle.ms_alloc.specs.{declared.kinds.AllocKind.TheVariants.{Stack}, Layout.{room, area_limit}};
 ghost use Rattle.ms_alloc.specs.Allocations.{no_allocations, next_base, used, of_kind, with_made, with_ended, without_from, is_good, block_of, heap_size, IsLaidOut};
 
-use crate::copies::{copy_from, copy_within, moved};
+use crate::copies::{copy_from, copy_within, reach};
 use crate::origins::fill_origins;
 use crate::parts::{Plane, both, clear, fill, first_marked, number, paste, put_made, put_number};
 use ms_alloc::{AllocError, AllocKind, BadFree, Table, room_of};
@@ -18,9 +18,6 @@ use std::mem::replace;
 
 /// The number of areas.
 const AREAS: usize = 3;
-
-/// How many bytes an area has at least, once it has any.
-const FIRST: u64 = 1 << 12;
 
 /// The memory of a run. Contracts see the table of allocations and three maps: bytes and shadow bytes by address,
 /// origins by cell, which is the address divided by 4.
@@ -52,9 +49,8 @@ impl fmt::Debug for Planes {
 }
 
 impl Planes {
-    ghost use Rattle.ms_planes.specs.Memory.{bytes_of, shadow_of, origins_of, part_of, block_at, IsSame, KeepsLive, MapsCopied};
+    ghost use Rattle.ms_planes.specs.Memory.{bytes_of, shadow_of, origins_of, part_of, IsSame, KeepsLive, MapsCopied};
     ghost use Rattle.ms_planes.specs.Blocks.{other};
-    ghost use Rattle.ms_alloc.specs.Spots.{IsSpot};
 
     /// No allocations. `NoMemory` where memory runs out.
     pub fn new(alloc: Global) -> Result<Planes, NoMemory>
@@ -86,30 +82,17 @@ impl Planes {
         if !self.table.fits(kind, size) {
             return Err(AllocError::Full);
         }
-        let at = self.table.next_base(kind) - kind.base();
-        self.reach(kind, at + room_of(size))?;
-        let base = self.table.make(kind, size)?;
-        clear(&mut self.areas[kind.index()], at, size);
-        Ok(base)
-    }
-
-    /// Gives an area at least `n` bytes. It grows by half, or by what is asked where that is more, so that what is copied is in all
-    /// at most twice what it has in the end, and old and new bytes together are at most two and a half times what was taken.
-    fn reach(&mut self, kind: AllocKind, n: u64) -> Result<(), NoMemory>
-        requires { n ≤ area_limit kind }
-        ensures same { IsSame self.old self.new }
-        ensures reached { OnOk result (n ≤ length (block_at kind self.new).bytes) }
-    {
         let area = kind.index();
-        let len = self.areas[area].len();
-        if len < n {
-            let size = n.max(len + len / 2).max(FIRST).min(kind.limit());
-            let none = Block::new(self.alloc, 0)?;
-            let longer = Block::new(self.alloc, size)?;
-            let block = replace(&mut self.areas[area], none);
-            self.areas[area] = moved(longer, block);
-        }
-        Ok(())
+        let at = self.table.next_base(kind) - kind.base();
+        reach(
+            &mut self.areas[area],
+            self.alloc,
+            at + room_of(size),
+            kind.limit(),
+        )?;
+        let base = self.table.make(kind, size)?;
+        clear(&mut self.areas[area], at, size);
+        Ok(base)
     }
 
     /// Ends the live heap block that begins at `base`, and returns its size.
@@ -391,9 +374,10 @@ impl Planes {
         ensures origins { origins_of self.new ≡ origins_of self.old }
         ensures unchanged { OnErr result (IsSame self.old self.new) }
     {
-        if n != 0 {
-            self.copy(Plane::Bytes, to, from, n)?;
+        if n == 0 {
+            return Ok(());
         }
+        self.copy(Plane::Bytes, to, from, n)?;
         Ok(())
     }
 
@@ -409,9 +393,10 @@ impl Planes {
         ensures origins { OnOk result (origins_of self.new ≡ copied_cells (shadow_of self.old) (origins_of self.old) to from n (origins_of self.old)) }
         ensures unchanged { OnErr result (IsSame self.old self.new) }
     {
-        if n != 0 {
-            self.copy(Plane::Shadow, to, from, n)?;
+        if n == 0 {
+            return Ok(());
         }
+        self.copy(Plane::Shadow, to, from, n)?;
         Ok(())
     }
 
@@ -520,6 +505,7 @@ impl Planes {
         requires to { IsTrue (is_good to n self.old.table) }
         requires from { IsTrue (is_good from n self.old.table) }
         requires some { 0 < n }
+        ensures table { self.new.table ≡ self.old.table }
         ensures copied { OnOk result (MapsCopied part self.old self.new to from n) }
         ensures unchanged { OnErr result (self.new ≡ self.old) }
     {
