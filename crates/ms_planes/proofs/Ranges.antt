@@ -110,7 +110,7 @@ range-zeros xs n m h long same =
     zero-at : (x : ℕ) → held (replicate n 0) x ≡ 0
     zero-at x = ⊎_elim
         (λ (low : x < n). get_or-replicate n x 0 0 low)
-        (λ (high : n ≤ x). get_or_past (replicate n 0) x 0 (omega (arith, high, length-replicate n 0)))
+        (λ (high : n ≤ x). get_or_past (replicate n 0) x 0 (omega (arith, high, length-replicate {A = ℕ} n 0)))
         (cases_lt x n)
 
 -- the first byte of a range that isn't 0

@@ -1,4 +1,4 @@
-use Rattle.std.proofs.Common.{◌≡◌, ℕ, ◌+◌, length, set, sym, ap, ◌∙◌, arith, List}
+use Rattle.std.proofs.Common.{◌≡◌, ℕ, ◌+◌, length, set, refl, sym, ap, ◌∙◌, arith, List}
 use Rattle.std.proofs.lemmas.List.{length-set}
 use Rattle.ms_bits.specs.Maps.{with_range}
 use Rattle.ms_planes.specs.Areas.{held}
@@ -6,7 +6,7 @@ use Rattle.ms_planes.proofs.Ranges.{range-more, range-none}
 use Rattle.ms_planes.proofs.origins.keep_origins.Goals as goal
 
 pub loop-i-init : goal.loop-i-init
-loop-i-init c = ?
+loop-i-init c = record { shown = range-none (held c.args.block.origins) (held c.args.source.now.origins) 0; len = refl; bytes = refl; shadow = refl }
 
 pub loop-i-preserved : goal.loop-i-preserved
 loop-i-preserved c = record {
