@@ -27,16 +27,16 @@ copy_from-requires-clause-whole c = subst (λ (q : Lists). IsLists (length q.byt
 pub copy_from-requires-clause-small : goal.copy_from-requires-clause-small
 copy_from-requires-clause-small c = ((spotted c.self.inside.table c.self.inside.areas c.index-self-target-2.result c.args.to c.args.n c.in-Some.target c.self.invariant c.in-Some.ensures).small, (spotted c.self.inside.table c.self.inside.areas c.index-self-target-2.result c.args.from c.args.n c.in-Some-spot.source c.self.invariant c.in-Some-spot.ensures).small)
 
-pub invariant_of-self-then-target-source : goal.invariant_of-self-then-target-source
-invariant_of-self-then-target-source c =
+pub invariant_of-self : goal.invariant_of-self
+invariant_of-self c =
     (copied-in c.args.part c.self.inside.table c.self.inside.areas c.args.self.now c.index-self-target.result c.copy_within.new.block c.args.to c.args.from c.args.n c.in-Some.target c.in-Some-spot.source c.self.invariant c.self.view_is c.in-Some.ensures c.in-Some-spot.ensures c.if-target-source.true c.requires.some c.copy_within.ensures).memory
 
 pub returns-then-target-source-clause-copied : goal.returns-then-target-source-clause-copied
 returns-then-target-source-clause-copied c =
     (copied-in c.args.part c.self.inside.table c.self.inside.areas c.args.self.now c.index-self-target.result c.copy_within.new.block c.args.to c.args.from c.args.n c.in-Some.target c.in-Some-spot.source c.self.invariant c.self.view_is c.in-Some.ensures c.in-Some-spot.ensures c.if-target-source.true c.requires.some c.copy_within.ensures).maps
 
-pub invariant_of-self : goal.invariant_of-self
-invariant_of-self c =
+pub invariant_of-self-2 : goal.invariant_of-self-2
+invariant_of-self-2 c =
     (copied-over c.args.part c.self.inside.table c.self.inside.areas c.args.self.now c.index-self-target-2.result c.index-self-source.result c.replace-block.new.dest c.replace-block.result c.copy_from.result c.args.to c.args.from c.args.n c.in-Some.target c.in-Some-spot.source c.self.invariant c.self.view_is c.in-Some.ensures c.in-Some-spot.ensures
     (λ e. c.if-target-source.false (sym e)) c.requires.some c.replace-block.ensures.value c.copy_from.ensures).memory
 

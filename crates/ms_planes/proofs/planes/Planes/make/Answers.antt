@@ -2,6 +2,7 @@ use Rattle.std.proofs.Common.{◌-◌, get_or, refl, subst, arith}
 use Rattle.ms_planes.specs.Blocks.{IsGrown}
 use Rattle.ms_planes.proofs.Spotted.{memory_of}
 use Rattle.ms_planes.proofs.Standing.{limit-small}
+use Rattle.ms_planes.proofs.Results.{all-err}
 use Rattle.ms_planes.proofs.Made.{regrown, made-shown, area-block, ready}
 use Rattle.ms_planes.proofs.planes.Planes.make.Goals as goal
 
@@ -30,13 +31,13 @@ pub invariant_of-self : goal.invariant_of-self
 invariant_of-self c = (regrown c.args.kind (memory_of c.self.inside.table c.self.inside.areas) c.args.self.now c.index-area.result c.index-self-area.result c.reach.new.block c.self.inside.table c.self.invariant c.self.view_is c.index-area.ensures (subst (IsGrown (get_or c.self.inside.areas c.index-area.result c.index-self-area.result) c.reach.new.block) c.limit.ensures c.reach.ensures.grown) refl).memory
 
 pub returns-in_err-reach-clause-unchanged : goal.returns-in_err-reach-clause-unchanged
-returns-in_err-reach-clause-unchanged c = (regrown c.args.kind (memory_of c.self.inside.table c.self.inside.areas) c.args.self.now c.index-area.result c.index-self-area.result c.reach.new.block c.self.inside.table c.self.invariant c.self.view_is c.index-area.ensures (subst (IsGrown (get_or c.self.inside.areas c.index-area.result c.index-self-area.result) c.reach.new.block) c.limit.ensures c.reach.ensures.grown) refl).same
+returns-in_err-reach-clause-unchanged c = all-err c.from_residual.result _ (regrown c.args.kind (memory_of c.self.inside.table c.self.inside.areas) c.args.self.now c.index-area.result c.index-self-area.result c.reach.new.block c.self.inside.table c.self.invariant c.self.view_is c.index-area.ensures (subst (IsGrown (get_or c.self.inside.areas c.index-area.result c.index-self-area.result) c.reach.new.block) c.limit.ensures c.reach.ensures.grown) refl).same
 
 pub invariant_of-self-in_err-base : goal.invariant_of-self-in_err-base
 invariant_of-self-in_err-base c = (regrown c.args.kind (memory_of c.self.inside.table c.self.inside.areas) c.args.self.now c.index-area.result c.index-self-area.result c.reach.new.block c.make.new.self c.self.invariant c.self.view_is c.index-area.ensures (subst (IsGrown (get_or c.self.inside.areas c.index-area.result c.index-self-area.result) c.reach.new.block) c.limit.ensures c.reach.ensures.grown) c.in_err-base.ensures.unchanged).memory
 
 pub returns-in_err-base-clause-unchanged : goal.returns-in_err-base-clause-unchanged
-returns-in_err-base-clause-unchanged c = (regrown c.args.kind (memory_of c.self.inside.table c.self.inside.areas) c.args.self.now c.index-area.result c.index-self-area.result c.reach.new.block c.make.new.self c.self.invariant c.self.view_is c.index-area.ensures (subst (IsGrown (get_or c.self.inside.areas c.index-area.result c.index-self-area.result) c.reach.new.block) c.limit.ensures c.reach.ensures.grown) c.in_err-base.ensures.unchanged).same
+returns-in_err-base-clause-unchanged c = all-err c.from_residual-in_err-base.result _ (regrown c.args.kind (memory_of c.self.inside.table c.self.inside.areas) c.args.self.now c.index-area.result c.index-self-area.result c.reach.new.block c.make.new.self c.self.invariant c.self.view_is c.index-area.ensures (subst (IsGrown (get_or c.self.inside.areas c.index-area.result c.index-self-area.result) c.reach.new.block) c.limit.ensures c.reach.ensures.grown) c.in_err-base.ensures.unchanged).same
 
 pub invariant_of-self-2 : goal.invariant_of-self-2
 invariant_of-self-2 c =
