@@ -15,3 +15,4 @@ pub mod Fills
 pub mod Made
 pub mod Spotted
 pub mod Moved
+pub mod Upward

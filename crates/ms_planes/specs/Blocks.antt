@@ -1,5 +1,5 @@
 -- The two lists of bytes of a block.
-use Rattle.std.specs.Prelude.{◌≡◌, ◌≤◌, ◌+◌, ◌/◌, ◌%◌, ℕ, List, length, set}
+use Rattle.std.specs.Prelude.{◌≡◌, ◌≤◌, ◌+◌, ◌/◌, ◌%◌, ℕ, List, length, set, ◌⊎◌}
 use Rattle.ms_bits.specs.Maps.{with_range, with_cells, copied_cells}
 use Rattle.ms_raw.specs.Blocks.{Lists, IsLists}
 use Rattle.ms_planes.specs.Areas.{held}
@@ -79,3 +79,12 @@ pub record IsGrown (old new : Lists) (limit : ℕ) : Type 0 where
   pub whole : IsLists (length new.bytes) new
   pub longer : length old.bytes ≤ length new.bytes
   pub within : length new.bytes ≤ limit
+
+-- n bytes of a block, or shadow bytes, also stand at another place of it, as they were before
+pub record IsRun (part : Plane) (old new : Lists) (to from n : ℕ) : Type 0 where
+  pub shown : held (bytes_in part new) ≡ with_range (held (bytes_in part old)) to n (λ k. held (bytes_in part old) (from + k))
+  pub others : KeepsOthers part old new
+
+-- a copy from the first byte on reads each byte before it is written
+abbrev pub IsUpward : ℕ → ℕ → ℕ → Type 0
+IsUpward to from n = (to ≤ from) ⊎ (from + n ≤ to)

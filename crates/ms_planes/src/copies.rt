@@ -5,6 +5,7 @@ ghost use Rattle.ms_planes.specs.Blocks.{IsCopied, IsMoved, IsGrown};
 
 use crate::origins::{keep_origins, take_origins};
 use crate::parts::{Plane, copy, fill, is_clean};
+use crate::runs::{copy_up, is_upward};
 use ms_bits::NoMemory;
 use ms_raw::Block;
 use std::alloc::Global;
@@ -23,7 +24,13 @@ pub(crate) fn copy_within(block: &mut Block, part: Plane, to: u64, from: u64, n:
     ensures { IsCopied part block.old block.old block.new to from n }
 {
     match part {
-        Plane::Bytes => block.copy_within(to, from, n),
+        Plane::Bytes => {
+            if is_upward(to, from, n) {
+                copy_up(block, part, to, from, n);
+            } else {
+                block.copy_within(to, from, n);
+            }
+        }
         Plane::Shadow => {
             if is_clean(block, from, n) {
                 fill(block, part, to, n, 0);

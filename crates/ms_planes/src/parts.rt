@@ -18,7 +18,7 @@ pub(crate) enum Plane {
 }
 
 /// The byte at a place of a block.
-fn get(block: &Block, part: Plane, at: u64) -> u8
+pub(crate) fn get(block: &Block, part: Plane, at: u64) -> u8
     requires { at < length block.now.bytes }
     ensures { result ≡ held (bytes_in part block.now) at }
 {
@@ -29,7 +29,7 @@ fn get(block: &Block, part: Plane, at: u64) -> u8
 }
 
 /// Puts a byte at a place of a block.
-fn set(block: &mut Block, part: Plane, at: u64, v: u8)
+pub(crate) fn set(block: &mut Block, part: Plane, at: u64, v: u8)
     requires { at < length block.old.bytes }
     ensures shown { bytes_in part block.new ≡ set (bytes_in part block.old) at v }
     ensures others { KeepsOthers part block.old block.new }
@@ -80,10 +80,11 @@ pub(crate) fn four_at(block: &Block, part: Plane, at: u64) -> u32
 }
 
 /// The number that the eight bytes from place `at` on are, the least first.
-fn eight_at(block: &Block, part: Plane, at: u64) -> u64
+pub(crate) fn eight_at(block: &Block, part: Plane, at: u64) -> u64
     requires within { at + 8 ≤ length block.now.bytes }
     requires small { at < 2 ^ 40 }
-    ensures { result ≡ number_at (held (bytes_in part block.now)) at 8 }
+    ensures number { result ≡ number_at (held (bytes_in part block.now)) at 8 }
+    ensures small { (k : ℕ) → k < 8 → held (bytes_in part block.now) (at + k) < 256 }
 {
     u64::from_le_bytes([
         get(block, part, at),
@@ -213,7 +214,7 @@ fn put_four(block: &mut Block, part: Plane, at: u64, v: u64)
 
 /// Puts the eight bytes of `v`, in the same way.
 #[inline(always)]
-fn put_eight(block: &mut Block, part: Plane, at: u64, v: u64)
+pub(crate) fn put_eight(block: &mut Block, part: Plane, at: u64, v: u64)
     requires within { at + 8 ≤ length block.old.bytes }
     requires whole { IsLists (length block.old.bytes) block.old }
     ensures shown { held (bytes_in part block.new) ≡ with_range (held (bytes_in part block.old)) at 8 (byte_of v) }

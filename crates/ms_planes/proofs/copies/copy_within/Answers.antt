@@ -3,13 +3,29 @@ use Rattle.ms_raw.specs.Blocks.{Lists}
 use Rattle.ms_planes.specs.declared.parts.Plane.{Plane}
 use Rattle.ms_planes.specs.declared.parts.Plane.TheVariants.{Bytes, Shadow}
 use Rattle.ms_planes.specs.Areas.{held}
-use Rattle.ms_planes.specs.Blocks.{IsCopied, IsFilled}
+use Rattle.ms_planes.specs.Blocks.{IsCopied, IsFilled, IsRun}
 use Rattle.ms_planes.proofs.Copied.{copied-held, copied-length, cells-held, cells-length}
 use Rattle.ms_planes.proofs.Ranges.{range-same, copy-clean}
 use Rattle.ms_planes.proofs.copies.copy_within.Goals as goal
 
-pub returns-in-Bytes : goal.returns-in-Bytes
-returns-in-Bytes c =
+pub copy_up-requires-clause-upward : goal.copy_up-requires-clause-upward
+copy_up-requires-clause-upward c = c.is_upward.ensures c.if-is_upward.true
+
+pub returns-then-is_upward : goal.returns-then-is_upward
+returns-then-is_upward c =
+    let l : Lists = c.args.block.now in
+    let run : IsRun Bytes l c.copy_up.new.block c.args.to c.args.from c.args.n = subst (λ (q : Plane). IsRun q l c.copy_up.new.block c.args.to c.args.from c.args.n) c.in-Bytes.is c.copy_up.ensures in
+    let done : IsCopied Bytes l l c.copy_up.new.block c.args.to c.args.from c.args.n = record {
+      shown = run.shown;
+      len = run.others.len;
+      rest = run.others.rest;
+      origins = run.others.origins;
+      cells = ap (λ (xs : List ℕ). length xs) run.others.origins;
+    } in
+    subst (λ (q : Plane). IsCopied q l l c.copy_up.new.block c.args.to c.args.from c.args.n) (sym c.in-Bytes.is) done
+
+pub returns-else-is_upward : goal.returns-else-is_upward
+returns-else-is_upward c =
     let l : Lists = c.args.block.now in
     let e = c.copy_within.ensures in
     let done : IsCopied Bytes l l c.copy_within.new.self c.args.to c.args.from c.args.n = record {
