@@ -2,4 +2,5 @@ pub mod Layout
 pub mod Allocations
 pub mod Only
 pub mod Owners
-pub mod Places
+pub mod Counts
+pub mod Spots

@@ -6,6 +6,7 @@ mod copies;
 mod origins;
 mod parts;
 mod planes;
+mod runs;
 pub mod words;
 
 pub use planes::Planes;
