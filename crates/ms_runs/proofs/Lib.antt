@@ -1,3 +1,4 @@
 pub mod HeapBlocks
+pub mod Hidden
 pub mod ToldCalls
 pub mod Telling

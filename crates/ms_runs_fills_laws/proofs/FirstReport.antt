@@ -1,5 +1,5 @@
 -- A shadow run that ends at its first report is the beginning of the run that goes on.
-use Rattle.std.proofs.Common.{◌≡◌, ℕ, zero, suc, ◌+◌, ◌-◌, ◌/◌, ◌≤◌, List, [], ◌∷◌, ◌++◌, map, length, leb, Bool, true, false, eqb, Option, Some, None, refl, sym, ap, ◌∙◌, subst, arith, length-append, ◌⊎◌, inl, inr, if◌then◌else◌}
+use Rattle.std.proofs.Common.{◌≡◌, ℕ, zero, suc, ◌+◌, ◌-◌, ◌/◌, ◌≤◌, List, [], ◌∷◌, ◌++◌, map, length, leb, Bool, true, false, eqb, Option, Some, None, refl, sym, ap, ◌∙◌, subst, arith, length-append, ◌⊎◌, inl, inr, if◌then◌else◌, true≢false}
 use Rattle.std.proofs.lemmas.Bool.{le-leb}
 use Rattle.ms_bits.specs.Maps.{first_nonzero}
 use Rattle.ms_ir.specs.declared.syntax.Name.{Name}
@@ -21,13 +21,14 @@ use Rattle.ms_runs.specs.Memory.{is_good}
 use Rattle.ms_ir.specs.Instructions.{operands, count_undefs, external_named, root_at, block_index, blocks_at, insts_at}
 use Rattle.ms_runs.specs.Control.{Frame, Outcome, On, Over, here, rest_of, read_all, phis, count_phis, block_name, keeping, after_effect}
 use Rattle.ms_runs.specs.Act.{operand_word, act}
-use Rattle.ms_runs.specs.Origins.{trail, add_report, check, check_byte, first_in_string, count_blind, asks_string_at}
+use Rattle.ms_runs.specs.Origins.{trail, is_hidden, add_report, check, check_byte, first_in_string, count_blind, asks_string_at}
 use Rattle.ms_runs.specs.Memory.{bytes_left}
 use Rattle.ms_runs.specs.Plain.{Stepped, More, Stop, go_on, run}
 use Rattle.ms_runs.specs.Poisoned.{Poisoned, clean}
 use Rattle.ms_runs.specs.Masks.{by_formulas, union, word_at}
 use Rattle.ms_runs.specs.Uses.{CheckedUse, Word, Bytes, Line, type_at, uses, check_use, check_uses, blinded, Asked}
 use Rattle.ms_runs.specs.Shadow.{read_poisoned, shadow_reading, operand_mask, operand_origin, external_planes, callee_planes, planes, ShadowState, shadow_moved, poisoned_result, shadow_act, after_checks, shadow_inst, shadow_first, shadow_frames, shadow_step}
+use Rattle.ms_runs.proofs.Hidden.{none_before}
 use Rattle.ms_runs_fills_laws.specs.First.{FirstOf}
 use Rattle.ms_runs_fills_laws.proofs.Kept.{uses_kept, ChecksAfter, FirstIs, Checks}
 use Rattle.ms_runs_fills_laws.proofs.LimitFree.{act_free}
@@ -94,18 +95,19 @@ module _ (s : Setting) where
 
   module _ (w : World) (none : w.reports ≡ []) where
     report_first : (r : Report) → CheckedFirst w (add_report first_only r w) (add_report s r w)
-    report_first r = by_test (leb 1 (length (w.reports ++ r ∷ []))) (leb s.limit (length (w.reports ++ r ∷ []))) (le-leb 1 (length (w.reports ++ r ∷ [])) (omega (arith, length-append w.reports (r ∷ []))))
+    report_first r = by_test (is_hidden s r w) (leb 1 (length (w.reports ++ r ∷ []))) (leb s.limit (length (w.reports ++ r ∷ []))) (none_before s r w none) (le-leb 1 (length (w.reports ++ r ∷ [])) (omega (arith, length-append w.reports (r ∷ []))))
       where
         found : Found w (record w { reports = w.reports ++ r ∷ [] }) (record w { reports = w.reports ++ r ∷ [] })
         found = record { report = r; alone = ap (λ l. l ++ r ∷ []) none; blind = refl; leads = ([], ap (λ l. l ++ r ∷ []) none); more = omega arith }
 
-        by_test : (t u : Bool) → t ≡ true
+        by_test : (h t u : Bool) → h ≡ false → t ≡ true
             → CheckedFirst w
             (if t then Ends «end».Reported (record w { reports = w.reports ++ r ∷ [] }) else Does (record w { reports = w.reports ++ r ∷ [] }))
-            (if u then Ends «end».Reported (record w { reports = w.reports ++ r ∷ [] }) else Does (record w { reports = w.reports ++ r ∷ [] }))
-        by_test true true e = (refl, found)
-        by_test true false e = (refl, found)
-        by_test false u e = grind arith
+            (if h then Does w else if u then Ends «end».Reported (record w { reports = w.reports ++ r ∷ [] }) else Does (record w { reports = w.reports ++ r ∷ [] }))
+        by_test false true true f e = (refl, found)
+        by_test false true false f e = (refl, found)
+        by_test false false u f e = grind arith
+        by_test true t u f e = absurd (true≢false f)
 
     check_first : (mask width origin kind part site : ℕ) → CheckedFirst w (check first_only mask width origin kind part site w) (check s mask width origin kind part site w)
     check_first mask width origin kind part site = by_test (eqb mask 0)

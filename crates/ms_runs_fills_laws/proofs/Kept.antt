@@ -25,7 +25,7 @@ use Rattle.ms_ir.specs.Areas.{area_eq, area_base, room}
 use Rattle.ms_runs.specs.Memory.{used, fits, next_base, is_good, is_heap_block, heap_size, local_area, end_block, end_blocks, set_shadow, copy_bytes, copy_shadow, make, make_unset, keeps}
 use Rattle.ms_bits.specs.WordFunctions.{bits_of, word_answer}
 use Rattle.ms_ir.specs.Instructions.{external_named}
-use Rattle.ms_runs.specs.Origins.{Chained, keeps_old, pair_index, chain, add_report, check, check_byte, first_in_string, poison, unpoison, copy_planes, fill_planes, mark_cells, store_origin, asks_string_at}
+use Rattle.ms_runs.specs.Origins.{Chained, keeps_old, pair_index, chain, is_hidden, add_report, check, check_byte, first_in_string, poison, unpoison, copy_planes, fill_planes, mark_cells, store_origin, asks_string_at}
 use Rattle.ms_runs.specs.Memory.{bytes_left}
 use Rattle.ms_runs.specs.Externals.{malloc, reallocated, realloc, where_good, string_at, printed, next_byte, external, output_limit, formatted, prints}
 use Rattle.ms_runs.specs.Act.{act}
@@ -329,7 +329,7 @@ either_checked true w e x h g = h
 either_checked false w e x h g = g
 
 report_kept : (s : Setting) (r : Report) (w : World) → ChecksAfter w (add_report s r w)
-report_kept s r w = either_checked (leb s.limit (length (w.reports ++ r ∷ []))) w _ _ (one_more r w) (one_more r w)
+report_kept s r w = either_checked (is_hidden s r w) w _ _ (unchecked w) (either_checked (leb s.limit (length (w.reports ++ r ∷ []))) w _ _ (one_more r w) (one_more r w))
 
 check_kept : (s : Setting) (mask width origin kind part site : ℕ) (w : World) → ChecksAfter w (check s mask width origin kind part site w)
 check_kept s mask width origin kind part site w = either_checked (eqb mask 0) w _ _ (unchecked w) (report_kept s _ w)
