@@ -1,4 +1,4 @@
 pub mod HeapBlocks
-pub mod Hidden
+pub mod NoneHidden
 pub mod ToldCalls
 pub mod Telling

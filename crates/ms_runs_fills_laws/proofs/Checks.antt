@@ -18,7 +18,7 @@ use Rattle.ms_runs.specs.Externals.{string_at}
 use Rattle.ms_runs.specs.Poisoned.{Poisoned}
 use Rattle.ms_runs.specs.Masks.{word_at}
 use Rattle.ms_runs.specs.Uses.{CheckedUse, Word, Bytes, Line, type_at, check_use, check_uses, Asked}
-use Rattle.ms_runs.proofs.Hidden.{one_hides_none}
+use Rattle.ms_runs.proofs.NoneHidden.{one_hides_none}
 use Rattle.ms_runs_fills_laws.proofs.Passed.{Passed, AllPassed}
 use Rattle.ms_runs_fills_laws.proofs.Effects.{CheckedAlike, Ready}
 use Rattle.ms_runs_fills_laws.proofs.Worlds.{Unseen, other, BytesAlike}

@@ -28,7 +28,7 @@ use Rattle.ms_runs.specs.Poisoned.{Poisoned, clean}
 use Rattle.ms_runs.specs.Masks.{by_formulas, union, word_at}
 use Rattle.ms_runs.specs.Uses.{CheckedUse, Word, Bytes, Line, type_at, uses, check_use, check_uses, blinded, Asked}
 use Rattle.ms_runs.specs.Shadow.{read_poisoned, shadow_reading, operand_mask, operand_origin, external_planes, callee_planes, planes, ShadowState, shadow_moved, poisoned_result, shadow_act, after_checks, shadow_inst, shadow_first, shadow_frames, shadow_step}
-use Rattle.ms_runs.proofs.Hidden.{none_before}
+use Rattle.ms_runs.proofs.NoneHidden.{none_before}
 use Rattle.ms_runs_fills_laws.specs.First.{FirstOf}
 use Rattle.ms_runs_fills_laws.proofs.Kept.{uses_kept, ChecksAfter, FirstIs, Checks}
 use Rattle.ms_runs_fills_laws.proofs.LimitFree.{act_free}

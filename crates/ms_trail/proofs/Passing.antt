@@ -14,7 +14,7 @@ use Rattle.ms_runs.specs.Poisoned.{Poisoned}
 use Rattle.ms_runs.specs.Masks.{word_at}
 use Rattle.ms_runs.specs.Uses as use_of
 use Rattle.ms_runs.specs.Uses.{type_at, check_uses}
-use Rattle.ms_runs.proofs.Hidden.{one_hides_none}
+use Rattle.ms_runs.proofs.NoneHidden.{one_hides_none}
 use Rattle.ms_trail_moves.specs.declared.moves.Source.{Source}
 use Rattle.ms_trail_moves.specs.Sources.{source_at}
 use Rattle.ms_trail_moves.specs.Traces.{or_byte, read_by}

@@ -23,7 +23,7 @@ use Rattle.ms_runs.specs.Masks.{Rules, union, word_at}
 use Rattle.ms_runs.specs.Uses.{CheckedUse, Word, Bytes, Line, Asked, type_at, check_uses, blinded}
 use Rattle.ms_runs.specs.Shadow.{shadow_reading, planes, poisoned_result, after_checks}
 use Rattle.ms_runs_laws.proofs.UnreportedEnds.{is_reported, Unreported, UnreportedAfter, trapped, act_unreported}
-use Rattle.ms_runs.proofs.Hidden.{one_hides_none}
+use Rattle.ms_runs.proofs.NoneHidden.{one_hides_none}
 use Rattle.ms_trail_moves.specs.declared.moves.Source.{Source}
 use Rattle.ms_trail_moves.specs.declared.moves.Source.TheVariants.{Byte}
 use Rattle.ms_trail_moves.specs.Sources.{source_at}
