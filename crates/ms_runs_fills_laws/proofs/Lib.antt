@@ -13,6 +13,7 @@ pub mod FirstReport
 pub mod Formats
 pub mod Kept
 pub mod LimitFree
+pub mod LimitFreeSteps
 pub mod Moves
 pub mod Ops
 pub mod Passed
