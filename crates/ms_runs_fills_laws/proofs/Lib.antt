@@ -25,5 +25,8 @@ pub mod Sure
 pub mod Whole
 pub mod SameCalls
 pub mod OneEach
+pub mod Retold
+pub mod Firsts
+pub mod Once
 pub mod Words
 pub mod Worlds
