@@ -1,6 +1,6 @@
 -- Instructions don't look at reports: with other reports they do the same, and leave those.
 use Rattle.std.proofs.Common.{◌≡◌, ℕ, zero, suc, ◌+◌, ◌-◌, ◌*◌, ◌/◌, ◌%◌, ◌^◌, List, [], ◌∷◌, ◌++◌, Bool, true, false, Option, Some, None, Result, Ok, Err, refl, ap, ap₂, ◌∙◌}
-use Rattle.std.specs.Prelude.{if◌then◌else◌, eqb, leb, ltb, length, map, ◌&&◌, ◌||◌, not, is_some, unwrap_or}
+use Rattle.std.specs.Prelude.{if◌then◌else◌, eqb, leb, ltb, length, map, get_or, ◌&&◌, ◌||◌, not, is_some, unwrap_or}
 use Rattle.ms_bits.specs.declared.traps.Trap.{Trap}
 use Rattle.ms_bits.specs.declared.traps.Trap.TheVariants as trap
 use Rattle.ms_ir.specs.declared.syntax.Ty.{Ty}
@@ -26,8 +26,8 @@ use Rattle.ms_runs.specs.Memory.{local_area, fits, is_good, heap_size, set_shado
 use Rattle.ms_runs.specs.Externals.{external, malloc, reallocated, where_good, string_at, printed, next_byte, formatted, prints}
 use Rattle.ms_runs.specs.Act.{act, truth}
 use Rattle.ms_runs.specs.Origins.{Chained, keeps_old, pair_index, chain, count_blind, poison, unpoison, copy_planes, fill_planes, mark_cells, store_origin, thread_result}
-use Rattle.ms_runs.specs.Control.{Frame, Outcome, On, Over, entered, given_back, release, keeping, blocks_made, left, after_effect, frame_limit}
-use Rattle.ms_runs.specs.Poisoned.{Poisoned}
+use Rattle.ms_runs.specs.Control.{Frame, Outcome, On, Over, one_on, put, result_at, entered, given_back, release, keeping, after_effect, frame_limit}
+use Rattle.ms_runs.specs.Poisoned.{Poisoned, clean}
 use Rattle.ms_runs.specs.Masks.{Rules, word_at, result_mask, result_origin}
 use Rattle.ms_runs.specs.Shadow.{shadow_reading, external_planes, callee_planes, planes, poisoned_result, shadow_act}
 
@@ -314,9 +314,9 @@ module _ (rs : List Report) where
     moved_told : (site root : ℕ) (x : Option Name) (o : Op) (ps : List Poisoned) (before : World) (frame : Frame Poisoned) (below : List (Frame Poisoned)) (e : Effect)
         → after_effect shadow_reading s m site x ps (poisoned_result d o ps) (planes s site root o ps (told before)) frame below (told_effect e)
         ≡ told_outcome (after_effect shadow_reading s m site x ps (poisoned_result d o ps) (planes s site root o ps before) frame below e)
-    moved_told site root None o ps before frame below (Gives v w) = ap (On _) (planes_told s site root o ps before v w)
-    moved_told site root (Some y) o ps before frame below (Gives v w) = ap₂ (λ (p : Poisoned) (u : World). On (record frame { place = frame.place + 1; values = _ } ∷ below) u) (poisoned_told d o ps v w) (planes_told s site root o ps before v w)
-    moved_told site root x o ps before frame below (Does w) = ap (On _) (planes_told s site root o ps before 0 w)
+    moved_told site root None o ps before frame below (Gives v w) = ap (On (one_on frame ∷ below)) (planes_told s site root o ps before v w)
+    moved_told site root (Some y) o ps before frame below (Gives v w) = ap₂ (λ (p : Poisoned) (u : World). On (put frame (Some y) p ∷ below) u) (poisoned_told d o ps v w) (planes_told s site root o ps before v w)
+    moved_told site root x o ps before frame below (Does w) = ap (On (one_on frame ∷ below)) (planes_told s site root o ps before 0 w)
     moved_told site root x o ps before frame below (Goes to w) = refl
     moved_told site root x o ps before frame below (Enters f w) = by_depth (leb frame_limit (length below + 1))
       where
@@ -326,7 +326,7 @@ module _ (rs : List Report) where
         by_depth true = refl
         by_depth false = refl
     moved_told site root x o ps before frame [] (Leaves w) = refl
-    moved_told site root x o ps before frame (caller ∷ below) (Leaves w) = ap (On _) (back_told frame w)
+    moved_told site root x o ps before frame (caller ∷ below) (Leaves w) = ap (On (put caller (result_at m caller) (get_or ps 0 clean) ∷ below)) (back_told frame w)
     moved_told site root x o ps before frame below (Ends e w) = refl
 
     -- an instruction does the same with other reports
