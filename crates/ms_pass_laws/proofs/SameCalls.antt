@@ -65,7 +65,7 @@ module _ (s : Setting) (numbers : ℕ → Numbering) (m : Module) where
   pub reports_follow : (c : ShadowState) (d : PlainState) → Follows s numbers m c d → c.world.reports ≡ d.world.reports
   reports_follow c d h = frames_reports c.frames c.world d.frames d.slots d.world h
 
-  frames_blind : (fs : List (Frame Poisoned)) (w : World) (gs : List (Frame ℕ)) (cells : ℕ → ℕ) (z : World) → FollowsBy s numbers m fs w gs cells z → w.blind ≡ z.blind
+  pub frames_blind : (fs : List (Frame Poisoned)) (w : World) (gs : List (Frame ℕ)) (cells : ℕ → ℕ) (z : World) → FollowsBy s numbers m fs w gs cells z → w.blind ≡ z.blind
   frames_blind [] w gs cells z h = absurd h
   frames_blind (f ∷ fs) w [] cells z h = absurd h
   frames_blind (f ∷ fs) w (g ∷ gs) cells z h = ap (λ (r : RunResult). r.blind) (sym (h.0.sees «end».Spent))

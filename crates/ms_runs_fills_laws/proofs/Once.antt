@@ -61,11 +61,10 @@ module _ (s : Setting) (every : s.once ≡ true) (some : 1 ≤ s.limit) (n : ℕ
   -- ---- checks
 
   -- two checks of the same: the second run is full, or both go on, or the first one ends
-  abbrev CheckedOnce : Effect → Effect → Type 0
-  CheckedOnce e x =
-      IsFull (effect_world x)
-      ⊎ (((u : World) × (l : List Report) × (e ≡ Does u) × (x ≡ Does (told l u)) × IsBelow u l)
-      ⊎ ((u : World) × (e ≡ Ends «end».Reported u) × HasEnded u (effect_world x)))
+  data CheckedOnce (e x : Effect) : Type 0 where
+    Full : IsFull (effect_world x) → CheckedOnce e x
+    Both : (u : World) (l : List Report) → e ≡ Does u → x ≡ Does (told l u) → IsBelow u l → CheckedOnce e x
+    Last : (u : World) → e ≡ Ends «end».Reported u → HasEnded u (effect_world x) → CheckedOnce e x
 
   hidden_by : (r : Report) (w : World) → length w.reports < s.limit → is_hidden s r w ≡ list_any (same_use r) w.reports
   hidden_by r w few = by_limit (ltb 1 s.limit) refl w.reports refl
@@ -95,26 +94,22 @@ module _ (s : Setting) (every : s.once ≡ true) (some : 1 ≤ s.limit) (n : ℕ
             (if h then Does w else if a then Ends «end».Reported added else Does added)
             (if g then Does (told rs w) else if b then Ends «end».Reported (told (rs ++ r ∷ []) w) else Does (told (rs ++ r ∷ []) w))
         by_tests h a true b any last shown full = absurd (true≢false shown)
-        by_tests h a false true any last shown full = inl (leb-true n (length (rs ++ r ∷ [])) full)
-        by_tests true a false false any last shown full = inr (inl (w, rs ++ r ∷ [], refl, refl, (firsts_are true any, below.1)))
+        by_tests h a false true any last shown full = Full (leb-true n (length (rs ++ r ∷ [])) full)
+        by_tests true a false false any last shown full = Both w (rs ++ r ∷ []) refl refl (firsts_are true any, below.1)
         by_tests false true false false any last shown full =
-            inr (inr (
-              added,
-              refl,
+            Last added refl (
+              rs ++ r ∷ [],
               (
-                rs ++ r ∷ [],
-                (
-                  firsts_are false any,
-                  (omega (arith, leb-true s.limit (length (w.reports ++ r ∷ [])) last, below.1, length-append w.reports (r ∷ []))),
-                  ([], sym (append-nil (rs ++ r ∷ []))),
-                ),
+                firsts_are false any,
+                (omega (arith, leb-true s.limit (length (w.reports ++ r ∷ [])) last, below.1, length-append w.reports (r ∷ []))),
+                ([], sym (append-nil (rs ++ r ∷ []))),
               ),
-            ))
+            )
         by_tests false false false false any last shown full =
-            inr (inl (added, rs ++ r ∷ [], refl, refl, (firsts_are false any, leb-false s.limit (length (w.reports ++ r ∷ [])) last)))
+            Both added (rs ++ r ∷ []) refl refl (firsts_are false any, leb-false s.limit (length (w.reports ++ r ∷ [])) last)
 
     passes : CheckedOnce (Does w) (Does (told rs w))
-    passes = inr (inl (w, rs, refl, refl, below))
+    passes = Both w rs refl refl below
 
     check_once : (mask width origin kind part site : ℕ) → CheckedOnce (check s mask width origin kind part site w) (check other mask width origin kind part site (told rs w))
     check_once mask width origin kind part site = by_test (eqb mask 0)
@@ -124,7 +119,7 @@ module _ (s : Setting) (every : s.once ≡ true) (some : 1 ≤ s.limit) (n : ℕ
             (if t then Does w else add_report s (record { site = site; kind = kind; part = part; width = width; mask = mask; origin = origin; chain = trail s w origin }) w)
             (if t then Does (told rs w) else add_report other (record { site = site; kind = kind; part = part; width = width; mask = mask; origin = origin; chain = trail s w origin }) (told rs w))
         by_test true = passes
-        by_test false = report_once _
+        by_test false = let r : Report = record { site = site; kind = kind; part = part; width = width; mask = mask; origin = origin; chain = trail s w origin } in report_once r
 
     byte_once : (kind site start : ℕ) (o : Option ℕ) → CheckedOnce (check_byte s kind site start o w) (check_byte other kind site start o (told rs w))
     byte_once kind site start None = passes
@@ -155,12 +150,12 @@ module _ (s : Setting) (every : s.once ≡ true) (some : 1 ≤ s.limit) (n : ℕ
 
   then_once : (e x : Effect) (go more : World → Effect) → CheckedOnce e x → ((u : World) (l : List Report) → IsBelow u l → CheckedOnce (go u) (more (told l u))) → ((z : World) → ChecksAfter z (more z))
       → CheckedOnce (then_does e go) (then_does x more)
-  then_once e x go more (inl full) f keep =
-      inl (full_further (effect_world x) (effect_world (then_does x more)) full (then_leads (effect_world x).reports x more keep (itself (effect_world x))))
-  then_once e x go more (inr (inl h)) f keep =
-      subst (λ (k : Effect). CheckedOnce (then_does k go) (then_does x more)) (sym h.2) (subst (λ (k : Effect). CheckedOnce (go h.0) (then_does k more)) (sym h.3) (f h.0 h.1 h.4))
-  then_once e x go more (inr (inr h)) f keep =
-      inr (inr (h.0, ap (λ (k : Effect). then_does k go) h.1, (h.2.0, (h.2.1.0, h.2.1.1, then_leads h.2.0 x more keep h.2.1.2))))
+  then_once e x go more (Full full) f keep =
+      Full (full_further (effect_world x) (effect_world (then_does x more)) full (then_leads (effect_world x).reports x more keep (itself (effect_world x))))
+  then_once e x go more (Both u l does same h) f keep =
+      subst (λ (k : Effect). CheckedOnce (then_does k go) (then_does x more)) (sym does) (subst (λ (k : Effect). CheckedOnce (go u) (then_does k more)) (sym same) (f u l h))
+  then_once e x go more (Last u ends h) f keep =
+      Last u (ap (λ (k : Effect). then_does k go) ends) (h.0, (h.1.0, h.1.1, then_leads h.0 x more keep h.1.2))
 
   uses_once : (site : ℕ) (os : List (Ty × Operand)) (ps : List Poisoned) (us : List CheckedUse) (w : World) (rs : List Report) → IsBelow w rs → CheckedOnce (check_uses s site os ps us w) (check_uses other site os ps us (told rs w))
   uses_once site os ps [] w rs below = passes w rs below
@@ -172,11 +167,10 @@ module _ (s : Setting) (every : s.once ≡ true) (some : 1 ≤ s.limit) (n : ℕ
 
   module _ (m : Module) where
     -- two moves: the second run is full, or both go on or end alike, or the first one ends by its reports
-    abbrev MovedOnce : Outcome Poisoned → Outcome Poisoned → Type 0
-    MovedOnce x y =
-        IsFull (outcome_world s m y)
-        ⊎ (((l : List Report) × (y ≡ told_outcome l x) × IsBelow (outcome_world s m x) l)
-        ⊎ ((u : World) × (x ≡ Over «end».Reported u) × HasEnded u (outcome_world s m y)))
+    data MovedOnce (x y : Outcome Poisoned) : Type 0 where
+      Fills : IsFull (outcome_world s m y) → MovedOnce x y
+      Alike : (l : List Report) → y ≡ told_outcome l x → IsBelow (outcome_world s m x) l → MovedOnce x y
+      Ended : (u : World) → x ≡ Over «end».Reported u → HasEnded u (outcome_world s m y) → MovedOnce x y
 
     grown_starts : (l : List Report) (w : World) (x : Outcome Poisoned) → GrownOutcome w x → StartsWith l w → StartsWith l (outcome_world s m x)
     grown_starts l w (On fs u) g h = g.leads l h
@@ -201,35 +195,27 @@ module _ (s : Setting) (every : s.once ≡ true) (some : 1 ≤ s.limit) (n : ℕ
           ∙ count_reports s m (union (map (λ p. p.mask) (blinded s.func i.op ps))) u
 
       after_once : (e x : Effect) → CheckedOnce e x → MovedOnce (after_checks by_formulas s m i h ps fr below e) (after_checks by_formulas other m i h ps fr below x)
-      after_once e x (inl full) =
-          inl (full_further (effect_world x) (outcome_world s m (after_checks by_formulas other m i h ps fr below x)) full
+      after_once e x (Full full) =
+          Fills (full_further (effect_world x) (outcome_world s m (after_checks by_formulas other m i h ps fr below x)) full
           (grown_starts (effect_world x).reports (effect_world x) (after_checks by_formulas other m i h ps fr below x)
           (after_grown other m i h ps fr below (effect_world x) x (by_itself s m x)) (itself (effect_world x))))
-      after_once e x (inr (inl k)) =
-          subst (λ (q : Effect). MovedOnce (after_checks by_formulas s m i h ps fr below q) (after_checks by_formulas other m i h ps fr below x)) (sym k.2)
-          (subst (λ (q : Effect). MovedOnce (act_of (blind_of k.0)) (after_checks by_formulas other m i h ps fr below q)) (sym k.3)
-          (inr (inl (
-            k.1,
-            retold k.1 k.0,
-            (reports_kept k.0 ∙ k.4.0, subst (λ (l : List Report). length l < s.limit) (sym (reports_kept k.0)) k.4.1),
-          ))))
-      after_once e x (inr (inr k)) =
-          inr (inr (
+      after_once e x (Both u l does same k) =
+          subst (λ (q : Effect). MovedOnce (after_checks by_formulas s m i h ps fr below q) (after_checks by_formulas other m i h ps fr below x)) (sym does)
+          (subst (λ (q : Effect). MovedOnce (act_of (blind_of u)) (after_checks by_formulas other m i h ps fr below q)) (sym same)
+          (Alike l (retold l u) (reports_kept u ∙ k.0, subst (λ (rs : List Report). length rs < s.limit) (sym (reports_kept u)) k.1)))
+      after_once e x (Last u ends k) =
+          Ended u (ap (after_checks by_formulas s m i h ps fr below) ends) (
             k.0,
-            ap (after_checks by_formulas s m i h ps fr below) k.1,
             (
-              k.2.0,
-              (
-                k.2.1.0,
-                k.2.1.1,
-                grown_starts k.2.0 (effect_world x) (after_checks by_formulas other m i h ps fr below x) (after_grown other m i h ps fr below (effect_world x) x (by_itself s m x)) k.2.1.2,
-              ),
+              k.1.0,
+              k.1.1,
+              grown_starts k.0 (effect_world x) (after_checks by_formulas other m i h ps fr below x) (after_grown other m i h ps fr below (effect_world x) x (by_itself s m x)) k.1.2,
             ),
-          ))
+          )
 
     rest_once : (is : List Inst) (fr : Frame Poisoned) (below : List (Frame Poisoned)) (w : World) (rs : List Report) → IsBelow w rs
         → MovedOnce (shadow_first by_formulas s m is fr below w) (shadow_first by_formulas other m is fr below (told rs w))
-    rest_once [] fr below w rs h = inr (inl (rs, refl, h))
+    rest_once [] fr below w rs h = Alike rs refl h
     rest_once (i ∷ is) fr below w rs h =
         subst (λ ps. MovedOnce (shadow_inst by_formulas s m i fr below w)
         (after_checks by_formulas other m i (here s m fr) ps fr below (check_uses other (here s m fr).site (operands i.op) ps (uses s.func (here s m fr).main i.op) (told rs w))))
@@ -238,7 +224,7 @@ module _ (s : Setting) (every : s.once ≡ true) (some : 1 ≤ s.limit) (n : ℕ
         (uses_once (here s m fr).site (operands i.op) (read_all (read_poisoned s fr.values) (operands i.op) (here s m fr).root) (uses s.func (here s m fr).main i.op) w rs h))
 
     frames_once : (fs : List (Frame Poisoned)) (w : World) (rs : List Report) → IsBelow w rs → MovedOnce (shadow_frames by_formulas s m fs w) (shadow_frames by_formulas other m fs (told rs w))
-    frames_once [] w rs h = inr (inl (rs, refl, h))
+    frames_once [] w rs h = Alike rs refl h
     frames_once (fr ∷ below) w rs h = rest_once (rest_of m fr) fr below w rs h
 
     -- ---- runs
@@ -282,17 +268,17 @@ module _ (s : Setting) (every : s.once ≡ true) (some : 1 ≤ s.limit) (n : ℕ
         after : (x y : Outcome Poisoned) → MovedOnce x y
             → ((d : ShadowState) (l : List Report) → IsBelow d.world l → OnceOf (run_once k d) (run_each k (record { frames = d.frames; world = told l d.world })))
             → OnceOf (go_on (run_once k) (shadow_moved x)) (go_on (run_each k) (shadow_moved y))
-        after x y (inl full) rest =
+        after x y (Fills full) rest =
             let l = (outcome_world s m y).reports in
             let q = run_leads other m l k (shadow_moved y) (moved_starts l y (itself (outcome_world s m y))) in
             inl (omega (arith, full, ap length q.1, length-append l q.0))
-        after x y (inr (inl g)) rest =
-            subst (λ (z : Outcome Poisoned). OnceOf (go_on (run_once k) (shadow_moved x)) (go_on (run_each k) (shadow_moved z))) (sym g.1) (alike x g.0 g.2 rest)
-        after x y (inr (inr g)) rest =
-            let q = run_leads other m g.2.0 k (shadow_moved y) (moved_starts g.2.0 y g.2.1.2) in
+        after x y (Alike l same g) rest =
+            subst (λ (z : Outcome Poisoned). OnceOf (go_on (run_once k) (shadow_moved x)) (go_on (run_each k) (shadow_moved z))) (sym same) (alike x l g rest)
+        after x y (Ended u ends g) rest =
+            let q = run_leads other m g.0 k (shadow_moved y) (moved_starts g.0 y g.1.2) in
             inr (
-              ap (λ (z : Outcome Poisoned). (go_on (run_once k) (shadow_moved z)).reports) g.1
-              ∙ at_end g.0 g.2.0 (go_on (run_each k) (shadow_moved y)).reports g.2.1.0 g.2.1.1 q.0 q.1,
+              ap (λ (z : Outcome Poisoned). (go_on (run_once k) (shadow_moved z)).reports) ends
+              ∙ at_end u g.0 (go_on (run_each k) (shadow_moved y)).reports g.1.0 g.1.1 q.0 q.1,
             )
 
 module _ (m : Module) (setup : Setup) (n : ℕ) where
