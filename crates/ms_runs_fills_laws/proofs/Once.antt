@@ -80,7 +80,7 @@ module _ (s : Setting) (every : s.once ≡ true) (some : 1 ≤ s.limit) (n : ℕ
         by_tests (is_hidden s r w) (leb s.limit (length (w.reports ++ r ∷ []))) (is_hidden other r (told rs w)) (leb n (length (rs ++ r ∷ [])))
         (hidden_by r w below.1) refl (each_is_told other r (told rs w) refl) refl
       where
-        abbrev added : World
+        added : World
         added = record w { reports = w.reports ++ r ∷ [] }
 
         firsts_are : (h : Bool) → h ≡ list_any (same_use r) w.reports → (if h then w.reports else w.reports ++ r ∷ []) ≡ firsts (rs ++ r ∷ [])

@@ -144,17 +144,19 @@ module _ (rs : List Report) where
   abbrev told_chained : Chained → Chained
   told_chained c = record { id = c.id; world = told c.world }
 
+  -- a chained origin, where it is known whether the old one is kept and which pair there is
+  abbrev chained_by : Setting → (old site : ℕ) → World → Bool → Option ℕ → Chained
+  chained_by s old site v t o =
+      if t then record { id = old; world = v } else
+      elim o as (λ z. Chained) [
+        | Some k ↦ record { id = s.roots + 1 + k; world = v }
+        | None ↦ record { id = s.roots + 1 + length v.pairs; world = record v { pairs = v.pairs ++ (old, site) ∷ [] } }
+      ]
+
   chain_told : (s : Setting) (old site : ℕ) (w : World) → chain s old site (told w) ≡ told_chained (chain s old site w)
   chain_told s old site w = by_tests (keeps_old s w old) (pair_index w.pairs old site)
     where
-      abbrev chained : World → Bool → Option ℕ → Chained
-      chained v t o = if t then record { id = old; world = v } else
-          elim o as (λ z. Chained) [
-            | Some k ↦ record { id = s.roots + 1 + k; world = v }
-            | None ↦ record { id = s.roots + 1 + length v.pairs; world = record v { pairs = v.pairs ++ (old, site) ∷ [] } }
-          ]
-
-      by_tests : (t : Bool) (o : Option ℕ) → chained (told w) t o ≡ told_chained (chained w t o)
+      by_tests : (t : Bool) (o : Option ℕ) → chained_by s old site (told w) t o ≡ told_chained (chained_by s old site w t o)
       by_tests true o = refl
       by_tests false (Some k) = refl
       by_tests false None = refl
@@ -191,26 +193,26 @@ module _ (rs : List Report) where
   copy_told : (to from n : ℕ) (w : World) → copy_planes to from n (told w) ≡ told (copy_planes to from n w)
   copy_told to from n w = world_if (is_good w to n && is_good w from n) (copy_shadow to from n w) w
 
+  abbrev filled_by : (a n mask : ℕ) → Chained → World
+  filled_by a n mask c = set_cells a n c.id (set_shadow a n (λ k. mask % 256) c.world)
+
   fill_told : (s : Setting) (a n mask origin site : ℕ) (w : World) → fill_planes s a n mask origin site (told w) ≡ told (fill_planes s a n mask origin site w)
   fill_told s a n mask origin site w = by_tests (not (is_good w a n)) (eqb (mask % 256) 0 || eqb n 0)
     where
-      abbrev filled : Chained → World
-      filled c = set_cells a n c.id (set_shadow a n (λ k. mask % 256) c.world)
-
       by_tests : (t u : Bool)
-          → (if t then told w else if u then set_shadow a n (λ k. 0) (told w) else filled (chain s origin site (told w)))
-          ≡ told (if t then w else if u then set_shadow a n (λ k. 0) w else filled (chain s origin site w))
+          → (if t then told w else if u then set_shadow a n (λ k. 0) (told w) else filled_by a n mask (chain s origin site (told w)))
+          ≡ told (if t then w else if u then set_shadow a n (λ k. 0) w else filled_by a n mask (chain s origin site w))
       by_tests true u = refl
       by_tests false true = refl
-      by_tests false false = ap filled (chain_told s origin site w)
+      by_tests false false = ap (filled_by a n mask) (chain_told s origin site w)
+
+  abbrev stored_by : Setting → (a id site : ℕ) → World → World
+  stored_by s a id site v = store_origin s a (v.answer_masks id) (v.answer_origins id) site (set_shadow a 8 (byte_of (v.answer_masks id)) v)
 
   result_told : (s : Setting) (a id answer site : ℕ) (w : World) → thread_result s a id answer site (told w) ≡ told (thread_result s a id answer site w)
   result_told s a id answer site w = by_test (eqb answer 0 && not (eqb a 0) && is_good w a 8 && has_ended (thread_at id w.threads))
     where
-      abbrev stored : World → World
-      stored v = store_origin s a (v.answer_masks id) (v.answer_origins id) site (set_shadow a 8 (byte_of (v.answer_masks id)) v)
-
-      by_test : (t : Bool) → (if t then stored (told w) else told w) ≡ told (if t then stored w else w)
+      by_test : (t : Bool) → (if t then stored_by s a id site (told w) else told w) ≡ told (if t then stored_by s a id site w else w)
       by_test true = store_told s a (w.answer_masks id) (w.answer_origins id) site (set_shadow a 8 (byte_of (w.answer_masks id)) w)
       by_test false = refl
 
