@@ -27,6 +27,6 @@ pub mod SameCalls
 pub mod OneEach
 pub mod Retold
 pub mod Firsts
-pub mod Once
+pub mod FirstOfEach
 pub mod Words
 pub mod Worlds

@@ -1,4 +1,4 @@
-use Rattle.ms_runs_fills_laws.proofs.Once.{first_of_each, plain_first_of_each}
+use Rattle.ms_runs_fills_laws.proofs.FirstOfEach.{first_of_each, plain_first_of_each}
 use Rattle.ms_runs_fills_laws.proofs.once.first_of_each.Goals as goal
 
 pub returns-clause-shadow_runs : goal.returns-clause-shadow_runs
