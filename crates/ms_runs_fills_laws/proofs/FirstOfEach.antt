@@ -276,10 +276,7 @@ module _ (s : Setting) (every : s.once ≡ true) (some : 1 ≤ s.limit) (n : ℕ
             subst (λ (z : Outcome Poisoned). OnceOf (go_on (run_once k) (shadow_moved x)) (go_on (run_each k) (shadow_moved z))) (sym same) (alike x l g rest)
         after x y (Ended u ends g) rest =
             let q = run_leads other m g.0 k (shadow_moved y) (moved_starts g.0 y g.1.2) in
-            inr (
-              ap (λ (z : Outcome Poisoned). (go_on (run_once k) (shadow_moved z)).reports) ends
-              ∙ at_end u g.0 (go_on (run_each k) (shadow_moved y)).reports g.1.0 g.1.1 q.0 q.1,
-            )
+            inr (ap (λ (z : Outcome Poisoned). (go_on (run_once k) (shadow_moved z)).reports) ends ∙ at_end u g.0 (go_on (run_each k) (shadow_moved y)).reports g.1.0 g.1.1 q.0 q.1)
 
 module _ (m : Module) (setup : Setup) (n : ℕ) where
   -- the run that reports each time, from a world
