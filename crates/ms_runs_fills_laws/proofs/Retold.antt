@@ -216,7 +216,7 @@ module _ (rs : List Report) where
       by_test true = store_told s a (w.answer_masks id) (w.answer_origins id) site (set_shadow a 8 (byte_of (w.answer_masks id)) w)
       by_test false = refl
 
-  blind_told : (mask : ℕ) (w : World) → count_blind mask (told w) ≡ told (count_blind mask w)
+  pub blind_told : (mask : ℕ) (w : World) → count_blind mask (told w) ≡ told (count_blind mask w)
   blind_told mask w = world_if (eqb mask 0) w (record w { blind = w.blind + 1 })
 
   external_told : (s : Setting) (site root : ℕ) (e : External) (ps : List Poisoned) (before : World) (v : ℕ) (w : World)
