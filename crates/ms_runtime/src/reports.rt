@@ -37,6 +37,13 @@ impl ReportedUse {
     {
         self.site == report.site && self.kind == report.kind && self.part == report.part
     }
+
+    /// Whether one of some reports is of this use.
+    fn is_in(&self, reports: &[Report]) -> bool
+        ensures { result ≡ list_any (is_of self.now) reports.now }
+    {
+        reports.iter().any(|report| self.is_of(report))
+    }
 }
 
 /// Which uses a run reports, and how many.
@@ -53,12 +60,7 @@ impl ReportLimit {
     fn hides(self, told: &RunResult, used: &ReportedUse) -> bool
         ensures { result ≡ (self.once && list_any (is_of used.now) told.now.reports) }
     {
-        self.once
-            && told
-                .reports
-                .as_slice()
-                .iter()
-                .any(|report| used.is_of(report))
+        self.once && used.is_in(told.reports.as_slice())
     }
 }
 
