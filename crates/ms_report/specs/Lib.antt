@@ -6,3 +6,4 @@ pub mod WordsTexts
 pub mod WithLines
 pub mod TrailTexts
 pub mod SummaryTexts
+pub mod SchedulesTexts
