@@ -90,7 +90,7 @@ impl ThreadedRun {
         thread_result(addr, thread.mask, thread.origin, site, world, depot)
     }
 
-    /// The effect of a call that is no thread call; `reports` is the limit of the run's reports.
+    /// The effect of a call that is no thread call; `limit` is that of the run's reports.
     fn answer_of(
         &mut self,
         alloc: Global,
@@ -236,7 +236,7 @@ impl ThreadedRun {
         Ok(self.after_answer(m, call, answer))
     }
 
-    /// Runs to the next pause, and does what is asked there; `reports` is the limit of the run's reports. Returns how the run ends, if it
+    /// Runs to the next pause, and does what is asked there; `limit` is that of the run's reports. Returns how the run ends, if it
     /// does.
     fn run_to_pause(
         &mut self,
