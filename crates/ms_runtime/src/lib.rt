@@ -9,6 +9,7 @@ mod runs;
 mod serving;
 mod thread_results;
 
+pub use reports::ReportLimit;
 pub use runs::{Running, run, start_run};
 pub use serving::serve;
 pub use thread_results::thread_result;

@@ -6,8 +6,9 @@ ghost use Rattle.ms_runs.specs.{declared.runs.Setup.{Setup as SetupOf}, Limits.{
 ghost use Rattle.ms_runs.specs.Plain.{plain};
 ghost use Rattle.ms_host.specs.Answers.{Answered};
 ghost use Rattle.ms_runtime.specs.Going.{Begins, Going, Asking, Paused, Answers, Turned, IsGoing, IsAsking, IsPaused, ahead};
-ghost use Rattle.ms_runtime.specs.Answering.{AnsweredFor};
+ghost use Rattle.ms_runtime.specs.{Answering.{AnsweredFor}, Served.{limit_of}};
 
+use crate::reports::ReportLimit;
 use crate::serving::serve;
 use ms_bits::{Bytes, List, NoMemory, Trap};
 use ms_check::CheckedModule;
@@ -48,10 +49,10 @@ impl Running {
         alloc: Global,
         m: &CheckedModule,
         call: &HostCall,
-        reports: u32,
+        limit: ReportLimit,
     ) -> Result<Answer, NoMemory>
-        requires asking { IsAsking m.now reports call.now self.old }
-        ensures answered { (u : SetupOf) → u.reports ≡ reports → (q : Asking m.now u call.now self.old) → IfOk result (λ a. AnsweredFor m.now u call.now q.within a self.old self.new) }
+        requires asking { IsAsking m.now limit call.now self.old }
+        ensures answered { (u : SetupOf) → limit_of u ≡ limit → (q : Asking m.now u call.now self.old) → IfOk result (λ a. AnsweredFor m.now u call.now q.within a self.old self.new) }
     {
         m.law_valid();
         match call.asked {
@@ -66,7 +67,7 @@ impl Running {
                 &mut self.world,
                 &mut self.depot,
                 &mut self.told,
-                reports,
+                limit,
             ),
         }
     }
@@ -77,14 +78,14 @@ impl Running {
         alloc: Global,
         m: &CheckedModule,
         call: HostCall,
-        reports: u32,
+        limit: ReportLimit,
     ) -> Result<Option<End>, NoMemory>
-        requires paused { IsPaused m.now reports call self.old }
-        ensures turned { (u : SetupOf) → u.reports ≡ reports → Paused m.now u call self.old → IfOk result (λ end. Turned m.now u (ahead m.now self.old) end self.new) }
+        requires paused { IsPaused m.now limit call self.old }
+        ensures turned { (u : SetupOf) → limit_of u ≡ limit → Paused m.now u call self.old → IfOk result (λ end. Turned m.now u (ahead m.now self.old) end self.new) }
     {
         m.law_valid();
         let _code = m.program();
-        match self.answer_of(alloc, m, &call, reports)? {
+        match self.answer_of(alloc, m, &call, limit)? {
             Answer::Ended(end) => Ok(Some(end)),
             Answer::Resumed(value) => {
                 resume(m, &mut self.fiber, value);
@@ -99,15 +100,15 @@ impl Running {
         &mut self,
         alloc: Global,
         m: &CheckedModule,
-        reports: u32,
+        limit: ReportLimit,
     ) -> Result<Option<End>, NoMemory>
-        requires going { IsGoing m.now reports self.old }
-        ensures turned { (u : SetupOf) → u.reports ≡ reports → Going m.now u self.old → IfOk result (λ end. Turned m.now u (ahead m.now self.old) end self.new) }
+        requires going { IsGoing m.now limit self.old }
+        ensures turned { (u : SetupOf) → limit_of u ≡ limit → Going m.now u self.old → IfOk result (λ end. Turned m.now u (ahead m.now self.old) end self.new) }
     {
         match advance(alloc, m, &mut self.fiber, &mut self.world, &mut self.budget)? {
             Pause::Spent => Ok(Some(End::Spent)),
             Pause::Ended(end) => Ok(Some(end)),
-            Pause::Asked(call) => self.answer_call(alloc, m, call, reports),
+            Pause::Asked(call) => self.answer_call(alloc, m, call, limit),
             Pause::Finished { .. } => Ok(Some(no_caller())),
         }
     }
@@ -158,9 +159,13 @@ pub fn run(alloc: Global, m: &CheckedModule, setup: &Setup) -> Result<RunResult,
     requires alone { is_threaded m.now ≡ false }
     ensures { IfOk result (λ r. r ≡ plain m.now setup.now) }
 {
+    let limit = ReportLimit {
+        count: setup.reports,
+        once: setup.once,
+    };
     let mut running = start_run(alloc, m, setup)?;
     loop {
-        if let Some(end) = running.run_to_pause(alloc, m, setup.reports)? {
+        if let Some(end) = running.run_to_pause(alloc, m, limit)? {
             return Ok(running.into_result(end));
         }
     }

@@ -6,7 +6,7 @@ ghost use Rattle.ms_ir.specs.declared.calls.RuntimeFn.TheVariants.{ThreadResult 
 ghost use Rattle.ms_runs.specs.{declared.runs.Setup.{Setup as SetupOf}, Limits.{WithinLimits}};
 ghost use Rattle.ms_runs_threads.specs.PlainFibers.{plain_threads};
 ghost use Rattle.ms_host.specs.declared.calls.Answer.TheVariants.{Resumed as ResumedOf};
-ghost use Rattle.ms_runtime.specs.{Answering.{AnsweredFor}, Going.{ahead}, Served.{Fits}};
+ghost use Rattle.ms_runtime.specs.{Answering.{AnsweredFor}, Going.{ahead}, Served.{Fits, limit_of}};
 ghost use Rattle.ms_threads_schedules_laws.specs.Picks.{plain_picks};
 ghost use Rattle.ms_threads.specs.{Faithful.{IsSchedule}, Recording.{Records}, ThreadTables.{IsThreadCall, IsResult, standing_of}};
 ghost use Rattle.ms_threads.specs.Going.{Asking, After, Picking, Performing, Beginning, Going, HasEnded, Turned, IsGoing, IsAsking, IsAfter, IsPicking, IsPerforming, IsBeginning, most_ahead, far_of};
@@ -20,7 +20,7 @@ use ms_ir::RuntimeFn;
 use ms_machine::{advance, resume, spawn};
 use ms_machine_frames::{Pause, no_fiber};
 use ms_runs::{End, RunResult, Setup};
-use ms_runtime::{Running, start_run, thread_result};
+use ms_runtime::{ReportLimit, Running, start_run, thread_result};
 use std::alloc::Global;
 
 /// A run of threads between two pauses.
@@ -91,17 +91,17 @@ impl ThreadedRun {
         thread_result(addr, thread.mask, thread.origin, site, world, depot)
     }
 
-    /// Answers a call that is no thread call; `reports` is the limit of the run's reports.
+    /// Answers a call that is no thread call; `limit` is that of the run's reports.
     fn answer_of(
         &mut self,
         alloc: Global,
         m: &CheckedModule,
         call: &HostCall,
-        reports: u32,
+        limit: ReportLimit,
     ) -> Result<Answer, NoMemory>
-        requires asking { IsAsking m.now reports call.now self.old }
+        requires asking { IsAsking m.now limit call.now self.old }
         requires other { ¬ IsThreadCall call.now.asked }
-        ensures answered { (u : SetupOf) (schedule : List ℕ) → u.reports ≡ reports → (q : Asking m.now u schedule call.now self.old) → IfOk result (λ a. AnsweredFor m.now u call.now q.within a self.old.running self.new.running) }
+        ensures answered { (u : SetupOf) (schedule : List ℕ) → limit_of u ≡ limit → (q : Asking m.now u schedule call.now self.old) → IfOk result (λ a. AnsweredFor m.now u call.now q.within a self.old.running self.new.running) }
         ensures table { self.new.table ≡ self.old.table }
     {
         m.law_valid();
@@ -109,7 +109,7 @@ impl ThreadedRun {
             self.put_result(call)?;
             return Ok(Answer::Resumed(None));
         }
-        self.running.answer_of(alloc, m, call, reports)
+        self.running.answer_of(alloc, m, call, limit)
     }
 
     /// Goes on after a call with its answer. Returns how the run ends, if it does.
@@ -223,33 +223,33 @@ impl ThreadedRun {
         alloc: Global,
         m: &CheckedModule,
         call: HostCall,
-        reports: u32,
+        limit: ReportLimit,
         schedule: &[u8],
     ) -> Result<Option<End>, NoMemory>
         requires scheduled { IsSchedule schedule.now }
-        requires asking { (u : SetupOf) × ((u.reports ≡ reports) × Asking m.now u schedule.now call self.old) }
-        ensures turned { (u : SetupOf) → u.reports ≡ reports → Asking m.now u schedule.now call self.old → IfOk result (λ end. Turned m.now u schedule.now (far_of m.now call.asked self.old.running) end self.new) }
+        requires asking { (u : SetupOf) × ((limit_of u ≡ limit) × Asking m.now u schedule.now call self.old) }
+        ensures turned { (u : SetupOf) → limit_of u ≡ limit → Asking m.now u schedule.now call self.old → IfOk result (λ end. Turned m.now u schedule.now (far_of m.now call.asked self.old.running) end self.new) }
     {
         if is_thread_call(&call) {
             self.park(call);
             return self.pick(alloc, m, schedule);
         }
-        let answer = self.answer_of(alloc, m, &call, reports)?;
+        let answer = self.answer_of(alloc, m, &call, limit)?;
         Ok(self.after_answer(m, call, answer))
     }
 
-    /// Runs to the next pause, and does what is asked there; `reports` is the limit of the run's reports. Returns how the run ends,
+    /// Runs to the next pause, and does what is asked there; `limit` is that of the run's reports. Returns how the run ends,
     /// if it does.
     fn run_to_pause(
         &mut self,
         alloc: Global,
         m: &CheckedModule,
-        reports: u32,
+        limit: ReportLimit,
         schedule: &[u8],
     ) -> Result<Option<End>, NoMemory>
         requires scheduled { IsSchedule schedule.now }
-        requires going { IsGoing m.now reports schedule.now self.old }
-        ensures turned { (u : SetupOf) → u.reports ≡ reports → Going m.now u schedule.now self.old → IfOk result (λ end. Turned m.now u schedule.now (ahead m.now self.old.running) end self.new) }
+        requires going { IsGoing m.now limit schedule.now self.old }
+        ensures turned { (u : SetupOf) → limit_of u ≡ limit → Going m.now u schedule.now self.old → IfOk result (λ end. Turned m.now u schedule.now (ahead m.now self.old.running) end self.new) }
     {
         m.law_valid();
         let running = &mut self.running;
@@ -262,7 +262,7 @@ impl ThreadedRun {
         )? {
             Pause::Spent => Ok(Some(End::Spent)),
             Pause::Ended(end) => Ok(Some(end)),
-            Pause::Asked(call) => self.call(alloc, m, call, reports, schedule),
+            Pause::Asked(call) => self.call(alloc, m, call, limit, schedule),
             Pause::Finished { value } => {
                 self.end(alloc, value);
                 self.pick(alloc, m, schedule)
@@ -292,9 +292,13 @@ pub fn record_threads(
 {
     let running = start_run(alloc, m, setup)?;
     let table = ThreadTable::new(alloc)?;
+    let limit = ReportLimit {
+        count: setup.reports,
+        once: setup.once,
+    };
     let mut threads = ThreadedRun { running, table };
     loop {
-        if let Some(end) = threads.run_to_pause(alloc, m, setup.reports, schedule)? {
+        if let Some(end) = threads.run_to_pause(alloc, m, limit, schedule)? {
             return Ok(RecordedRun {
                 result: threads.running.into_result(end),
                 recorder: threads.table.recorder,
