@@ -1,4 +1,4 @@
-//! The first phi or branch at fault.
+//! The first phi or branch at fault, for `ms_check`: phis are held against the edges into their blocks.
 ghost use Rattle.std.specs.Prelude.{◌≡◌, ◌<◌, ◌^◌, ℕ, [], ◌∷◌, length, map, IsTrue, IfOk, slice_get, if◌then◌else◌};
 ghost use Rattle.ms_ir.specs.{Places.{HasSmallNumbers}, Equal.{has_name}, Locals.{entry_name}, Spots.{spot}};
 ghost use Rattle.ms_ir.specs.Written.{targets};
@@ -15,11 +15,13 @@ use std::alloc::Global;
 /// The edges of a function, and notes on its blocks.
 #[derive(Drop)]
 pub struct Ways<'m> {
+    /// The edges into each block.
     pub into: Edges<'m>,
+    /// What is noted while a phi is looked at.
     pub notes: Notes,
 }
 
-/// The edges of a function, and notes on its blocks.
+/// The edges of a function, and empty notes on its blocks.
 fn find_ways<'m>(alloc: Global, func: &'m Func) -> Result<Ways<'m>, NoMemory>
     requires { length func.now.blocks < 2 ^ 32 }
     ensures { IfOk result (AreWaysOf func.now) }
@@ -61,7 +63,8 @@ fn goes_to(op: &Op, name: &Name) -> bool
     }
 }
 
-/// Whether an instruction of the block with a number fits.
+/// Whether an instruction of the block with a number fits: a phi has an operand for each edge into the block, and no branch
+/// goes to the entry block.
 fn fits(
     func: &Func,
     into: &Edges<'_>,
@@ -85,7 +88,7 @@ fn fits(
     }
 }
 
-/// Each phi fits its block, and no branch goes to an entry block.
+/// The clause that each phi fits its block, and no branch goes to an entry block. A fault is a site.
 struct EdgesFit;
 
 impl<'m> Clause<'m> for EdgesFit {
