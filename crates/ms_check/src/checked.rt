@@ -37,8 +37,8 @@ impl Model for CheckedModule {
 }
 
 impl CheckedModule {
-    /// A module that is known to be valid, which is not checked again. Its code is made, in the time that `check` takes for
-    /// that.
+    /// A module that is known to be valid, as the pass makes it, which is not checked again. Its code is made, in the time that
+    /// `check` takes for that.
     pub fn of_valid(alloc: Global, m: Module) -> Result<CheckedModule, NoMemory>
         requires formed { Formed m }
         requires valid { Valid m }
@@ -48,14 +48,14 @@ impl CheckedModule {
         Ok(CheckedModule { module: m, program })
     }
 
-    /// The module.
+    /// The module, lent.
     pub fn module(&self) -> &Module
         ensures { result.now ≡ self.now }
     {
         &self.module
     }
 
-    /// The module. Takes no memory.
+    /// The module, handed out, without its code. Takes no memory.
     pub fn into_module(self) -> Module
         ensures { result ≡ self }
     {
