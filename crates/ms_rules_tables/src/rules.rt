@@ -9,7 +9,7 @@ use ms_bits::{BinOp, NoMemory};
 use ms_ir::Name;
 use ms_rules_builder::{Builder, Inputs, StackOp, mask_name, origin_name};
 
-// A name of a width gets the word of a rule.
+/// An inserted result with a name and a width gets the word of a rule, which is one step or ends in an operation.
 fn set(
     builder: &mut Builder,
     name: Name,
@@ -56,7 +56,7 @@ pub fn set_mask(
     set(builder, name, width, inputs, rule)
 }
 
-/// The mask of a value, of a width, gets what an operation that may trap makes of the two words that steps leave.
+/// The mask of a value, of a width, gets what an operation that may trap, as a shift, makes of the two words that steps leave.
 pub fn attempt_mask(
     builder: &mut Builder,
     value: u32,
