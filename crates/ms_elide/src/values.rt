@@ -15,7 +15,7 @@ use ms_check_tables::{NameTable, locals_of};
 use ms_ir::{Block, Func, Inst, Name};
 use std::alloc::Global;
 
-/// Whether the local with a name is a member.
+/// Whether the local with a name is a member: clean.
 fn is_member(locals: &NameTable<'_>, members: &[bool], name: &Name) -> bool
     ensures { result ≡ is_member locals.now members.now name.now }
 {

@@ -1,4 +1,4 @@
-//! How many sites and roots stand before a place in a module.
+//! How many sites and roots stand before a place in a module, so that functions can be instrumented each by itself.
 ghost use Rattle.std.specs.{Prelude.{◌≡◌, map, length, IfOk}, List.{range_with_len}};
 ghost use Rattle.ms_check_tables.specs.FirstPlace.{first_place};
 ghost use Rattle.ms_pass.specs.Counted.{past_inst, past_insts, past_blocks, past_funcs, AreSmall};
@@ -14,6 +14,7 @@ use std::alloc::Global;
 #[derive(Clone, Copy)]
 pub struct Counts {
     pub site: u32,
+    /// The number of roots before it.
     pub root: u64,
 }
 

@@ -1,4 +1,4 @@
-//! Phis, which the phis of their masks and origins follow.
+//! Phis of the program, each followed by two that are inserted: one for its mask, one for its origin.
 ghost use Rattle.std.specs.Prelude.{◌≡◌, ◌<◌, ◌≤◌, ◌^◌, [], ◌∷◌, Some, All, length, map, IfOk, OnOk};
 ghost use Rattle.ms_ir.specs.{declared.syntax.Ty.{Int}, Instructions.{count_undefs, operands}, Layout.{width_of}};
 ghost use Rattle.ms_pass_tasks.specs.{Tasks.{inserted, mask_name, origin_name}, Environments.{mask_type}};
@@ -32,7 +32,7 @@ fn put_phi(
     )
 }
 
-/// Adds the phi of the mask of the value with a number.
+/// Adds the phi of the mask of the value with a number, which is a phi with these edges and operands.
 fn put_mask(
     builder: &mut Builder,
     value: u32,
@@ -48,7 +48,7 @@ fn put_mask(
     put_phi(builder, name, width_of(ty), edges)
 }
 
-/// Adds the phi of the origin of the value with a number.
+/// Adds the phi of the origin of the value with a number, which is a phi with these edges and operands.
 fn put_origin(
     builder: &mut Builder,
     value: u32,
@@ -77,7 +77,7 @@ fn put_pair(
     put_origin(builder, value, edges, operands)
 }
 
-/// Adds the phis of the mask and the origin of a phi, where its result has a number.
+/// Adds the phis of the mask and the origin of a phi, where its result has a number: not where it is known to be clean.
 fn push_pair(
     builder: &mut Builder,
     scope: &Scope<'_, '_>,
@@ -99,7 +99,7 @@ fn push_pair(
     }
 }
 
-/// Adds what stands after a phi: the phis of its mask and its origin. Returns how many of its operands are undefined.
+/// Adds what stands after a phi: the phis of its mask and its origin. Returns how many of its operands are undefined: its roots.
 pub fn push_after_phi(
     builder: &mut Builder,
     scope: &Scope<'_, '_>,

@@ -1,6 +1,6 @@
 //! The code that hands over or takes over all arguments of a call, or a result, as lists of marked instructions.
 //!
-//! Numbers are those of inserted results.
+//! Numbers are those of inserted results. A word is given as its type, its mask and its origin.
 ghost use Rattle.std.specs.Prelude.{◌≡◌, ◌<◌, ◌≤◌, ◌+◌, ◌*◌, ◌^◌, length, IfOk, OnOk};
 ghost use Rattle.ms_pass_tasks.specs.{Tasks.{tasks_code}, SlotTasks.{result_mask_slot, result_origin_slot}};
 ghost use Rattle.ms_rules_builder.specs.Made.{with_tasks};
@@ -29,7 +29,7 @@ fn store_word(
     store_origin(builder, place, origin)
 }
 
-/// Hands over those of all arguments.
+/// Hands over the masks and origins of all arguments.
 fn store_words(builder: &mut Builder, args: &[(Ty, Operand, Operand)]) -> Result<(), NoMemory>
     ensures { OnOk result (builder.new ≡ with_tasks builder.old (store_arguments 0 args.now)) }
 {
@@ -39,7 +39,7 @@ fn store_words(builder: &mut Builder, args: &[(Ty, Operand, Operand)]) -> Result
     Ok(())
 }
 
-/// Takes over those of all parameters, as inserted results from `next` on.
+/// Takes over the masks and origins of all parameters, as inserted results from `next` on.
 fn load_words(builder: &mut Builder, params: &[Ty], next: u32) -> Result<(), NoMemory>
     ensures { OnOk result (builder.new ≡ with_tasks builder.old (load_parameters next 0 params.now)) }
 {
