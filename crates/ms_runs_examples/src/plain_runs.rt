@@ -1,5 +1,8 @@
 //! How example modules run: laws about the definitions, computed by the check. The values are worked out by hand from
-//! what docs/DEFINITIONS.md says. `0xa5` is the one byte of the default fill.
+//! what docs/DEFINITIONS.md says. `0xa5` is the one byte of the default fill. `specs/Externals.antt` and `Programs.antt` have the
+//! modules: `calls_on_..` is a `main` that calls an external with these arguments on such memory, and then does the rest.
+//! `Setups.antt` has setups (`defaults`, another fill, input or bound of steps), and what runs return (`exits`, `trapped` at a
+//! site).
 ghost use Rattle.std.specs.Prelude.{◌≡◌, length, [], ◌∷◌, ◌++◌, codes, get_or, Ok, Err, true, false, Some, None};
 ghost use Rattle.ms_bits.specs.declared.traps.Trap.TheVariants as trap;
 ghost use Rattle.ms_runs.specs.declared.runs.End.TheVariants as «end»;
