@@ -29,6 +29,7 @@ impl Model for CheckedModule {
 
     ghost Value = { Module };
 
+    // By which the prover tells values of the model apart.
     ghost coded = { modules.the_row.coded };
 
     ghost view = { λ c. c.module };

@@ -48,6 +48,8 @@ struct NamesKnown<'a, 'm> {
     symbols: &'a NameTable<'m>,
 }
 
+/// Nothing is asked of a function (`Asks`), its tables are its own names (`AreOf`), and it has no fault (`head`) but its
+/// instructions' (`look`): the names there that are missing.
 impl<'a, 'm> Clause<'m> for NamesKnown<'a, 'm> {
     type Tables = NameTable<'m>;
 

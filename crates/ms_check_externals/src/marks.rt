@@ -115,6 +115,8 @@ fn fits(marked: &NameTable<'_>, inst: &Inst) -> bool
 /// The clause that each mark fits. A fault is a site.
 struct MarksFit;
 
+/// Nothing is asked of a function (`Asks`), its tables have its marked results (`AreOf`), and it has no fault (`head`) but its
+/// instructions' (`look`).
 impl<'m> Clause<'m> for MarksFit {
     type Tables = NameTable<'m>;
 

@@ -91,6 +91,8 @@ fn fits(
 /// The clause that each phi fits its block, and no branch goes to an entry block. A fault is a site.
 struct EdgesFit;
 
+/// A function has few blocks (`Asks`), its tables have its edges (`AreOf`), and it has no fault (`head`) but its instructions'
+/// (`look`).
 impl<'m> Clause<'m> for EdgesFit {
     type Tables = Ways<'m>;
 

@@ -55,6 +55,7 @@ impl<'m> Model for Extents<'m> {
 
     ghost Value = { Types };
 
+    // By which the prover tells values of the model apart.
     ghost coded = { Prim.hlevel (codes, coded_ty.the_row.coded) };
 
     ghost view = { λ e. e.kept.types };

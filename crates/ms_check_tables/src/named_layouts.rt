@@ -34,6 +34,7 @@ impl<'m> Model for NamedLayouts<'m> {
 
     ghost Value = { Links };
 
+    // By which the prover tells values of the model apart.
     ghost coded = { Prim.hlevel (codes, coded_ty.the_row.coded) };
 
     ghost view = { λ k. record { types = k.types.now; links = k.links } };

@@ -23,6 +23,8 @@ struct TypesAgree<'a, 'm> {
     symbols: &'a Symbols<'m>,
 }
 
+/// Nothing is asked of a function (`Asks`), its tables have the types of its values (`AreOf`), and it has no fault (`head`) but
+/// its instructions' (`look`).
 impl<'a, 'm> Clause<'m> for TypesAgree<'a, 'm> {
     type Tables = Locals<'m>;
 

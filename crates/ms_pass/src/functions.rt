@@ -119,6 +119,8 @@ struct Functions<'a, 'm> {
     funcs: &'m [Func],
 }
 
+/// The item of a number is the instrumented form of the function with it (`answer`), which can be made where all is known that
+/// the pass asks of it (`can`).
 impl<'a, 'm> Work for Functions<'a, 'm> {
     type Item = Func;
 

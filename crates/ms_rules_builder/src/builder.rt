@@ -38,6 +38,7 @@ impl Model for Builder {
 
     ghost Value = { tasks.InsertedCode };
 
+    // By which the prover tells values of the model apart.
     ghost coded = { code_by (List Inst × ℕ) (coded× (coded_list instruction.the_row.coded) coded_ℕ) (λ c. (c.code, c.next)) (λ p. record { code = p.0; next = p.1 }) (λ _. refl) };
 
     ghost view = { λ c. record { code = c.insts.items; next = c.next } };
