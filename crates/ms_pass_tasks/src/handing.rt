@@ -18,7 +18,8 @@ pub fn law_arguments_arrive()
         → Entered s h env params ps cells }
 {}
 
-/// After a call the mask and the origin of what was returned stand under the names of the call's result.
+/// After a call the mask and the origin of what was returned, which the slots hold (`ReturnFits`), stand under the names of the
+/// call's result.
 pub fn law_result_arrives()
     ensures { (s : Setting) → SlotAddresses s → (h : Here) (env : Env) (size : ℕ) → OneName env
         → (x : Option Name) (ret : Option Ty) → KnownResult env size x → (values : Name → Poisoned) (p : Poisoned) (names : Name → ℕ) (cells : ℕ → ℕ)
