@@ -138,8 +138,8 @@ pub fn output_ends()
     ensures past_the_limit_by_two { (world : World) → length world.output ≡ 1048575 → printed 1 (65 ∷ 66 ∷ []) (Gives 2) world ≡ traps trap.Output 1 world }
 {}
 
-/// Jumps, calls, the stack, and words and globals in memory. `with_globals` has three globals, `a`, one of a named type, and `u`, and
-/// returns the word at an address.
+/// Jumps, calls, the stack, and words and globals in memory. `with_globals` has three globals, among them `a` and `u`, and returns
+/// the word at an address.
 pub fn control_and_memory()
     ensures first_case { plain (chooses 1) defaults ≡ exits 20 }
     ensures second_case { plain (chooses 2) defaults ≡ exits 30 }
@@ -160,8 +160,8 @@ pub fn control_and_memory()
 {}
 
 /// The runtime functions, each in marked calls where eight zero bytes stand on the heap (`on_heap`): `poisons from to origin`
-/// poisons those with these numbers, `looks` checks all eight, of kind 9 and site 77. A report has site, kind, part, mask, width and
-/// origin.
+/// poisons those from one number to below another, `looks` checks all eight, as kind 9 at site 77. A report has site, kind, part,
+/// mask, width and origin.
 pub fn runtime_functions()
     ensures check { plain (on_heap (checks (int 6) 3 (int 4) ∷ [])) defaults ≡ reported (report_unknown 3 1 0 6 3 4) }
     ensures check_of_nothing { plain (on_heap (checks (int 0) 3 (int 4) ∷ [])) defaults ≡ exits 0 }
