@@ -308,7 +308,7 @@ define i32 @main() {
     ),
 ];
 
-/// Globals, declarations and functions with reserved names.
+/// Globals with reserved names, of which the slots alone may stand.
 pub static SLOTS: [Case; 9] = [
     Case(
         r#"@__msan_param_tls = global [ 100 x i64 ] zeroinitializer

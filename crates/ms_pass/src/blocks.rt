@@ -1,4 +1,5 @@
-//! The instrumented form of blocks, one after the other, with the number of the next inserted result.
+//! The instrumented form of blocks, one after the other, with the number of the next inserted result, which stays below 2^40
+//! (`room`).
 ghost use Rattle.std.specs.Prelude.{◌≡◌, ◌+◌, ◌++◌, [], ◌∷◌, ◌<◌, ◌≤◌, ◌^◌, All, length, IfOk, OnOk};
 ghost use Rattle.ms_ir.specs.Instructions.{over_blocks};
 ghost use Rattle.ms_check_valid.specs.Formed.{count_written};

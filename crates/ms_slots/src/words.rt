@@ -1,4 +1,5 @@
-//! The code that puts a word's mask and origin into two slots, or takes them from there.
+//! The code that puts a word's mask and origin into two slots, or takes them from there: inserted stores (`Puts`) and loads
+//! (`Fetches`).
 ghost use Rattle.std.specs.Prelude.{◌≡◌, ◌<◌, ◌+◌, ◌^◌, [], ◌∷◌, OnOk};
 ghost use Rattle.ms_ir.specs.declared.syntax.Ty.{Int};
 ghost use Rattle.ms_pass_tasks.specs.Tasks.{msan_name, Leaf, Fetches, Puts};
