@@ -79,6 +79,7 @@ impl CheckedModule {
     }
 }
 
+/// A copy, whose code is made anew: for a pass that inserts nothing, and tests.
 impl Duplicate for CheckedModule {
     fn copy(&self, alloc: Global) -> Result<Self, NoMemory> {
         CheckedModule::of_valid(alloc, self.module.copy(alloc)?)
@@ -98,9 +99,9 @@ fn code_of(alloc: Global, m: &Module) -> Result<Program, CheckError>
 }
 
 /// Checks a module, as a reader or the pass gives it. Ok only where it is valid. Else the error is the first clause that it
-/// breaks, with the first place in its text, and the module comes back as it was. A valid module is never refused: the error is running out of
-/// memory then, which alone says nothing. `laws::law_one_answer` says that a module has one such error at most, but for the path
-/// of an undefined use.
+/// breaks, with the first place in its text, and the module comes back as it was. A valid module is never refused: the error is
+/// running out of memory then, which alone says nothing. `laws::law_one_answer` says that a module has one such error at most, but
+/// for the path of an undefined use.
 ///
 /// The code of a valid module is made too. The time grows with the size of the module, names being found as `NameTable`
 /// finds them; that of the search for an undefined use also with the number of edges, once for each 64 of a function's

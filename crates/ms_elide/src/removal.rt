@@ -1,5 +1,5 @@
-//! The greatest set in which each item has all that it needs, found by removal. The items are the places of a function's locals, and
-//! the set that of the clean ones.
+//! The greatest set in which each item has all that it needs, found by removal. The items are the places of a function's locals,
+//! and the set that of the clean ones.
 ghost use Rattle.std.specs.Prelude.{◌≡◌, ◌<◌, ◌↔◌, ℕ, [], false, map, is_some, All, Contains, IfOk, OnOk, IsTrue, length, slice_index_or};
 ghost use Rattle.ms_elide.specs.{SelfSupport.{Needs, StaysWithin, IsInGreatest}, Removal.{IsRemoved}};
 

@@ -1,5 +1,5 @@
-//! The clean values of one function: its premises, and what removal leaves. `members` says of each place of a local whether its value
-//! is clean.
+//! The clean values of one function: its premises, and what removal leaves. `members` says of each place of a local whether its
+//! value is clean.
 ghost use Rattle.std.specs.Prelude.{◌≡◌, ◌++◌, ◌↔◌, ℕ, [], false, IfOk, IsTrue, OnOk, filter, map, option_to_list, slice_index_or};
 ghost use Rattle.ms_ir.specs.{declared.syntax.Name.{Name as NameOf}, declared.syntax.Module.{Module}, Equal.{has_name}};
 ghost use Rattle.ms_ir.specs.Locals.{locals, results, func_insts, function_names};

@@ -1,5 +1,5 @@
-//! The two lists of one instruction alone, without its module's other code: what `emit` gives. The pass doesn't call it. Of inserted
-//! results an instruction has at most 200, and 55 for each operand (`room`).
+//! The two lists of one instruction alone, without its module's other code: what `emit` gives. The pass doesn't call it. An
+//! instruction has at most 200 inserted results, and 55 for each operand (`room`).
 ghost use Rattle.std.specs.Prelude.{◌≡◌, ◌+◌, ◌*◌, ◌<◌, ◌≤◌, ◌^◌, false, length, IfOk};
 ghost use Rattle.ms_ir.specs.{Instructions.{is_phi, operands}, Names.{name_eq, main_name}};
 ghost use Rattle.ms_check_tables.specs.FirstPlace.{first_place};

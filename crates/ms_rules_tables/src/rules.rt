@@ -1,5 +1,5 @@
-//! Runs a rule and gives its word a name: the mask of a value, or its origin. `words inputs rule []` are the words that a rule leaves
-//! on an empty stack, and `with_tasks` is the builder with the instructions of some tasks more.
+//! Runs a rule and gives its word a name: the mask of a value, or its origin. `words inputs rule []` are the words that a rule
+//! leaves on an empty stack, and `with_tasks` is the builder with the instructions of these tasks added.
 ghost use Rattle.std.specs.Prelude.{◌≡◌, true, [], ◌∷◌, OnOk};
 ghost use Rattle.ms_ir.specs.declared.syntax.Ty.{Int};
 ghost use Rattle.ms_pass_tasks.specs.Tasks.{Expr, Sets, Tries, mask_name as mask_name_of, origin_name as origin_name_of};
