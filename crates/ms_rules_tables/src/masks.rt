@@ -48,6 +48,7 @@ const UNION: [StackOp; 3] = [Mask(0), Mask(1), OR];
 
 // Of `and`: where both bits are poisoned, or one is and the other word has a defined 1.
 const BOTH: [StackOp; 11] = [
+    // Both may be 1,
     Word(0),
     Mask(0),
     OR,
@@ -55,6 +56,7 @@ const BOTH: [StackOp; 11] = [
     Mask(1),
     OR,
     AND,
+    // and one is poisoned.
     Mask(0),
     Mask(1),
     OR,
@@ -63,6 +65,7 @@ const BOTH: [StackOp; 11] = [
 
 // Of `or`: where both bits are poisoned, or one is and the other word has a defined 0.
 const EITHER: [StackOp; 15] = [
+    // Both may be 0,
     Word(0),
     Ones,
     XOR,
@@ -74,6 +77,7 @@ const EITHER: [StackOp; 15] = [
     Mask(1),
     OR,
     AND,
+    // and one is poisoned.
     Mask(0),
     Mask(1),
     OR,
@@ -82,6 +86,7 @@ const EITHER: [StackOp; 15] = [
 
 // Of `eq` and `ne`: where no bit that is defined in both words differs and some bit is poisoned.
 const SAME: [StackOp; 17] = [
+    // All bits that differ are poisoned,
     Bits(0),
     Bits(1),
     XOR,
@@ -93,6 +98,7 @@ const SAME: [StackOp; 17] = [
     Mask(1),
     OR,
     IS_EQUAL,
+    // and some are.
     Mask(0),
     Mask(1),
     OR,
@@ -151,6 +157,7 @@ const SIGNED_NOT_GREATER: [StackOp; 27] = signed_order!(
 
 /// Of a `select`: with a defined condition the mask of what is chosen, else each bit that differs or is poisoned in one.
 pub const CHOICE: [StackOp; 13] = [
+    // Where the condition is poisoned, what differs or is poisoned,
     Mask(0),
     Bits(1),
     Bits(2),
@@ -159,6 +166,7 @@ pub const CHOICE: [StackOp; 13] = [
     OR,
     Mask(2),
     OR,
+    // else what is chosen.
     Word(0),
     Mask(1),
     Mask(2),
@@ -169,12 +177,14 @@ pub const CHOICE: [StackOp; 13] = [
 /// The words that a shift of the mask takes: with an amount that is defined these are the mask and the amount, else all bits
 /// and 0.
 pub const SHIFT: [StackOp; 12] = [
+    // Where the amount is poisoned all bits, else the mask;
     Mask(1),
     Constant(0),
     IS_OTHER,
     Ones,
     Mask(0),
     PICK,
+    // where it is poisoned 0, else the amount.
     Mask(1),
     Constant(0),
     IS_OTHER,
@@ -200,18 +210,21 @@ const KNOWN_AMOUNT: [StackOp; 3] = [Mask(0), Mask(1), Word(2)];
 
 // The same where the amount may not be known: then all bits of both words.
 const ANY_AMOUNT: [StackOp; 13] = [
+    // Where the amount is poisoned all bits, else the first mask;
     Mask(2),
     Constant(0),
     IS_OTHER,
     Ones,
     Mask(0),
     PICK,
+    // so of the second;
     Mask(2),
     Constant(0),
     IS_OTHER,
     Ones,
     Mask(1),
     PICK,
+    // the amount.
     Word(2),
 ];
 
@@ -269,6 +282,7 @@ const TRAILING_OF_64: [StackOp; 16] = trailing!(127);
 // Of `abs`: with a poisoned sign bit from the lowest bit on that may be 1, of a negative word that of the difference, else
 // the mask itself.
 const ABSOLUTE: [StackOp; 23] = [
+    // Where the sign bit is poisoned, from the lowest bit on that may be 1;
     Mask(0),
     Sign,
     IS_NOT_LESS,
@@ -281,6 +295,7 @@ const ABSOLUTE: [StackOp; 23] = [
     OR,
     SUB,
     OR,
+    // where the word is negative, the mask of 0 minus it,
     Word(0),
     Sign,
     IS_NOT_LESS,
@@ -289,6 +304,7 @@ const ABSOLUTE: [StackOp; 23] = [
     Mask(0),
     SUB,
     OR,
+    // else its own.
     Mask(0),
     PICK,
     PICK,
