@@ -15,7 +15,7 @@ use std::alloc::Global;
 pub struct Counts {
     pub site: u32,
     /// The number of roots before it.
-    pub root: u64,
+    pub roots: u64,
 }
 
 impl Counts {
@@ -26,7 +26,7 @@ impl Counts {
     {
         Counts {
             site: next_site(self.site, inst),
-            root: self.root + root_count(functions, inst),
+            roots: self.roots + root_count(functions, inst),
         }
     }
 
@@ -64,7 +64,7 @@ pub fn counts_before(
     requires { AreSmall (past_funcs (first_place functions.now) no_counts funcs.now) }
     ensures { IfOk result (λ all. all.items ≡ map (before_func (first_place functions.now) funcs.now) (range_with_len 0 (length funcs.now))) }
 {
-    let mut counts = Counts { site: 1, root: 0 };
+    let mut counts = Counts { site: 1, roots: 0 };
     let mut all = Vec::with_capacity(alloc, funcs.len())?;
     for func in funcs {
         all.push(counts)?;
