@@ -31,7 +31,7 @@ pub struct Index<'m> {
     near: Vec<Option<usize>>,
     /// The places of the other numbers.
     numbers: BTreeMap<u32, usize>,
-    /// Texts and their places, as long as they are few, and those that share a mark when the others are marked.
+    /// Texts with their places: all of them while they are few, and later those that got no mark.
     few: Vec<(&'m [u8], usize)>,
     /// The places of the texts by their marks, once there are many: a mark is found at once, and few texts share one.
     marked: Option<Box<Marked<'m>>>,

@@ -1,5 +1,5 @@
 //! The first name that is sought in instructions and their parts: `Search` says which are sought, `Uses` goes through a part.
-//! The clauses of validity that ask for unknown names, and for names out of place in inserted code, each have a `Search`.
+//! The clauses of validity that ask for unknown names, and for inserted names that the program uses, each have a `Search`.
 ghost use Rattle.std.specs.Prelude.{◌≡◌, ◌++◌, [], ◌∷◌, List, map, flat_map, slice_get, option_and_then};
 ghost use Rattle.ms_ir.specs.Instructions.{operands};
 ghost use Rattle.ms_ir.specs.Written.{Mention, OfLocal, type_mentions, operand_mentions, operands_mentions, targets, mentions};
