@@ -3,7 +3,7 @@ ghost use Rattle.std.specs.Prelude.{◌≡◌, ◌<◌, ◌^◌, ℕ, [], ◌∷
 ghost use Rattle.ms_ir.specs.{Places.{HasSmallNumbers}, Equal.{has_name}, Locals.{entry_name}, Spots.{spot}};
 ghost use Rattle.ms_ir.specs.Written.{targets};
 ghost use Rattle.ms_check_valid.specs.PhisFit.{edges_fit, bad_edges};
-ghost use Rattle.ms_check_flow.specs.{Arriving.{AreEdgesOf}, Fitting.{IsClear}, Ways.{AreWaysOf}};
+ghost use Rattle.ms_check_flow.specs.{Arriving.{AreEdgesOf}, Fitting.{IsClear}, PhiTables.{ArePhiTablesOf}};
 
 use crate::edges::{Edges, find_edges};
 use crate::phis::{Notes, fits_row, phi_edges};
@@ -14,7 +14,7 @@ use std::alloc::Global;
 
 /// The edges of a function, and notes on its blocks.
 #[derive(Drop)]
-pub struct Ways<'m> {
+pub struct PhiTables<'m> {
     /// The edges into each block.
     pub into: Edges<'m>,
     /// What is noted while a phi is looked at.
@@ -22,13 +22,13 @@ pub struct Ways<'m> {
 }
 
 /// The edges of a function, and empty notes on its blocks.
-fn find_ways<'m>(alloc: Global, func: &'m Func) -> Result<Ways<'m>, NoMemory>
+fn find_phi_tables<'m>(alloc: Global, func: &'m Func) -> Result<PhiTables<'m>, NoMemory>
     requires { length func.now.blocks < 2 ^ 32 }
-    ensures { IfOk result (AreWaysOf func.now) }
+    ensures { IfOk result (ArePhiTablesOf func.now) }
 {
     let into = find_edges(alloc, func)?;
     let notes = Notes::new(alloc, func.blocks.as_slice().len())?;
-    Ok(Ways { into, notes })
+    Ok(PhiTables { into, notes })
 }
 
 /// The name of the entry block.
@@ -94,13 +94,13 @@ struct EdgesFit;
 /// A function has few blocks (`Asks`), its tables have its edges (`AreOf`), and it has no fault (`head`) but its instructions'
 /// (`look`).
 impl<'m> Clause<'m> for EdgesFit {
-    type Tables = Ways<'m>;
+    type Tables = PhiTables<'m>;
 
     type Fault = u32;
 
     ghost Asks = { λ f. length f.blocks < 2 ^ 32 };
 
-    ghost AreOf = { λ clause f ways. AreWaysOf f ways };
+    ghost AreOf = { λ clause f tables. ArePhiTablesOf f tables };
 
     ghost head = { λ clause f. [] };
 
@@ -110,14 +110,14 @@ impl<'m> Clause<'m> for EdgesFit {
         None
     }
 
-    fn enter(&self, alloc: Global, func: &'m Func) -> Result<Ways<'m>, NoMemory> {
-        find_ways(alloc, func)
+    fn enter(&self, alloc: Global, func: &'m Func) -> Result<PhiTables<'m>, NoMemory> {
+        find_phi_tables(alloc, func)
     }
 
     fn fault(
         &self,
         _alloc: Global,
-        tables: &mut Ways<'m>,
+        tables: &mut PhiTables<'m>,
         here: &InstSite<'m>,
         inst: &'m Inst,
     ) -> Result<Option<u32>, NoMemory> {
