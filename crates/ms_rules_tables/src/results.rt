@@ -90,7 +90,7 @@ fn define_shift(
 }
 
 /// The first two operands alone: those of an operation on two words.
-fn pair<'a, 'm>(operands: &'a [TrackedOperand<'m>]) -> &'a [TrackedOperand<'m>]
+fn first_two<'a, 'm>(operands: &'a [TrackedOperand<'m>]) -> &'a [TrackedOperand<'m>]
     ensures { result.now ≡ take 2 operands.now }
 {
     if operands.len() < 2 {
@@ -110,7 +110,7 @@ fn define_sum(
     ensures { let ts = map tracked_of operands.now in OnOk result (builder.new ≡ with_tasks builder.old (defined value width (first_last ts) (sum_expr width (tracked_at 0 ts ∷ tracked_at 1 ts ∷ [])))) }
 {
     let inputs = Inputs::plain(operands, width, &None);
-    let mask = carry_rule(builder.alloc(), pair(operands), Widening::Own)?;
+    let mask = carry_rule(builder.alloc(), first_two(operands), Widening::Own)?;
     define_joined(builder, value, width, &inputs, mask.as_slice())
 }
 
