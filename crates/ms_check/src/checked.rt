@@ -29,6 +29,7 @@ impl Model for CheckedModule {
 
     ghost Value = { Module };
 
+    // By which the prover tells values of the model apart.
     ghost coded = { modules.the_row.coded };
 
     ghost view = { λ c. c.module };
@@ -37,8 +38,8 @@ impl Model for CheckedModule {
 }
 
 impl CheckedModule {
-    /// A module that is known to be valid, which is not checked again. Its code is made, in the time that `check` takes for
-    /// that.
+    /// A module that is known to be valid, as the pass makes it, which is not checked again. Its code is made, in the time that
+    /// `check` takes for that.
     pub fn of_valid(alloc: Global, m: Module) -> Result<CheckedModule, NoMemory>
         requires formed { Formed m }
         requires valid { Valid m }
@@ -48,14 +49,14 @@ impl CheckedModule {
         Ok(CheckedModule { module: m, program })
     }
 
-    /// The module.
+    /// The module, lent.
     pub fn module(&self) -> &Module
         ensures { result.now ≡ self.now }
     {
         &self.module
     }
 
-    /// The module. Takes no memory.
+    /// The module, handed out, without its code. Takes no memory.
     pub fn into_module(self) -> Module
         ensures { result ≡ self }
     {
@@ -78,6 +79,7 @@ impl CheckedModule {
     }
 }
 
+/// A copy, whose code is made anew: for a pass that inserts nothing, and tests.
 impl Duplicate for CheckedModule {
     fn copy(&self, alloc: Global) -> Result<Self, NoMemory> {
         CheckedModule::of_valid(alloc, self.module.copy(alloc)?)
@@ -97,9 +99,9 @@ fn code_of(alloc: Global, m: &Module) -> Result<Program, CheckError>
 }
 
 /// Checks a module, as a reader or the pass gives it. Ok only where it is valid. Else the error is the first clause that it
-/// breaks, with the first place in its text, and the module comes back as it was. A valid module is never refused: the error is running out of
-/// memory then, which alone says nothing. `laws::law_one_answer` says that a module has one such error at most, but for the path
-/// of an undefined use.
+/// breaks, with the first place in its text, and the module comes back as it was. A valid module is never refused: the error is
+/// running out of memory then, which alone says nothing. `laws::law_one_answer` says that a module has one such error at most, but
+/// for the path of an undefined use.
 ///
 /// The code of a valid module is made too. The time grows with the size of the module, names being found as `NameTable`
 /// finds them; that of the search for an undefined use also with the number of edges, once for each 64 of a function's

@@ -1,4 +1,5 @@
-//! The clauses of a valid module in their order, each tested where those before it hold.
+//! The clauses of a valid module in their order, each tested where those before it hold: `UpTo..` says that the clauses up to one
+//! hold. What a clause finds becomes the `CheckError`.
 ghost use Rattle.std.specs.Prelude.{◌≡◌, [], IfErr, IfSome, OnOk};
 ghost use Rattle.ms_check_valid.specs.{Formed.{Formed}, NamesOnce.{duplicates}};
 ghost use Rattle.ms_check_valid.specs.Refusals.{IsRefused, UpToNames, UpToTypes, UpToPhis, UpToMain, UpToExternals, UpToUses, UpToMarks};
@@ -15,7 +16,7 @@ use ms_check_valid::laws::law_small_numbers;
 use ms_ir::Module;
 use std::alloc::Global;
 
-/// Whether each name is defined once.
+/// Whether no name is defined twice.
 fn names_once(alloc: Global, m: &Module) -> Result<(), CheckError>
     ensures holds { OnOk result (duplicates m.now ≡ []) }
     ensures refused { IfErr result (λ e. IfSome (fault_of e) (IsRefused m.now)) }
@@ -93,7 +94,7 @@ fn has_main(m: &Module) -> Result<(), CheckError>
     }
 }
 
-/// Whether externals are as they are known.
+/// Whether externals, runtime functions and slots have the types that they are known with.
 fn externals_fit(alloc: Global, m: &Module) -> Result<(), CheckError>
     requires { UpToMain m.now }
     ensures holds { OnOk result (UpToExternals m.now) }
@@ -145,9 +146,9 @@ fn sizes_fit(alloc: Global, m: &Module) -> Result<(), CheckError>
 {
     match first_unsized(alloc, m)? {
         None => Ok(()),
-        Some(oversized) => Err(CheckError::BadSize {
-            global: oversized.global,
-            name: oversized.name.copy(alloc)?,
+        Some(fault) => Err(CheckError::BadSize {
+            global: fault.global,
+            name: fault.name.copy(alloc)?,
         }),
     }
 }

@@ -1,4 +1,4 @@
-//! The first name that is defined twice.
+//! The first name that is defined twice: a clause of validity. Names are appended to a table of those seen, in text order.
 ghost use Rattle.std.specs.Prelude.{◌≡◌, ◌++◌, [], ◌∷◌, true, false, option_map, flat_map, None, IfOk, IfNone, slice_get};
 ghost use Rattle.std.specs.Option.{option_copied};
 ghost use Rattle.ms_ir.specs.Locals.{block_locals, locals, type_names, global_names, declared_names};
@@ -10,7 +10,7 @@ use ms_check_tables::{NameTable, Spelled};
 use ms_ir::{Block, Func, Module, Name};
 use std::alloc::Global;
 
-/// A name as it is spelled with `@`, or with `%`.
+/// A name, if there is one, as it is spelled: with `@` if `global`, else with `%`.
 fn spell(global: bool, name: Option<&Name>) -> Option<Spelled<'_>>
     ensures { result ≡ option_map (λ x. record { global = global; name = x }) (option_copied name.entry) }
 {
@@ -64,8 +64,8 @@ fn local_twice(alloc: Global, func: &Func) -> Result<Option<&Name>, NoMemory>
     locals_twice(&mut seen, func)
 }
 
-/// Appends a function's symbol. Returns it where it stands already among those before it, and else the first name
-/// that the function gives twice.
+/// Appends a function's symbol, its own name. Returns it where it stands already among those before it, and else the first
+/// name that the function gives twice.
 fn function_twice<'m>(
     alloc: Global,
     symbols: &mut NameTable<'m>,

@@ -1,4 +1,4 @@
-//! Why a module is not valid.
+//! Why a module is not valid: what `check` answers, and `ms_report` prints as a refusal.
 ghost use Rattle.std.specs.Prelude.{◌≡◌};
 ghost use Rattle.ms_check.specs.declared.errors.CheckError.TheVariants.{NoMemory};
 
@@ -27,6 +27,7 @@ pub enum CheckError {
     },
     /// An operand that hasn't the type that is asked for (LLVM Language Reference, "Instruction Reference", "Constants").
     TypeMismatch {
+        /// 0 for the initialiser of a global.
         site: u32,
         /// The number of the operand, from 0 in written order. The first that is missing where one is, and 0 where the
         /// fault is that of a callee, a result or a case. That of the global where the site is 0.

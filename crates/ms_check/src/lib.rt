@@ -1,5 +1,5 @@
-//! Whether a module is valid, decided in a time near to linear in the module, and modules of which it is known. The clauses
-//! on names stand here: each name is defined once, and each that is used is defined.
+//! Whether a module is valid, decided in a time near to linear in the module, and modules that are known to be (`CheckedModule`).
+//! The clauses on names stand here: each name is defined once, and each that is used is defined.
 #![tactic(auto)]
 
 mod checked;

@@ -1,4 +1,4 @@
-//! The first name that parts of a module give twice.
+//! The first name that parts of a module give twice, for `duplicates.rt`.
 ghost use Rattle.std.specs.Prelude.{◌≡◌, ◌++◌, [], ◌∷◌, filter_map, option_to_list, IfOk, IfNone, slice_get};
 ghost use Rattle.std.specs.Option.{option_copied};
 ghost use Rattle.ms_check_valid.specs.NamesOnce.{repeats};
@@ -32,7 +32,7 @@ pub fn append<'m>(seen: &mut NameTable<'m>, name: &'m Name) -> Result<Option<&'m
     }
 }
 
-/// Appends the names that some parts give, up to the first that stands already among those seen; this one is
+/// Appends the names that parts of one kind give, up to the first that stands already among those seen; this one is
 /// answered.
 pub fn first_twice<'m, T: Named>(
     seen: &mut NameTable<'m>,

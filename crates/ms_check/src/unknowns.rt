@@ -1,4 +1,4 @@
-//! The first name that is used and not defined.
+//! The first name that a module uses and doesn't define: a clause of validity. `Search` and `Clause` are of `ms_check_tables`.
 ghost use Rattle.std.specs.Prelude.{◌≡◌, ◌++◌, [], flat_map, IfOk, slice_get};
 ghost use Rattle.ms_ir.specs.{Locals.{locals, type_names, symbols}, Places.{HasSmallNumbers}, Spots.{found_at_insts}};
 ghost use Rattle.ms_ir.specs.Written.{type_mentions, mentions};
@@ -14,11 +14,14 @@ use ms_check_tables::{
 use ms_ir::{Func, Inst, Module, Name};
 use std::alloc::Global;
 
-/// The names that aren't defined where these are.
+/// What is sought are names that aren't defined: each is looked up in the table of its kind.
 #[derive(Drop)]
 struct UnknownNames<'a, 'm> {
+    /// The named types.
     types: &'a NameTable<'m>,
+    /// The globals, declarations and functions.
     symbols: &'a NameTable<'m>,
+    /// The function's parameters, blocks and results; none outside functions.
     locals: &'a NameTable<'m>,
 }
 
@@ -38,13 +41,15 @@ impl<'a, 'm> Search for UnknownNames<'a, 'm> {
     }
 }
 
-/// Each name that an instruction uses is defined, in a module with these types and symbols.
+/// The clause that each name that an instruction uses is defined, in a module with these types and symbols.
 #[derive(Drop)]
 struct NamesKnown<'a, 'm> {
     types: &'a NameTable<'m>,
     symbols: &'a NameTable<'m>,
 }
 
+/// Nothing is asked of a function (`Asks`), its tables are its own names (`AreOf`), and it has no fault (`head`) but its
+/// instructions' (`look`): the names there that are missing.
 impl<'a, 'm> Clause<'m> for NamesKnown<'a, 'm> {
     type Tables = NameTable<'m>;
 
@@ -101,7 +106,7 @@ fn missing_in_code<'a, 'm>(
     first_fault(alloc, &NamesKnown { types, symbols }, m)
 }
 
-/// The first name that isn't defined in the named types and the globals.
+/// The first name that is used in the definitions of types, or in the globals, and isn't defined.
 fn missing_outside<'a, 'm>(
     alloc: Global,
     types: &'a NameTable<'m>,

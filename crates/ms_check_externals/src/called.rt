@@ -1,4 +1,4 @@
-//! The names of all functions that the calls of a module name.
+//! The names of all functions that the calls of a module name: a declaration that none of them names may be anything.
 ghost use Rattle.std.specs.Prelude.{◌≡◌, ◌++◌, flat_map, filter_map, slice_get, IfOk};
 ghost use Rattle.ms_check_valid.specs.ExternalsFit.{callees, called_names};
 
@@ -7,7 +7,7 @@ use ms_check_tables::{NameTable, Pick, push_code};
 use ms_ir::{Func, Inst, Module, Name, Op};
 use std::alloc::Global;
 
-/// Picks the names that calls have.
+/// Picks the callee of each call.
 struct CalledNames;
 
 impl Pick for CalledNames {

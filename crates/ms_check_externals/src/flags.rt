@@ -1,4 +1,5 @@
-//! Calls of intrinsics with flags that don't fit.
+//! Calls of intrinsics with flags, arguments of type `i1`, that don't fit: `llvm.memcpy` with a true one, which is volatile, or a
+//! flag that isn't written as a number.
 ghost use Rattle.std.specs.{Prelude.{◌≡◌, slice_get}, Option.{option_copied}, List.{list_all}};
 ghost use Rattle.ms_check_valid.specs.ExternalsFit.{is_no_flag, is_number, flag_fits};
 ghost use Rattle.ms_check_externals.specs.Outside.{is_misflagged, flagged_in, flagged_among, flagged_within};
@@ -14,6 +15,7 @@ fn is_no_flag(ty: &Ty, operand: &Operand) -> bool
     !is_int(ty, 1) || is_nought(operand)
 }
 
+/// Whether an operand is written as a number.
 fn is_number(operand: &Operand) -> bool
     ensures { result ≡ is_number operand.now }
 {
@@ -37,6 +39,7 @@ fn flag_fits(external: Option<External>, ty: &Ty, operand: &Operand) -> bool
     }
 }
 
+/// Whether each flag among the arguments of a call is what the external asks of it.
 fn flags_fit(external: Option<External>, args: &[(Ty, Operand)]) -> bool
     ensures { result ≡ list_all (flag_fits external) args.now }
 {
@@ -55,7 +58,7 @@ fn is_misflagged(functions: &NameTable<'_>, callee: &Name, args: &[(Ty, Operand)
     !flags_fit(External::named(callee), args) && !functions.contains(callee)
 }
 
-/// The callee of a call with a flag that doesn't fit.
+/// The callee, if an operation is a call with a flag that doesn't fit.
 fn flagged_in<'m>(functions: &NameTable<'_>, op: &'m Op) -> Option<&'m Name>
     ensures { option_copied result ≡ slice_get (flagged_in functions.now op.now) 0 }
 {

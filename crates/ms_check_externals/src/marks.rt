@@ -1,4 +1,5 @@
-//! The first site where a mark doesn't fit.
+//! The first site where a mark doesn't fit: marks (`!nosanitize`) stand on inserted instructions and on nothing else, and the
+//! program doesn't use what is inserted. A clause of validity.
 ghost use Rattle.std.specs.{Prelude.{◌≡◌, not, [], ◌∷◌, Option, None, if◌then◌else◌, IfOk, slice_get}, List.{list_any}};
 ghost use Rattle.ms_ir.specs.{Names.{is_inserted_name}, Places.{HasSmallNumbers}, Written.{mentions}};
 ghost use Rattle.ms_check_valid.specs.MarksFit.{may_be_marked, all_results, is_inserted, marked_results, mark_fits, bad_marks};
@@ -9,7 +10,7 @@ use ms_check_tables::{Clause, InstSite, NameTable, Pick, Search, Uses, first_fau
 use ms_ir::{Func, Inst, Module, Name, Op, RuntimeFn};
 use std::alloc::Global;
 
-/// The results of marked instructions.
+/// Picks the results of marked instructions.
 struct MarkedResults;
 
 impl Pick for MarkedResults {
@@ -33,9 +34,10 @@ fn marked_results(alloc: Global, func: &Func) -> Result<NameTable<'_>, NoMemory>
     Ok(names)
 }
 
-/// The names of what is inserted into a function with these marked results.
+/// What is sought are names of what is inserted into a function with these marked results.
 #[derive(Drop)]
 struct Inserted<'a, 'm> {
+    /// The names of its marked instructions' results.
     marked: &'a NameTable<'m>,
 }
 
@@ -110,9 +112,11 @@ fn fits(marked: &NameTable<'_>, inst: &Inst) -> bool
     }
 }
 
-/// Each mark fits.
+/// The clause that each mark fits. A fault is a site.
 struct MarksFit;
 
+/// Nothing is asked of a function (`Asks`), its tables have its marked results (`AreOf`), and it has no fault (`head`) but its
+/// instructions' (`look`).
 impl<'m> Clause<'m> for MarksFit {
     type Tables = NameTable<'m>;
 

@@ -1,4 +1,5 @@
-//! The first name that doesn't fit what stands outside of a module.
+//! The first name of a module that doesn't fit what stands outside of it: externals, runtime functions and slots. A clause of
+//! validity.
 ghost use Rattle.std.specs.{Prelude.{◌≡◌, ◌++◌, flat_map, IfOk, slice_get}, Option.{option_copied}};
 ghost use Rattle.ms_ir.specs.{Names.{is_kept}, Locals.{function_names}};
 ghost use Rattle.ms_check_valid.specs.ExternalsFit.{name_unless, global_fits, is_runtime, is_external, decl_fits, called_names, bad_externals};
@@ -55,7 +56,7 @@ fn decl_fits(called: &NameTable<'_>, decl: &Decl) -> bool
     }
 }
 
-/// The first declaration that doesn't fit.
+/// The first declaration that doesn't fit, in a module whose calls name these functions.
 fn first_decl<'m>(called: &NameTable<'_>, decls: &'m [Decl]) -> Option<&'m Name>
     ensures { option_copied result ≡ slice_get (flat_map (λ d. name_unless (decl_fits called.now d) d.name) decls.now) 0 }
 {
@@ -75,7 +76,8 @@ fn is_kept(name: &Name) -> bool
     name.is_reserved() || RuntimeFn::named(name).is_some()
 }
 
-/// A function's name where no function may have it, or else the first callee in it whose flag doesn't fit.
+/// A function's name where no function may have it, or else the first callee in it whose flag doesn't fit. `functions`: the names
+/// that the module defines.
 fn first_in_func<'m>(functions: &NameTable<'_>, func: &'m Func) -> Option<&'m Name>
     ensures { option_copied result ≡ slice_get (func_faults functions.now func.now) 0 }
 {

@@ -1,4 +1,4 @@
-//! The slots, globals that hand masks and origins over at calls.
+//! Whether globals with reserved names are slots: those of the instrumented form, which hand masks and origins over at calls.
 ghost use Rattle.std.specs.{Prelude.{◌≡◌, take, drop}, List.{list_any}};
 ghost use Rattle.ms_ir.specs.{declared.syntax.Ty.{Int as IntType, Array as ArrayType}, Equal.{type_eq}};
 ghost use Rattle.ms_ir.specs.{Names.{slot_name}, Signatures.{variable, slot_globals}};
@@ -18,6 +18,7 @@ fn is_row(ty: &Ty, width: u8) -> bool
     }
 }
 
+/// Whether a slot of parameters begins as `zeroinitializer`.
 fn starts_at_zeros(init: &Init) -> bool
     ensures { result ≡ start_eq init.now initial.Zero }
 {
@@ -37,6 +38,7 @@ pub fn is_nought(operand: &Operand) -> bool
     }
 }
 
+/// Whether a slot of a result begins as the number 0.
 fn starts_at_nought(init: &Init) -> bool
     ensures { result ≡ start_eq init.now (initial.Value (operand.Int 0)) }
 {
@@ -46,7 +48,7 @@ fn starts_at_nought(init: &Init) -> bool
     }
 }
 
-/// Whether a global is a slot of parameters, which has 100 items.
+/// Whether a global is this slot of parameters, which has 100 items of so many bits.
 fn is_row_slot(global: &GlobalVar, slot: Slot, width: u8) -> bool
     ensures { result ≡ slot_eq global.now (variable (slot_name slot) (ArrayType 100 (IntType width)) initial.Zero) }
 {
@@ -56,7 +58,7 @@ fn is_row_slot(global: &GlobalVar, slot: Slot, width: u8) -> bool
         && starts_at_zeros(&global.init)
 }
 
-/// Whether a global is a slot of a result.
+/// Whether a global is this slot of a result, of so many bits.
 fn is_result_slot(global: &GlobalVar, slot: Slot, width: u8) -> bool
     ensures { result ≡ slot_eq global.now (variable (slot_name slot) (IntType width) (initial.Value (operand.Int 0))) }
 {
@@ -66,14 +68,14 @@ fn is_result_slot(global: &GlobalVar, slot: Slot, width: u8) -> bool
         && starts_at_nought(&global.init)
 }
 
-/// Whether a global is one of the slots of parameters.
+/// Whether a global is one of the slots of parameters: for masks, of 64 bits, or origins, of 32.
 fn is_param_slot(global: &GlobalVar) -> bool
     ensures { result ≡ list_any (slot_eq global.now) (take 2 slot_globals) }
 {
     is_row_slot(global, Slot::ParamMasks, 64) || is_row_slot(global, Slot::ParamOrigins, 32)
 }
 
-/// Whether a global is one of the slots of a result.
+/// Whether a global is one of the slots of a result: for its mask or its origin.
 fn is_retval_slot(global: &GlobalVar) -> bool
     ensures { result ≡ list_any (slot_eq global.now) (drop 2 slot_globals) }
 {

@@ -1,7 +1,7 @@
 pub mod Counted
 pub mod Arriving
 pub mod Fitting
-pub mod Ways
+pub mod PhiTables
 pub mod Numbered
 pub mod Noted
 pub mod Asked

@@ -1,4 +1,4 @@
-//! For each block of a function, the blocks from which edges lead to it.
+//! For each block of a function, the blocks from which edges lead to it, against which phis are checked.
 ghost use Rattle.std.specs.Prelude.{◌≡◌, ◌<◌, ◌++◌, ℕ, [], ◌∷◌, length, IfOk, OnOk, slice_set, slice_index_or};
 
 use ms_bits::NoMemory;
@@ -8,6 +8,7 @@ use std::marker::Model;
 /// For each block the numbers of blocks from which edges lead to it, once for each edge. Contracts see the lists.
 #[derive(Drop)]
 pub struct Arrivals {
+    /// One for each block, at its number.
     rows: Vec<Vec<u32>>,
 }
 
@@ -39,7 +40,7 @@ impl Arrivals {
         self.rows.len()
     }
 
-    /// Adds an edge.
+    /// Adds an edge between the blocks with these numbers.
     pub fn add(&mut self, from: u32, to: u32) -> Result<(), NoMemory>
         requires { to < length self.old }
         ensures { OnOk result (self.new ≡ slice_set self.old to (slice_index_or self.old to [] ++ from ∷ [])) }

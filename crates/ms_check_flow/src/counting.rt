@@ -1,4 +1,4 @@
-//! Lists of numbers that hold the same numbers, each as often.
+//! Whether two lists hold the same numbers, each as often: the blocks that a phi names, and those from which edges come.
 ghost use Rattle.std.specs.Prelude.{◌≡◌, ◌+◌, ◌<◌, ◌↔◌, ℕ, false, length, All, IsTrue, slice_index};
 ghost use Rattle.ms_check_flow.specs.Counted.{count_of};
 
@@ -13,7 +13,7 @@ fn count_all(numbers: &[u32], due: &mut [usize])
     }
 }
 
-/// Takes each number off its count. False where one is counted less often.
+/// Takes each number off its count in `due`. False where one was counted less often.
 fn take_off(numbers: &[u32], due: &mut [usize]) -> bool
     requires { All (λ n. n < length due.old) numbers.now }
     ensures enough { IsTrue result → (k : ℕ) → slice_index due.new k + count_of k numbers.now ≡ slice_index due.old k }

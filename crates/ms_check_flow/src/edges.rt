@@ -1,4 +1,4 @@
-//! The edges of a function, by the numbers of its blocks.
+//! The edges between the blocks of a function, by the numbers of the blocks: one for each label that a terminator names.
 ghost use Rattle.std.specs.Prelude.{◌≡◌, ◌<◌, ◌^◌, ℕ, [], ◌∷◌, length, map, IfOk, OnOk, slice_index_or};
 ghost use Rattle.ms_ir.specs.{Written.{block_targets}, Locals.{block_names}};
 ghost use Rattle.ms_check_valid.specs.FlowGraph.{name_place};
@@ -14,11 +14,13 @@ use std::alloc::Global;
 /// The blocks of a function by their names, and the edges into each.
 #[derive(Drop)]
 pub struct Edges<'m> {
+    /// The names of the blocks, which number them.
     pub blocks: Names<'m>,
+    /// For each block the blocks from which edges lead to it.
     pub arrivals: Arrivals,
 }
 
-/// Adds the edge from a block to the block with a number; none where no block has it.
+/// Adds the edge between the blocks with these numbers; none where no block has the number `to`.
 fn add_edge(from: u32, to: u32, arrivals: &mut Arrivals) -> Result<(), NoMemory>
     ensures { OnOk result (Joined (edges_to from (to ∷ [])) arrivals.old arrivals.new) }
 {
@@ -28,7 +30,7 @@ fn add_edge(from: u32, to: u32, arrivals: &mut Arrivals) -> Result<(), NoMemory>
     Ok(())
 }
 
-/// Adds the edges from a block to the blocks with numbers.
+/// Adds the edges from the block with the number `from` to those with the numbers `targets`.
 fn add_edges(from: u32, targets: &[u32], arrivals: &mut Arrivals) -> Result<(), NoMemory>
     ensures { OnOk result (Joined (edges_to from targets.now) arrivals.old arrivals.new) }
 {
@@ -38,7 +40,7 @@ fn add_edges(from: u32, targets: &[u32], arrivals: &mut Arrivals) -> Result<(), 
     Ok(())
 }
 
-/// Adds the edges from a block.
+/// Adds the edges from a block to those that its terminator names.
 fn add_block(
     alloc: Global,
     blocks: &Names<'_>,
@@ -69,7 +71,7 @@ fn find_arrivals(alloc: Global, func: &Func, blocks: &Names<'_>) -> Result<Arriv
     Ok(arrivals)
 }
 
-/// The edges of a function.
+/// The edges of a function, with its blocks by their names.
 pub fn find_edges<'m>(alloc: Global, func: &'m Func) -> Result<Edges<'m>, NoMemory>
     requires { length func.now.blocks < 2 ^ 32 }
     ensures { IfOk result (AreEdgesOf func.now) }

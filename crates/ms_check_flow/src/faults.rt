@@ -1,9 +1,9 @@
-//! The first phi or branch at fault.
+//! The first phi or branch at fault, for `ms_check`: phis are held against the edges into their blocks.
 ghost use Rattle.std.specs.Prelude.{◌≡◌, ◌<◌, ◌^◌, ℕ, [], ◌∷◌, length, map, IsTrue, IfOk, slice_get, if◌then◌else◌};
 ghost use Rattle.ms_ir.specs.{Places.{HasSmallNumbers}, Equal.{has_name}, Locals.{entry_name}, Spots.{spot}};
 ghost use Rattle.ms_ir.specs.Written.{targets};
 ghost use Rattle.ms_check_valid.specs.PhisFit.{edges_fit, bad_edges};
-ghost use Rattle.ms_check_flow.specs.{Arriving.{AreEdgesOf}, Fitting.{IsClear}, Ways.{AreWaysOf}};
+ghost use Rattle.ms_check_flow.specs.{Arriving.{AreEdgesOf}, Fitting.{IsClear}, PhiTables.{ArePhiTablesOf}};
 
 use crate::edges::{Edges, find_edges};
 use crate::phis::{Notes, fits_row, phi_edges};
@@ -14,19 +14,21 @@ use std::alloc::Global;
 
 /// The edges of a function, and notes on its blocks.
 #[derive(Drop)]
-pub struct Ways<'m> {
+pub struct PhiTables<'m> {
+    /// The edges into each block.
     pub into: Edges<'m>,
+    /// What is noted while a phi is looked at.
     pub notes: Notes,
 }
 
-/// The edges of a function, and notes on its blocks.
-fn find_ways<'m>(alloc: Global, func: &'m Func) -> Result<Ways<'m>, NoMemory>
+/// The edges of a function, and empty notes on its blocks.
+fn find_phi_tables<'m>(alloc: Global, func: &'m Func) -> Result<PhiTables<'m>, NoMemory>
     requires { length func.now.blocks < 2 ^ 32 }
-    ensures { IfOk result (AreWaysOf func.now) }
+    ensures { IfOk result (ArePhiTablesOf func.now) }
 {
     let into = find_edges(alloc, func)?;
     let notes = Notes::new(alloc, func.blocks.as_slice().len())?;
-    Ok(Ways { into, notes })
+    Ok(PhiTables { into, notes })
 }
 
 /// The name of the entry block.
@@ -61,7 +63,8 @@ fn goes_to(op: &Op, name: &Name) -> bool
     }
 }
 
-/// Whether an instruction of the block with a number fits.
+/// Whether an instruction of the block with a number fits: a phi has an operand for each edge into the block, and no branch
+/// goes to the entry block.
 fn fits(
     func: &Func,
     into: &Edges<'_>,
@@ -85,17 +88,19 @@ fn fits(
     }
 }
 
-/// Each phi fits its block, and no branch goes to an entry block.
+/// The clause that each phi fits its block, and no branch goes to an entry block. A fault is a site.
 struct EdgesFit;
 
+/// A function has few blocks (`Asks`), its tables have its edges (`AreOf`), and it has no fault (`head`) but its instructions'
+/// (`look`).
 impl<'m> Clause<'m> for EdgesFit {
-    type Tables = Ways<'m>;
+    type Tables = PhiTables<'m>;
 
     type Fault = u32;
 
     ghost Asks = { λ f. length f.blocks < 2 ^ 32 };
 
-    ghost AreOf = { λ clause f ways. AreWaysOf f ways };
+    ghost AreOf = { λ clause f tables. ArePhiTablesOf f tables };
 
     ghost head = { λ clause f. [] };
 
@@ -105,14 +110,14 @@ impl<'m> Clause<'m> for EdgesFit {
         None
     }
 
-    fn enter(&self, alloc: Global, func: &'m Func) -> Result<Ways<'m>, NoMemory> {
-        find_ways(alloc, func)
+    fn enter(&self, alloc: Global, func: &'m Func) -> Result<PhiTables<'m>, NoMemory> {
+        find_phi_tables(alloc, func)
     }
 
     fn fault(
         &self,
         _alloc: Global,
-        tables: &mut Ways<'m>,
+        tables: &mut PhiTables<'m>,
         here: &InstSite<'m>,
         inst: &'m Inst,
     ) -> Result<Option<u32>, NoMemory> {

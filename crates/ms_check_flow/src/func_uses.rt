@@ -1,4 +1,4 @@
-//! The uses of values in a function, in text order, with the blocks that they are in.
+//! The uses of values in a function, in text order, with the blocks that they are in: what `ms_flow` is asked about.
 ghost use Rattle.std.specs.Prelude.{◌≡◌, ◌++◌, ◌+◌, ◌<◌, ◌^◌, [], map, length, option_to_list, IfOk, OnOk};
 ghost use Rattle.ms_ir.specs.Instructions.{one_unmarked, over_insts, over_blocks};
 ghost use Rattle.ms_check_valid.specs.FlowGraph.{value_names, graph_of};
@@ -22,7 +22,7 @@ pub struct FuncUses {
     pub noted: Vec<NotedUse>,
 }
 
-/// Appends the name of an instruction's result, if it has one.
+/// Appends the name of an instruction's result, if it has one, to those that were seen in its block.
 fn push_result<'m>(seen: &mut NameTable<'m>, inst: &'m Inst) -> Result<(), NoMemory>
     ensures { OnOk result (seen.new ≡ seen.old ++ option_to_list inst.now.result) }
 {

@@ -11,7 +11,7 @@ use ms_flow::Graph;
 use ms_ir::{Func, Inst};
 use std::alloc::Global;
 
-/// The numbers of the blocks to which instructions may go.
+/// The numbers of the blocks to which the instructions of a block may go, once for each edge.
 pub fn next_of(alloc: Global, blocks: &Names<'_>, insts: &[Inst]) -> Result<List<u32>, NoMemory>
     ensures { IfOk result (λ next. next ≡ map (name_place blocks.now) (flat_map (λ inst. targets inst.op) insts.now)) }
 {

@@ -1,4 +1,4 @@
-//! The uses of one instruction.
+//! The uses of values by one instruction, as `ms_flow` asks about them: by the numbers of block and value.
 ghost use Rattle.std.specs.Prelude.{◌≡◌, ◌++◌, flat_map, map, option_to_list, slice_get, OnOk};
 ghost use Rattle.ms_ir.specs.Instructions.{operands};
 ghost use Rattle.ms_check_flow.specs.Noted.{value_here, operand_here, edge_here, op_here};
@@ -19,7 +19,7 @@ pub struct NotedUse {
     pub place: Use,
 }
 
-/// Where an instruction stands.
+/// Where an instruction stands that uses values.
 #[derive(Drop)]
 pub struct UseSite<'a, 'm> {
     /// The numbers of its function.
@@ -33,7 +33,7 @@ pub struct UseSite<'a, 'm> {
 }
 
 impl UseSite<'_, '_> {
-    /// Notes the use of a value in a block, `after` its definition there if there is one, unless it is a parameter.
+    /// Notes the use of a value in a block, unless it is a parameter. `after`: behind the definition in this block, if it has one.
     fn note(
         &self,
         block: u32,

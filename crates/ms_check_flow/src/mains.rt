@@ -1,4 +1,4 @@
-//! The function with which a run begins.
+//! Whether a module has the function with which a run begins.
 ghost use Rattle.std.specs.Prelude.{◌≡◌, Some};
 ghost use Rattle.ms_ir.specs.{declared.syntax.Ty.{Int}, Equal.{result_type_eq}};
 ghost use Rattle.ms_check_valid.specs.HasMain.{is_main, defines_main};

@@ -1,4 +1,4 @@
-//! The numbers of a function's blocks and values.
+//! The numbers of a function's blocks and values, by which its graph names them.
 ghost use Rattle.std.specs.Prelude.{◌≡◌, ◌+◌, ◌<◌, ◌^◌, ◌++◌, [], ◌∷◌, flat_map, length, IfOk, OnOk};
 ghost use Rattle.ms_ir.specs.Locals.{block_locals, block_names, results};
 ghost use Rattle.ms_check_valid.specs.FlowGraph.{value_names};

@@ -24,7 +24,7 @@ pub struct Notes {
 }
 
 impl Notes {
-    /// Notes on so many blocks.
+    /// Notes on so many blocks, before a phi is looked at.
     pub fn new(alloc: Global, blocks: usize) -> Result<Notes, NoMemory>
         ensures { IfOk result (IsClear blocks) }
     {
@@ -38,7 +38,7 @@ impl Notes {
     }
 }
 
-/// The edges of a phi.
+/// The edges of a phi, each an operand and the block that it comes from; none of another instruction.
 pub fn phi_edges(op: &Op) -> Option<&[(Operand, Name)]>
     ensures { MatchOption result (is_phi op.now ≡ false) (λ edges. (t : TyOf) × (op.now ≡ opcode.Phi t edges.now)) }
 {
@@ -48,7 +48,7 @@ pub fn phi_edges(op: &Op) -> Option<&[(Operand, Name)]>
     }
 }
 
-/// Puts down the numbers of the blocks that edges name, in place of those that were there.
+/// Puts down the numbers of the blocks that a phi's edges name, in place of those that were in `labels`.
 fn put_labels(
     blocks: &Names<'_>,
     edges: &[(Operand, Name)],
@@ -63,7 +63,8 @@ fn put_labels(
     Ok(())
 }
 
-/// Whether edges that name the same block have the same operand.
+/// Whether those of a phi's edges that name the same block have the same operand. `numbers` are the blocks that they name; `last`
+/// has for each block the place of its last edge, and may hold anything before.
 fn operands_agree(edges: &[(Operand, Name)], numbers: &[u32], last: &mut [usize]) -> bool
     requires len { length numbers.now ≡ length edges.now }
     requires below { All (λ n. n < length last.old) numbers.now }
@@ -92,7 +93,7 @@ fn all_below(len: usize, numbers: &[u32]) -> bool
     true
 }
 
-/// Whether the edges of a phi are those into the block with a number.
+/// Whether the edges of a phi are those into its block, which has the number `to`. `into`: all edges of the function.
 pub fn fits_row(
     into: &Edges<'_>,
     notes: &mut Notes,

@@ -1,4 +1,4 @@
-//! The first use that isn't defined on every path.
+//! The first use of a value that isn't defined on every path to it, for `ms_check`; `ms_flow` finds it in a graph of numbers.
 ghost use Rattle.std.specs.Prelude.{◌≡◌, ◌≢◌, ◌+◌, ◌<◌, ◌^◌, ◌↔◌, length, map, take, slice_get, IfOk, IfNone, IfSome, IsNone, OnOk, All, AllPairs};
 ghost use Rattle.ms_flow.specs.{Paths.{IsDefined, Misses}, Search.{StaysIn}};
 ghost use Rattle.ms_ir.specs.Instructions.{one_unmarked, over_blocks};
@@ -24,7 +24,7 @@ pub struct Undefined {
     pub path: List<u32>,
 }
 
-/// The first of the uses that are asked about that isn't defined, and a path to it.
+/// The first of a function's uses that isn't defined, by its number (`which`), and a path to it that misses a definition.
 fn first_missing(alloc: Global, asked: &FuncUses) -> Result<Option<Missing>, NoMemory>
     requires same_length { length asked.now.graph.next ≡ length asked.now.graph.defs }
     requires successors { StaysIn asked.now.graph }
@@ -42,7 +42,7 @@ fn first_missing(alloc: Global, asked: &FuncUses) -> Result<Option<Missing>, NoM
     missing(alloc, &asked.graph, &uses)
 }
 
-/// The noted use of which an answer tells.
+/// The use of which an answer of `ms_flow` tells, with its site.
 fn undefined_at(noted: &[NotedUse], missing: Missing) -> Undefined
     requires { missing.which < length noted.now }
     ensures site { IfSome (slice_get noted.now missing.which) (λ u. result.site ≡ u.site) }

@@ -1,4 +1,4 @@
-//! How many names a function defines.
+//! How many names a function defines: for the compiler, which makes a frame with a value for each.
 ghost use Rattle.std.specs.Prelude.{◌≡◌, ◌+◌, length, option_to_list, filter_map, flat_map, IfOk};
 ghost use Rattle.ms_ir.specs.Locals.{block_locals, locals};
 
@@ -21,7 +21,7 @@ fn list_given<'m, T: Named>(names: &mut Vec<&'m Name>, part: &'m T) -> Result<()
     }
 }
 
-/// Lists the names that some parts give.
+/// Lists the names that parts of a function give: parameters, or the instructions of a block.
 fn list_all<'m, T: Named>(names: &mut Vec<&'m Name>, parts: &'m [T]) -> Result<(), NoMemory>
     ensures { IfOk result (λ _. length names.new.items ≡ length names.old.items + length (filter_map T.name_of parts.now)) }
 {

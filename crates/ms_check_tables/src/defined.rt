@@ -1,4 +1,4 @@
-//! The names that a module and a function define.
+//! Tables of the names that a module and a function define.
 ghost use Rattle.std.specs.Prelude.{◌≡◌, ◌++◌, option_to_list, filter_map, flat_map, IfOk};
 ghost use Rattle.ms_ir.specs.Locals.{block_locals, locals, parameter_names, block_names, function_names, type_names, global_names, declared_names, symbols};
 
@@ -21,7 +21,7 @@ fn push_given<'m, T: Named>(names: &mut NameTable<'m>, part: &'m T) -> Result<()
     }
 }
 
-/// Appends the names that some parts give.
+/// Appends the names that parts of one kind give.
 fn push_all<'m, T: Named>(names: &mut NameTable<'m>, parts: &'m [T]) -> Result<(), NoMemory>
     ensures { IfOk result (λ _. names.new ≡ names.old ++ filter_map T.name_of parts.now) }
 {
@@ -31,7 +31,7 @@ fn push_all<'m, T: Named>(names: &mut NameTable<'m>, parts: &'m [T]) -> Result<(
     Ok(())
 }
 
-/// The names that some parts give.
+/// The names that parts of one kind give, as all parameters of a function.
 pub fn names_of<'m, T: Named>(alloc: Global, parts: &'m [T]) -> Result<NameTable<'m>, NoMemory>
     ensures { IfOk result (λ names. names ≡ filter_map T.name_of parts.now) }
 {
@@ -110,7 +110,7 @@ fn push_callees<'m>(names: &mut NameTable<'m>, m: &'m Module) -> Result<(), NoMe
     push_all(names, m.funcs.as_slice())
 }
 
-/// The names of a module's globals, declarations and functions.
+/// The names of a module's globals, declarations and functions, which are written with `@`.
 pub fn symbols_of(alloc: Global, m: &Module) -> Result<NameTable<'_>, NoMemory>
     ensures { IfOk result (λ names. names ≡ symbols m.now) }
 {

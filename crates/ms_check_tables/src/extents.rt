@@ -11,7 +11,7 @@ use ms_ir::{Module, Name, Ty};
 use std::alloc::Global;
 use std::marker::Model;
 
-/// The size in a layout, where there is one and it is at most the greatest.
+/// The size in a layout, where there is one and the size is at most `LARGEST`, the greatest that a type may have.
 fn small_size(layout: Option<Layout>) -> Option<u64>
     ensures { (o : Option Extent) → option_map as_extent layout ≡ option_map limit_extent o → result ≡ size_within o }
 {
@@ -27,7 +27,7 @@ fn small_size(layout: Option<Layout>) -> Option<u64>
     }
 }
 
-/// The alignment in a layout, and 1 where there is none.
+/// The alignment in a layout in bytes, and 1 where there is none.
 fn align_in_layout(layout: Option<Layout>) -> u64
     requires { IfSome layout IsLayout }
     ensures positive { 1 ≤ result }
@@ -44,6 +44,7 @@ fn align_in_layout(layout: Option<Layout>) -> u64
 /// once for each link of the longest chain that is allowed. Contracts see the named types.
 #[derive(Drop)]
 pub struct Extents<'m> {
+    /// The layouts of the named types, by chains of up to 32 links.
     kept: NamedLayouts<'m>,
 }
 
@@ -54,6 +55,7 @@ impl<'m> Model for Extents<'m> {
 
     ghost Value = { Types };
 
+    // By which the prover tells values of the model apart.
     ghost coded = { Prim.hlevel (codes, coded_ty.the_row.coded) };
 
     ghost view = { λ e. e.kept.types };

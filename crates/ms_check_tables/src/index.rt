@@ -1,5 +1,6 @@
 //! The search structure under `NameTable` and `Names`: a place for each name, whether it is a number or a text, found without a
-//! walk over the names. A text's mark is its hash: of the texts that share one the first is found by it, the others in a tree.
+//! walk over the names. A text's mark is its hash (no instruction's mark): of the texts that share one the first is found by it,
+//! the others in a tree. Numbers that ascend are found in a list, the others in a tree.
 ghost use Rattle.std.specs.Prelude.{◌≡◌, ◌≤◌, ◌+◌, ◌-◌, ℕ, None, Some, IsTrue, if◌then◌else◌, length, slice_get, IfErr, IfNone, IfOk, IfSome, OnErr, OnOk};
 ghost use Rattle.ms_ir.specs.{declared.syntax.Name.{Name}, declared.syntax.Name.TheVariants.{Number, Text}};
 ghost use Rattle.ms_ir.specs.Names.{name_eq};
@@ -18,7 +19,7 @@ const MOST_MISSING: usize = 16;
 /// The most texts that are compared one by one. So few take one block of the heap, and no mark is counted.
 const FEW: usize = 4;
 
-/// For each mark of a text the first text with that mark, and its place.
+/// For each mark the first text with that mark, and its place.
 type Marked<'m> = HashMap<u64, (&'m [u8], usize)>;
 
 /// A place for each name that was put in.
@@ -30,7 +31,7 @@ pub struct Index<'m> {
     near: Vec<Option<usize>>,
     /// The places of the other numbers.
     numbers: BTreeMap<u32, usize>,
-    /// The places of few texts.
+    /// Texts with their places: all of them while they are few, and later those that got no mark.
     few: Vec<(&'m [u8], usize)>,
     /// The places of the texts by their marks, once there are many: a mark is found at once, and few texts share one.
     marked: Option<Box<Marked<'m>>>,
@@ -38,7 +39,7 @@ pub struct Index<'m> {
     texts: BTreeMap<&'m [u8], usize>,
 }
 
-/// Lengthens a list of places by numbers that are missing.
+/// Lengthens a list of places by so many numbers that are missing, which have none.
 #[tactic(auto, using(crate::proofs::Near::none_added))]
 fn push_missing(places: &mut Vec<Option<usize>>, count: usize) -> Result<(), NoMemory>
     ensures { (first n : ℕ) → place_from first places.new.items n ≡ place_from first places.old.items n }
@@ -58,7 +59,7 @@ fn mark_of(text: &[u8]) -> u64
     hasher.finish()
 }
 
-/// What stands at a place of a list, where it is taken.
+/// What stands at a place of a list of places: none where it isn't taken, or past the end.
 fn taken(places: &[Option<usize>], place: usize) -> Option<usize>
     ensures { result ≡ taken_at places.now place }
 {
@@ -111,7 +112,7 @@ impl<'m> Index<'m> {
         }
     }
 
-    /// The place of a text, if it is the first with its mark.
+    /// The place of a text, if it is the first with its mark: that which is found by its hash.
     fn marked_place(&self, text: &[u8]) -> Option<usize>
         ensures { result ≡ place_marked self.now.marked text.now }
     {
@@ -214,7 +215,7 @@ impl<'m> Index<'m> {
         Ok(())
     }
 
-    /// Puts in a number that isn't.
+    /// Puts in a number that isn't the next of those near the first: into the tree.
     fn insert_other(&mut self, number: u32, place: usize) -> Result<(), NoMemory>
         requires { place_in self.old (Number number) ≡ None }
         ensures placed { OnOk result ((x : Name) → place_in self.new x ≡ (if name_eq (Number number) x then Some place else place_in self.old x)) }
@@ -354,7 +355,7 @@ impl<'m> Index<'m> {
         Ok(())
     }
 
-    /// The place of a text that isn't the first with its mark; where it has none, the answer is what is given with it.
+    /// The place of a text that isn't the first with its mark; where it has none, the answer is `mark`, which is handed through.
     fn seek_further(&self, text: &[u8], mark: Option<u64>) -> Result<usize, Option<u64>>
         requires { place_marked self.now.marked text.now ≡ None }
         ensures placed { IfOk result (λ place. place_in self.now (Text text.now) ≡ Some place) }
@@ -367,7 +368,7 @@ impl<'m> Index<'m> {
         }
     }
 
-    /// The place of a text, or else its mark, where it is to be found by that.
+    /// The place of a text. Where it has none: its mark if no text has that yet, so that it can be put in under it, else `None`.
     fn seek(&self, text: &[u8]) -> Result<usize, Option<u64>>
         ensures placed { IfOk result (λ place. place_in self.now (Text text.now) ≡ Some place) }
         ensures absent { OnErr result (place_in self.now (Text text.now) ≡ None) }
@@ -391,7 +392,7 @@ impl<'m> Index<'m> {
         }
     }
 
-    /// Puts in a text that has no place yet, with its mark where no text has that.
+    /// Puts in a text that has no place yet, under `mark` where that is given, as no text has it.
     fn insert_text(
         &mut self,
         text: &'m [u8],

@@ -1,4 +1,4 @@
-//! Which names are picked out of instructions: labels, callees.
+//! Tables of names that are picked out of instructions: the labels of phis, and what a `Pick` asks for, as callees are.
 ghost use Rattle.std.specs.Prelude.{◌≡◌, ◌++◌, Option, option_to_list, map, filter_map, flat_map, IfOk};
 ghost use Rattle.std.specs.Option.{option_copied};
 ghost use Rattle.ms_ir.specs.{declared.syntax.Inst.{Inst}, declared.syntax.Name.{Name}};
@@ -21,6 +21,7 @@ pub fn labels_of<'m>(alloc: Global, edges: &'m [(Operand, Name)]) -> Result<Name
 
 /// A name that is picked out of each instruction that has it.
 pub trait Pick {
+    /// The name that is picked out of an instruction.
     ghost picked: { Self → Inst → Option Name };
 
     /// The name, if the instruction has it.

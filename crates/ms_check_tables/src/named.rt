@@ -1,4 +1,4 @@
-//! The trait of what has a name in a module: a function, a parameter, a type.
+//! The trait of what gives a name in a module: a function, a parameter, a type; an instruction with a result.
 ghost use Rattle.std.specs.{Prelude.{◌≡◌, Some, Option}, Option.{option_copied}};
 ghost use Rattle.ms_ir.specs.declared.syntax.Name.{Name};
 
@@ -6,6 +6,7 @@ use ms_ir::{Block, Decl, Func, GlobalVar, Inst, Name, Ty};
 
 /// A part of a module that may give a name.
 pub trait Named {
+    /// The name that the part gives.
     ghost name_of: { Self → Option Name };
 
     /// The name, if it gives one.
@@ -13,6 +14,7 @@ pub trait Named {
         ensures { option_copied result ≡ name_of self.now };
 }
 
+/// A named type.
 impl Named for (Name, Ty) {
     ghost name_of = { λ t. Some t.0 };
 
@@ -37,6 +39,7 @@ impl Named for Decl {
     }
 }
 
+/// A parameter.
 impl Named for (Ty, Name) {
     ghost name_of = { λ p. Some p.1 };
 
@@ -61,6 +64,7 @@ impl Named for Block {
     }
 }
 
+/// An instruction gives the name of its result.
 impl Named for Inst {
     ghost name_of = { λ inst. inst.result };
 

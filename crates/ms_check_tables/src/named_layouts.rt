@@ -1,4 +1,4 @@
-//! The layouts of named types, each kept, where chains of named types are at most so long.
+//! The layouts of named types, each kept, where chains of named types are at most so long: under `Extents`.
 //!
 //! A chain of one more link is laid out from the layouts of those that are shorter, so a named type is looked up
 //! at its mention, and not laid out again.
@@ -21,7 +21,9 @@ use std::marker::Model;
 pub struct NamedLayouts<'m> {
     types: &'m [(Name, Ty)],
     names: NameTable<'m>,
+    /// The most links that a chain may have.
     links: u32,
+    /// In the order of the types; none where a longer chain begins in one, or it holds itself.
     layouts: Vec<Option<Layout>>,
 }
 
@@ -32,6 +34,7 @@ impl<'m> Model for NamedLayouts<'m> {
 
     ghost Value = { Links };
 
+    // By which the prover tells values of the model apart.
     ghost coded = { Prim.hlevel (codes, coded_ty.the_row.coded) };
 
     ghost view = { λ k. record { types = k.types.now; links = k.links } };
@@ -39,7 +42,7 @@ impl<'m> Model for NamedLayouts<'m> {
     ghost invariant = { λ k. IsKept k.types.now k.names k.links k.layouts.items };
 }
 
-/// No layout, for each of some named types.
+/// For each of some named types that it has no layout yet.
 fn no_layouts(alloc: Global, types: &[(Name, Ty)]) -> Result<Vec<Option<Layout>>, NoMemory>
     ensures { IfOk result (λ rows. rows.items ≡ map (λ t. None) types.now) }
 {
@@ -47,7 +50,7 @@ fn no_layouts(alloc: Global, types: &[(Name, Ty)]) -> Result<Vec<Option<Layout>>
 }
 
 impl<'m> NamedLayouts<'m> {
-    /// Chains of no link, so no named type has a layout.
+    /// Begins with chains of no link, so no named type has a layout.
     pub fn new(alloc: Global, types: &'m [(Name, Ty)]) -> Result<NamedLayouts<'m>, NoMemory>
         ensures { IfOk result (λ k. k ≡ links_of types.now 0) }
     {
@@ -75,7 +78,7 @@ impl<'m> NamedLayouts<'m> {
         }
     }
 
-    /// The layouts of the named types where chains have one link more.
+    /// The layouts of the named types where chains may have one link more.
     fn lay_out(&self, alloc: Global) -> Result<Vec<Option<Layout>>, NoMemory>
         ensures is { IfOk result (λ rows. laid_rows rows.items ≡ map (λ t. option_map limit_extent (type_extent (named_extent (lookup self.now.types) self.now.links) t.1)) self.now.types) }
         ensures layouts { IfOk result (λ rows. All (λ row. IfSome row IsLayout) rows.items) }

@@ -1,4 +1,4 @@
-//! Blocks and other names by their numbers.
+//! Blocks and other names by their numbers, which are their places in a table: for graphs and the compiler.
 ghost use Rattle.std.specs.Prelude.{◌≡◌, ◌<◌, ◌^◌, length, IfOk};
 ghost use Rattle.ms_check_valid.specs.FlowGraph.{name_place};
 ghost use Rattle.ms_ir.specs.Locals.{block_names};

@@ -1,4 +1,4 @@
-//! The first name that is sought in types, operands and initialisers.
+//! The first name that is sought in types, operands and initialisers. Which are sought, as the unknown ones, `Search` says.
 ghost use Rattle.std.specs.Prelude.{◌≡◌, ◌++◌, [], ◌∷◌, Bool, flat_map};
 ghost use Rattle.ms_ir.specs.Written.{Mention, OfType, OfLocal, OfGlobal, type_mentions, operand_mentions, init_mentions};
 ghost use Rattle.ms_check_tables.specs.Sought.{first_sought};
@@ -7,19 +7,20 @@ use crate::spelled::Spelled;
 use ms_bits::List;
 use ms_ir::{Init, Name, Operand, Ty};
 
-/// Which names are sought, where they are used.
+/// Which names are sought, where they are used. A name is asked for by its kind.
 pub trait Search {
+    /// Whether a name that is used is sought.
     ghost sought: { Self → Mention → Bool };
 
-    /// Whether a type's name is.
+    /// Whether a type's name is sought.
     fn seeks_type(&self, name: &Name) -> bool
         ensures { result ≡ sought self.now (OfType name.now) };
 
-    /// Whether a parameter's, a block's or a result's name is.
+    /// Whether a parameter's, a block's or a result's name is sought.
     fn seeks_local(&self, name: &Name) -> bool
         ensures { result ≡ sought self.now (OfLocal name.now) };
 
-    /// Whether a global's, a declaration's or a function's name is.
+    /// Whether a global's, a declaration's or a function's name is sought.
     fn seeks_global(&self, name: &Name) -> bool
         ensures { result ≡ sought self.now (OfGlobal name.now) };
 }
@@ -63,7 +64,7 @@ pub fn global_sought<'n, S: Search>(search: &S, name: &'n Name) -> Option<Spelle
     }
 }
 
-/// The first that is sought in a type, in written order.
+/// The first name that is sought in a type, in written order.
 #[cycle(types)]
 pub fn in_type<'n, S: Search>(search: &S, ty: &'n Ty) -> Option<Spelled<'n>>
     ensures { result ≡ first_sought (S.sought search.now) (type_mentions ty.now) }
@@ -77,6 +78,7 @@ pub fn in_type<'n, S: Search>(search: &S, ty: &'n Ty) -> Option<Spelled<'n>>
     }
 }
 
+/// The first that is sought in the types of a struct's fields.
 #[cycle(types)]
 fn in_types<'n, S: Search>(search: &S, types: &'n [Ty]) -> Option<Spelled<'n>>
     ensures { result ≡ first_sought (S.sought search.now) (flat_map type_mentions types.now) }
@@ -89,7 +91,7 @@ fn in_types<'n, S: Search>(search: &S, types: &'n [Ty]) -> Option<Spelled<'n>>
     None
 }
 
-/// The first that is sought in the types of steps.
+/// The first that is sought in the steps of a constant `getelementptr`, each a type and its indices: in those types alone.
 fn in_steps<'n, S: Search>(search: &S, steps: &'n [(Ty, List<(Ty, u64)>)]) -> Option<Spelled<'n>>
     ensures { result ≡ first_sought (S.sought search.now) (flat_map (λ s. type_mentions s.0) steps.now) }
 {
@@ -130,6 +132,7 @@ pub fn in_init<'n, S: Search>(search: &S, init: &'n Init) -> Option<Spelled<'n>>
     }
 }
 
+/// The first that is sought in the items of an array or the fields of a struct, each with its type.
 #[cycle(initialisers)]
 fn in_items<'n, S: Search>(search: &S, items: &'n [(Ty, Init)]) -> Option<Spelled<'n>>
     ensures { result ≡ first_sought (S.sought search.now) (flat_map (λ i. type_mentions i.0 ++ init_mentions i.1) items.now) }

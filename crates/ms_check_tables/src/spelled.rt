@@ -1,4 +1,4 @@
-//! The name that a fault shows: with its sign `@` or `%`, and for an unknown one its site.
+//! The name that a fault of the check shows: with its sign `@` or `%`, and for an unknown one its site.
 use ms_ir::Name;
 use std::marker::Model;
 

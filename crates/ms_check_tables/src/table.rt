@@ -1,4 +1,5 @@
-//! `NameTable`: names in order, each found by its place and by its name, without a limit on how many.
+//! `NameTable`: names in order, each found by its place and by its name, without a limit on how many. The check, the compiler
+//! and the pass look names up in such tables.
 ghost use Rattle.std.specs.Prelude.{◌≡◌, ◌++◌, [], ◌∷◌, length, IfOk, OnErr};
 ghost use Rattle.ms_ir.specs.Equal.{has_name};
 ghost use Rattle.ms_check_tables.specs.FirstPlace.{first_place};

@@ -1,4 +1,4 @@
-//! The blocks to which an instruction may go, by their numbers.
+//! The blocks to which an instruction may go, by their numbers: for the graphs of `ms_check_flow`.
 ghost use Rattle.std.specs.Prelude.{◌≡◌, ◌++◌, [], ◌∷◌, map, option_to_list, slice_get, OnOk};
 ghost use Rattle.ms_check_valid.specs.FlowGraph.{name_place};
 ghost use Rattle.ms_ir.specs.Written.{targets};
@@ -8,7 +8,7 @@ use crate::numbers::name_place;
 use ms_bits::NoMemory;
 use ms_ir::{Name, Op};
 
-/// Adds the number of a block or value by its name.
+/// Adds the number that a name has among `names`, of a block or value.
 pub fn push_number(names: &Names<'_>, name: &Name, numbers: &mut Vec<u32>) -> Result<(), NoMemory>
     ensures { OnOk result (numbers.new.items ≡ numbers.old.items ++ name_place names.now name.now ∷ []) }
 {

@@ -1,4 +1,5 @@
-//! The first name that is sought in instructions and their parts.
+//! The first name that is sought in instructions and their parts: `Search` says which are sought, `Uses` goes through a part.
+//! The clauses of validity that ask for unknown names, and for inserted names that the program uses, each have a `Search`.
 ghost use Rattle.std.specs.Prelude.{◌≡◌, ◌++◌, [], ◌∷◌, List, map, flat_map, slice_get, option_and_then};
 ghost use Rattle.ms_ir.specs.Instructions.{operands};
 ghost use Rattle.ms_ir.specs.Written.{Mention, OfLocal, type_mentions, operand_mentions, operands_mentions, targets, mentions};
@@ -11,6 +12,7 @@ use ms_ir::{GlobalVar, Name, Op, Operand, Ty};
 
 /// A part of a module that uses names.
 pub trait Uses<S: Search> {
+    /// Every name that the part uses, in written order.
     ghost mentions_of: { Self → List Mention };
 
     /// The first of the names that is sought, in written order.
@@ -30,6 +32,7 @@ pub fn first_among<'n, S: Search, T: Uses<S>>(search: &S, parts: &'n [T]) -> Opt
     None
 }
 
+/// An edge of a phi.
 impl<S: Search> Uses<S> for (Operand, Name) {
     ghost mentions_of = { λ e. operand_mentions e.0 ++ OfLocal e.1 ∷ [] };
 
@@ -38,6 +41,7 @@ impl<S: Search> Uses<S> for (Operand, Name) {
     }
 }
 
+/// A named type, with its definition.
 impl<S: Search> Uses<S> for (Name, Ty) {
     ghost mentions_of = { λ t. type_mentions t.1 };
 

@@ -1,4 +1,4 @@
-//! The first fault that a clause finds in the functions of a module.
+//! The walk of a clause of validity over a module: the first fault that it finds in the functions, in text order.
 ghost use Rattle.std.specs.Prelude.{◌≡◌, ◌+◌, ◌++◌, ◌<◌, ◌^◌, All, length, IfOk, IfNone, slice_get};
 ghost use Rattle.ms_ir.specs.{Instructions.{one_unmarked, over_insts, over_blocks, over_funcs}, Places.{count_sites}};
 ghost use Rattle.ms_ir.specs.Spots.{spot, over_spots, over_block_spots, over_func_spots, found};
@@ -8,11 +8,11 @@ use ms_bits::NoMemory;
 use ms_ir::{Block, Func, Inst, Module};
 use std::alloc::Global;
 
-/// What is looked for in the functions of a module and at each of their instructions.
+/// A clause of validity: what is looked for in the functions of a module and at each of their instructions.
 pub trait Clause<'m> {
-    /// What a function's instructions are looked at with.
+    /// What a function's instructions are looked at with: what is known of the function, made once for it.
     type Tables: Drop;
-    /// What is found.
+    /// What is found and told.
     type Fault;
 
     ghost use Rattle.std.specs.Prelude.{◌≡◌, ◌<◌, List, IfOk, IfNone, slice_get, length};
@@ -23,13 +23,16 @@ pub trait Clause<'m> {
     /// What is asked of a function before its tables are made.
     ghost Asks: { Around → Type 0 };
 
+    /// Whether these are the tables of a function.
     ghost AreOf: { Self → Around → Self.Tables → Type 0 };
 
+    /// The faults of a function that are none of its instructions'.
     ghost head: { Self → Around → List Self.Fault };
 
+    /// The faults of an instruction that stands at a spot.
     ghost look: { Self → Spot → Looked → List Self.Fault };
 
-    /// The fault of a function that is none of its instructions'.
+    /// The first fault of a function that is none of its instructions'.
     fn func_fault(&self, func: &'m Func) -> Option<Self::Fault>
         ensures { result ≡ slice_get (head self.now func.now) 0 };
 
@@ -52,7 +55,7 @@ pub trait Clause<'m> {
         ensures tables { IfOk result (λ r. IfNone r (AreOf self.now here.now.func.now tables.new)) };
 }
 
-/// The site after an instruction.
+/// The site that comes after an instruction: a marked one counts none.
 pub fn next_site(site: u32, inst: &Inst) -> u32
     requires { site + one_unmarked inst.now < 2 ^ 32 }
     ensures { result ≡ site + one_unmarked inst.now }

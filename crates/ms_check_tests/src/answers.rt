@@ -1,4 +1,4 @@
-//! Texts of modules with what the check returns on them.
+//! Texts of modules with what the check returns on them: what a row of the tables is, and what runs it.
 
 ghost use Rattle.std.specs.Prelude.{◌≤◌, ◌^◌, length};
 ghost use Rattle.ms_check_valid.specs.Formed.{Formed};
@@ -11,17 +11,22 @@ use std::alloc::Global;
 use std::fmt::Debug;
 use std::str::from_utf8;
 
-/// What the check returns. Names are spelled with their `@` or `%`.
+/// What the check returns, as `CheckError`. Names are spelled with their `@` or `%`.
 #[derive(Debug)]
 pub enum Want {
     Valid,
     Duplicate(&'static str),
+    /// A site and a name.
     Unknown(u32, &'static str),
+    /// A site and the number of an operand.
     TypeMismatch(u32, u32),
+    /// A site.
     BadPhi(u32),
     NoMain,
     BadExternal(&'static str),
+    /// A site, and the blocks of the one path to it.
     Undefined(u32, &'static [u32]),
+    /// A site.
     BadMark(u32),
     BadSize(&'static str),
 }
@@ -40,6 +45,7 @@ fn is_named(name: &Name, wanted: &[u8]) -> bool {
     }
 }
 
+/// Whether a name is spelled so.
 fn is_spelled(global: bool, name: &Name, wanted: &str) -> bool {
     match wanted.as_bytes() {
         [b'@', text @ ..] => global && is_named(name, text),
@@ -76,6 +82,7 @@ fn is_error(error: &CheckError, want: &Want) -> bool {
     }
 }
 
+/// Whether a module is wanted to be valid.
 fn is_valid(want: &Want) -> bool {
     match want {
         Want::Valid => true,
@@ -134,6 +141,7 @@ pub fn agrees<R: Eprint>(rt: &R, alloc: Global, text: &[u8], want: &Want) -> boo
     }
 }
 
+/// Whether the check answers on each module of a table as it is wanted.
 fn table_agrees<R: Eprint>(rt: &R, alloc: Global, cases: &[Case]) -> bool {
     for (number, case) in cases.iter().enumerate() {
         if !agrees(rt, alloc, case.0.as_bytes(), &case.1) {

@@ -10,7 +10,7 @@ use std::alloc::Global;
 use std::cmp::Ordering;
 use std::test::Fail;
 
-/// What stands before and after the pieces in which two modules differ.
+/// Two texts of modules, and whether the modules are equal.
 struct Differing(&'static str, &'static str, bool);
 
 /// Every kind of part of a module.
@@ -43,7 +43,7 @@ d:
 !0 = !{}
 "#;
 
-/// Copies are equal and changes are seen.
+/// Modules are equal to themselves, and each change is seen.
 static PAIRS: [Differing; 11] = [
     Differing(PARTS, PARTS, true),
     Differing("", PARTS, false),
@@ -148,6 +148,7 @@ fn are_equal(alloc: Global, a: &Module, b: &Module) -> Result<bool, NoMemory> {
     Ok(first.as_slice() == second.as_slice())
 }
 
+/// Whether a module's copy is equal to it.
 fn has_equal_copy(alloc: Global, m: &Module) -> bool {
     match m.copy(alloc) {
         Ok(copy) => are_equal(alloc, &copy, m).ok() == Some(true),
@@ -183,6 +184,7 @@ fn all_agree<R: Eprint>(rt: &R, alloc: Global, cases: &[Differing]) -> bool {
     true
 }
 
+/// Whether a name comes after another in the order of names.
 fn comes_after(before: &Name, after: &Name) -> bool {
     before.cmp(after) == Ordering::Less && after.cmp(before) == Ordering::Greater
 }

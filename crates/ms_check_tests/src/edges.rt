@@ -216,6 +216,7 @@ define i8 @f(i1 %0) {
     ),
 ];
 
+/// Modules with and without `i32 @main()`.
 pub static MAINS: [Case; 6] = [
     Case("", Want::NoMain),
     Case(

@@ -2,6 +2,7 @@
 
 use crate::answers::{Case, Want};
 
+/// Declarations that are called, and flags of intrinsics.
 pub static EXTERNALS: [Case; 32] = [
     Case(
         r#"declare i32 @putchar(i32)
@@ -307,6 +308,7 @@ define i32 @main() {
     ),
 ];
 
+/// Globals with reserved names, of which the slots alone may stand.
 pub static SLOTS: [Case; 9] = [
     Case(
         r#"@__msan_param_tls = global [ 100 x i64 ] zeroinitializer

@@ -27,17 +27,22 @@ enum Given {
 /// A word of 64 bits at most: its width, and the operands of its mask and of its origin.
 struct Word(u8, Given, Given);
 
-/// What is handed over or taken over.
+/// What is handed over or taken over: one call of `ms_slots` each.
 enum Hand {
+    /// A caller hands over arguments.
     Arguments(&'static [Word]),
+    /// A function takes over parameters of these widths.
     Parameters(&'static [u8]),
+    /// A function hands over its result.
     Result(Word),
+    /// A caller takes over a result of this width.
     ResultOf(u8),
 }
 
 /// What is handed over, with the next free number; the lines, and the next free number after them.
 struct Handing(Hand, u32, &'static str, u32);
 
+/// The lines at calls and returns.
 static HANDINGS: [Handing; 6] = [
     // The third of three arguments is undefined, and its root is the first.
     Handing(
@@ -92,6 +97,7 @@ store i32 %__msan.6, ptr @__msan_retval_origin_tls, !nosanitize !0
 /// number then.
 struct Round(&'static str, u32, &'static str, &'static str, u32);
 
+/// The lines round one instruction, as `ms_rules::emit` gives them.
 static ROUNDS: [Round; 2] = [
     // What `main` returns is checked as part 0 of a use of kind 8, with its root.
     Round(
@@ -228,7 +234,7 @@ fn types_of(alloc: Global, widths: &[u8]) -> Result<Vec<Ty>, NoMemory> {
     Ok(all)
 }
 
-/// What is inserted, and the next free number.
+/// Inserted instructions, and the next free number.
 type Inserted = (List<Inst>, u32);
 
 fn taken(alloc: Global, widths: &[u8], next: u32) -> Option<Inserted>

@@ -17,6 +17,7 @@ const TYPES: &str = r#"%plain = type { i8, i32, i8 }
 %nested = type { i8, %plain, i64, %packed }
 "#;
 
+/// Types by the rules of LLVM's data layout.
 static LAYOUTS: [Layout; 18] = [
     Layout("i1", Some(1), 1, &[]),
     Layout("i24", Some(4), 4, &[]),

@@ -2,6 +2,7 @@
 
 use crate::answers::{Case, Want};
 
+/// Modules with marks that fit or don't.
 pub static MARKS: [Case; 16] = [
     Case(
         r#"define i32 @main() {

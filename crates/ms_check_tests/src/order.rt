@@ -2,6 +2,7 @@
 
 use crate::answers::{Case, Want};
 
+/// Modules with two faults, and the one that is answered.
 pub static ORDERS: [Case; 9] = [
     Case(
         r#"define i32 @main() {

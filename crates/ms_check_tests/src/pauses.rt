@@ -39,12 +39,16 @@ enum Called {
 /// with their widths and words, or none; and the call.
 struct Stand {
     text: &'static str,
+    /// Function, block and instruction, from 0.
     place: (u32, u32, u32),
+    /// How many calls stand, that of `main` among them.
     frames: u32,
+    /// A name, and the width and the number of its word.
     words: &'static [(Spelled, Option<(u8, u64)>)],
     called: Called,
 }
 
+/// Runs up to their first call of `putchar` or `printf`.
 static STANDS: [Stand; 5] = [
     Stand {
         text: r#"declare i32 @putchar(i32)

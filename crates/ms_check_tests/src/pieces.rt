@@ -23,6 +23,7 @@ use std::test::Fail;
 /// directive follows.
 struct Format(&'static str, &'static str, bool);
 
+/// Formats of `printf`.
 static FORMATS: [Format; 6] = [
     Format("%d %s%lx\n", "d32[ ]sx64[\n]", false),
     Format("a%%b", "[a][%][b]", false),
@@ -32,6 +33,7 @@ static FORMATS: [Format; 6] = [
     Format("%l", "", true),
 ];
 
+/// How a piece is told in the rows.
 fn directive_of(piece: &Piece) -> &'static [u8] {
     match piece {
         Piece::Text(_) => b"]",

@@ -14,8 +14,11 @@ use std::test::Fail;
 /// that is left without inserted code.
 struct Numbered {
     text: &'static str,
+    /// Function, block and instruction of each site, from 0.
     places: &'static [(u32, u32, u32)],
+    /// Kind and site of each root.
     roots: &'static [(RootKind, u32)],
+    /// What is left when what is inserted is taken away.
     left: &'static str,
 }
 
@@ -130,6 +133,7 @@ const STORED_UNDEFINED: &str = r#"define i32 @main() {
 }
 "#;
 
+/// Modules with and without inserted code.
 static NUMBERED: [Numbered; 5] = [
     Numbered {
         text: "",

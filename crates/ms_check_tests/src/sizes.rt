@@ -7,6 +7,7 @@ use std::test::Fail;
 /// What stands before `main`, an instruction of it, and the answer.
 struct Sized(&'static str, &'static str, Want);
 
+/// Globals and instructions whose types have sizes or haven't.
 static SIZES: [Sized; 28] = [
     // One type may have 2^26 bytes, and all globals together have 2^24.
     Sized("", "", Want::Valid),
@@ -182,6 +183,7 @@ static SIZES: [Sized; 28] = [
 /// the answer.
 struct Chain(&'static str, u32, bool, Want);
 
+/// Named types that hold one another.
 static CHAINS: [Chain; 6] = [
     // At most 32 types stand within one another.
     Chain("i64", 32, false, Want::Valid),

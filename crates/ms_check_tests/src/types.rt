@@ -35,6 +35,7 @@ static VALUES: [Line; 7] = [
     Line("  store i32 %0, ptr %2\n", Want::Valid),
 ];
 
+/// Casts.
 static CASTS: [Line; 7] = [
     Line("  %4 = trunc i64 %1 to i64\n", Want::TypeMismatch(3, 0)),
     Line("  %4 = trunc i64 %1 to i32\n", Want::Valid),
@@ -45,6 +46,7 @@ static CASTS: [Line; 7] = [
     Line("  %4 = bitcast ptr %2 to i64\n", Want::TypeMismatch(3, 0)),
 ];
 
+/// Indices of `getelementptr`.
 static INDICES: [Line; 9] = [
     Line(
         "  %4 = getelementptr %pair, ptr %2, i64 0, i32 1\n",
@@ -85,6 +87,7 @@ static INDICES: [Line; 9] = [
     ),
 ];
 
+/// Arguments and results of calls.
 static ARGUMENTS: [Line; 5] = [
     Line("  call void @free()\n", Want::TypeMismatch(3, 0)),
     Line("  call void @free(ptr @g)\n", Want::Valid),
@@ -114,6 +117,7 @@ static PRINTED: [Line; 4] = [
     ),
 ];
 
+/// Branches, switches and returns.
 pub static TERMINATORS: [Case; 11] = [
     Case(
         r#"define i32 @main() {
@@ -236,6 +240,7 @@ const MAIN: &str = r#"define i32 @main() {
 }
 "#;
 
+/// Initialisers of the second global.
 static INITIALISERS: [Line; 9] = [
     Line(
         r#"@g = global [ 2 x i8 ] c"ab"

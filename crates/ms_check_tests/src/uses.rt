@@ -2,6 +2,7 @@
 
 use crate::answers::{Case, Want};
 
+/// Modules whose uses are defined or aren't; the path of an answer is by the numbers of blocks.
 pub static USES: [Case; 12] = [
     // One of two paths defines the value.
     Case(

@@ -55,7 +55,7 @@ impl<'m> Callee<'m> {
     }
 }
 
-/// Whether parameters are one pointer.
+/// Whether a function's parameters are one pointer.
 fn is_one_pointer(params: &[(Ty, Name)]) -> bool
     ensures { result ≡ types_eq (map (λ p. p.0) params.now) (Ptr ∷ []) }
 {
@@ -65,7 +65,7 @@ fn is_one_pointer(params: &[(Ty, Name)]) -> bool
     }
 }
 
-/// Whether a function takes a pointer, and returns one.
+/// Whether a function takes a pointer, and returns one, as the first function of a thread does.
 pub fn takes_pointer(func: &Func) -> bool
     ensures { result ≡ signature_eq (func_signature func.now) (answers Ptr (Ptr ∷ [])) }
 {
@@ -78,8 +78,11 @@ pub fn takes_pointer(func: &Func) -> bool
 /// The functions of a module, with the places of their names.
 #[derive(Drop)]
 pub struct FuncTable<'m> {
+    /// The module.
     pub source: &'m Module,
+    /// The names that it declares.
     decls: NameTable<'m>,
+    /// The names that it defines.
     funcs: NameTable<'m>,
     ghost decls_are: { decls ≡ declared_names source.now },
     ghost funcs_are: { funcs ≡ function_names source.now },
@@ -106,7 +109,7 @@ impl<'m> FuncTable<'m> {
         self.decls.contains(name)
     }
 
-    /// The function that a name stands for.
+    /// The function that a name stands for: the one that is defined, else the one that is declared.
     pub fn get(&self, name: &Name) -> Option<Callee<'m>>
         ensures { option_map callee_signature result ≡ signature_of self.now.source.now name.now }
     {

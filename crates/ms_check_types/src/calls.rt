@@ -12,14 +12,14 @@ use crate::operands::{first_misfit, operand_fits};
 use crate::types::is_pointer;
 use ms_ir::{Name, Op, Operand, Ty, ValueType, is_int};
 
-/// Operand 0 is at fault unless something holds that no operand says by itself.
+/// Operand 0 is named as the one at fault unless something `holds` that no operand says by itself.
 pub fn fault_unless(holds: bool) -> Option<usize>
     ensures { result ≡ fault_unless holds }
 {
     if holds { None } else { Some(0) }
 }
 
-/// Whether an operand names the function that a fiber may begin with: one that takes a pointer and returns one.
+/// Whether an operand names a function that a thread may start with: one that takes a pointer and returns one.
 fn is_start(body: &FuncTypes<'_, '_>, operand: &Operand) -> bool
     ensures { result ≡ is_start (module_of body.now) operand.now }
 {
@@ -29,14 +29,15 @@ fn is_start(body: &FuncTypes<'_, '_>, operand: &Operand) -> bool
     }
 }
 
-/// Whether an argument of a call is the third of `pthread_create`, which names the function that begins.
+/// Whether an argument of a call is the third of `pthread_create`, which names the function that a thread starts with.
 fn is_start_place(body: &FuncTypes<'_, '_>, name: &Name, place: usize) -> bool
     ensures { result ≡ (is_create (module_of body.now) name.now && nat_eq place 2) }
 {
     body.symbols.is_create(name) && place == 2
 }
 
-/// Whether an argument of a call fits by its place.
+/// Whether an argument of a call of `name`, at a place from 0, is what is asked for there: a value of the type before it, or
+/// the function that a thread starts with.
 fn fits_call(
     body: &FuncTypes<'_, '_>,
     name: &Name,
@@ -53,7 +54,7 @@ fn fits_call(
     }
 }
 
-/// Whether an argument fits the parameter at a place, if there is one.
+/// Whether an argument, with the type before it, fits the parameter at its place; false where there is none.
 fn argument_fits(
     body: &FuncTypes<'_, '_>,
     name: &Name,
@@ -98,7 +99,8 @@ fn is_printable(ty: &Ty) -> bool
     is_int(ty, 32) || is_int(ty, 64) || is_pointer(ty)
 }
 
-/// The first of some arguments, which are counted from 1 on, that doesn't fit or that `printf` doesn't print.
+/// The number of the first of `printf`'s arguments after the format, which are counted from 1 on, that doesn't fit or that it
+/// doesn't print.
 fn printed_misfit(body: &FuncTypes<'_, '_>, args: &[(Ty, Operand)]) -> Option<usize>
     ensures { result ≡ first_misfit (λ b. is_printable b.0 && fits_in body.now b) 1 args.now }
 {

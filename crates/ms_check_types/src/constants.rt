@@ -16,7 +16,7 @@ pub fn global_fits(symbols: &Symbols<'_>, ty: ValueType<'_>, name: &Name) -> boo
     ty.is_pointer() && symbols.is_variable(name)
 }
 
-/// Whether each index after the first leads into a part of a type.
+/// Whether each of a step's indices after the first leads into a part of its type; the first counts whole items of the type.
 fn inner_indices_fit(symbols: &Symbols<'_>, ty: &Ty, indices: &[(Ty, u64)]) -> bool
     ensures { result ≡ step_fits symbols.now.source.now.types (ty.now, indices.now) }
 {
@@ -26,21 +26,21 @@ fn inner_indices_fit(symbols: &Symbols<'_>, ty: &Ty, indices: &[(Ty, u64)]) -> b
     leads_on(symbols, ty, &indices[1..])
 }
 
-/// Whether the indices of a step lead into parts of its type.
+/// Whether the indices of a step, which is a constant `getelementptr`, lead into parts of its type.
 fn step_fits(symbols: &Symbols<'_>, step: &(Ty, List<(Ty, u64)>)) -> bool
     ensures { result ≡ step_fits symbols.now.source.now.types step.now }
 {
     inner_indices_fit(symbols, &step.0, step.1.as_slice())
 }
 
-/// Whether the indices of each step lead into parts of its type.
+/// Whether the indices of each step lead into parts of its type. Steps are constant `getelementptr`s, one within the other.
 fn steps_fit(symbols: &Symbols<'_>, steps: &[(Ty, List<(Ty, u64)>)]) -> bool
     ensures { result ≡ list_all (step_fits symbols.now.source.now.types) steps.now }
 {
     steps.iter().all(|step| step_fits(symbols, step))
 }
 
-/// Whether the address to which steps lead from a global fits a type.
+/// Whether the address to which steps lead from the global `name` fits the type `ty`: a pointer.
 pub fn offset_fits(
     symbols: &Symbols<'_>,
     ty: ValueType<'_>,

@@ -1,4 +1,4 @@
-//! Looks for the first type, global or function that has a type without a size.
+//! Looks for the first type, global or function that has a type without a size, for `ms_check`.
 ghost use Rattle.std.specs.Prelude.{◌≡◌, [], ◌∷◌, ◌++◌, flat_map, slice_get, IfOk};
 ghost use Rattle.ms_ir.specs.declared.syntax.Ty.{Named};
 ghost use Rattle.ms_check_valid.specs.SizesFit.{sized, unsized, unsized_globals};
@@ -19,7 +19,7 @@ fn is_row_sized(extents: &Extents, name: &Name, ty: &Ty) -> bool
     extents.size_of_named(name).is_some() && has_sizes(extents, ty)
 }
 
-/// The first named type that has no size, or holds a type that has none.
+/// The name of the first named type that has no size, or holds a type that has none.
 fn first_type<'m>(extents: &Extents, types: &'m [(Name, Ty)]) -> Option<Spelled<'m>>
     ensures { result ≡ slice_get (flat_map (type_faults extents.now) types.now) 0 }
 {

@@ -9,8 +9,8 @@ use crate::operands::operand_fits;
 use crate::steps::{constant, part};
 use ms_ir::{Operand, Ty, ValueType};
 
-/// The first of some indices, which are counted from 2 on, that doesn't fit or leads into no part; the first one begins
-/// at a type.
+/// The operand number of the first of some indices that doesn't fit or leads into no part: those after the first of a
+/// `getelementptr`, which are its operands 2 and on. They lead from the type `ty` inwards.
 fn first_misstep<'a>(
     body: &FuncTypes<'a, '_>,
     ty: &'a Ty,
@@ -31,7 +31,7 @@ fn first_misstep<'a>(
     None
 }
 
-/// The operand of a `getelementptr` at fault.
+/// The operand of a `getelementptr` at fault: 0 for the base, 1 for the first index, and so on.
 pub fn gep_fault<'a>(
     body: &FuncTypes<'a, '_>,
     ty: &'a Ty,

@@ -20,7 +20,7 @@ fn value_fits(symbols: &Symbols<'_>, ty: &Ty, value: &Operand) -> bool
     }
 }
 
-/// Whether a type is an array of so many bytes.
+/// Whether a type is an array of `count` bytes, as an initialiser `c".."` asks.
 fn is_text_type(ty: &Ty, count: usize) -> bool
     ensures { result ≡ is_text_type ty.now count }
 {
@@ -30,7 +30,7 @@ fn is_text_type(ty: &Ty, count: usize) -> bool
     }
 }
 
-/// Whether an initialiser fits a type.
+/// Whether an initialiser fits the type of its global, or of the item or field that it fills.
 #[cycle(init_fits)]
 pub fn init_fits<'a, 'm>(symbols: &'a Symbols<'m>, ty: &'a Ty, init: &'a Init) -> bool
     ensures { result ≡ init_fits (operand_fits symbols.now.source.now (λ x. None)) symbols.now.source.now.types ty.now init.now }
@@ -47,7 +47,7 @@ pub fn init_fits<'a, 'm>(symbols: &'a Symbols<'m>, ty: &'a Ty, init: &'a Init) -
     }
 }
 
-/// Whether a type is an array of these items.
+/// Whether a type is an array that these items fit, and fill.
 #[cycle(init_fits)]
 fn array_fits<'a, 'm>(symbols: &'a Symbols<'m>, ty: &'a Ty, items: &'a [(Ty, Init)]) -> bool
     ensures { result ≡ all_fit (operand_fits symbols.now.source.now (λ x. None)) symbols.now.source.now.types (item_types ty.now (length items.now)) items.now }
@@ -60,7 +60,7 @@ fn array_fits<'a, 'm>(symbols: &'a Symbols<'m>, ty: &'a Ty, items: &'a [(Ty, Ini
     }
 }
 
-/// Whether each item fits a type.
+/// Whether each item of an array has the type of its items, and fits it.
 #[cycle(init_fits)]
 fn items_fit<'a, 'm>(symbols: &'a Symbols<'m>, ty: &'a Ty, items: &'a [(Ty, Init)]) -> bool
     ensures { result ≡ list_all (item_fits (operand_fits symbols.now.source.now (λ x. None)) symbols.now.source.now.types ty.now) items.now }
@@ -73,7 +73,7 @@ fn items_fit<'a, 'm>(symbols: &'a Symbols<'m>, ty: &'a Ty, items: &'a [(Ty, Init
     true
 }
 
-/// Whether a type without a name is a struct of these fields.
+/// Whether a type without a name is a struct, packed or not, that these fields fit.
 #[cycle(init_fits)]
 fn struct_fits<'a, 'm>(
     symbols: &'a Symbols<'m>,

@@ -1,4 +1,5 @@
-//! Checks the types of the operands of each instruction (LLVM Language Reference, "Instruction Reference").
+//! Checks the types of the operands of each instruction (LLVM Language Reference, "Instruction Reference"). A fault is told by
+//! the number of an operand, from 0 in written order; 0 stands for what no operand says by itself, as that targets are blocks.
 ghost use Rattle.std.specs.{Prelude.{◌≡◌, ◌&&◌, IfOk}, List.{list_all}, Option.{option_or}};
 ghost use Rattle.ms_ir.specs.{Instructions.{operands as operands_of}, Equal.{has_name}, Locals.{block_names}};
 ghost use Rattle.ms_ir.specs.Written.{targets};

@@ -11,7 +11,7 @@ use ms_ir::{Name, Op, Operand, Ty, ValueType};
 use std::alloc::Global;
 use std::collections::BTreeSet;
 
-/// Whether the numbers of some cases are different.
+/// Whether the numbers of a `switch`'s cases are different. They are gone through from the last.
 pub fn differ(alloc: Global, cases: &[(u64, Name)]) -> Result<bool, NoMemory>
     ensures { IfOk result (λ r. r ≡ differ cases.now) }
 {
@@ -24,7 +24,7 @@ pub fn differ(alloc: Global, cases: &[(u64, Name)]) -> Result<bool, NoMemory>
     Ok(true)
 }
 
-/// Whether the label with a place is that of a block, if there is one.
+/// Whether the label at a place among those to which an instruction may go is that of a block, if there is one.
 fn leads_to_block(body: &FuncTypes<'_, '_>, op: &Op, place: usize) -> bool
     ensures { result ≡ holds_at (has_name (block_names (func_of body.now))) (slice_get (targets op.now) place) }
 {

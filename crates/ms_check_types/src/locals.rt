@@ -11,7 +11,7 @@ use ms_check_tables::{NameTable, blocks_of};
 use ms_ir::{Block, Func, Inst, Name, Ty, ValueType};
 use std::alloc::Global;
 
-/// Adds parameters.
+/// Adds a function's parameters to its values.
 fn push_params<'m>(values: &mut TypedNames<'m>, params: &'m [(Ty, Name)]) -> Result<(), NoMemory>
     ensures { IfOk result (λ _. values.new ≡ values.old ++ map (λ p. (p.1, p.0)) params.now) }
 {
@@ -65,7 +65,9 @@ fn values_of(alloc: Global, func: &Func) -> Result<TypedNames<'_>, NoMemory>
 #[derive(Drop)]
 pub struct Locals<'m> {
     pub func: &'m Func,
+    /// Its parameters and results, each with its type.
     typed: TypedNames<'m>,
+    /// The names of its blocks.
     blocks: NameTable<'m>,
     ghost typed_are: { typed ≡ values func.now },
     ghost blocks_are: { blocks ≡ block_names func.now },

@@ -1,4 +1,5 @@
-//! Looks for the first fault in types: in the initialisers of globals, then in the instructions, in the order of the text.
+//! Looks for the first fault in types, for `ms_check`: in the initialisers of globals, then in the instructions, in the order of
+//! the text.
 ghost use Rattle.std.specs.Prelude.{◌≡◌, ◌<◌, ◌^◌, [], IfOk, length, option_map, slice_get};
 ghost use Rattle.ms_ir.specs.Instructions.{over_funcs};
 ghost use Rattle.ms_check_valid.specs.{Formed.{count_written}, TypesAgree.{mismatches}};
@@ -15,13 +16,15 @@ use ms_check_tables::{Clause, InstSite, first_fault};
 use ms_ir::{Func, GlobalVar, Inst, Module};
 use std::alloc::Global;
 
-/// Each operand has the type that is asked for, in a module with these symbols. A fault is a site with the number of
-/// an operand.
+/// The clause that each operand has the type that is asked for, in a module with these symbols. A fault is a site with the
+/// number of an operand.
 #[derive(Drop)]
 struct TypesAgree<'a, 'm> {
     symbols: &'a Symbols<'m>,
 }
 
+/// Nothing is asked of a function (`Asks`), its tables have the types of its values (`AreOf`), and it has no fault (`head`) but
+/// its instructions' (`look`).
 impl<'a, 'm> Clause<'m> for TypesAgree<'a, 'm> {
     type Tables = Locals<'m>;
 
@@ -61,7 +64,7 @@ impl<'a, 'm> Clause<'m> for TypesAgree<'a, 'm> {
     }
 }
 
-/// The first mismatch in the functions of a module.
+/// The first mismatch in the functions of a module that has these symbols.
 fn first_in_code<'m>(
     alloc: Global,
     symbols: &Symbols<'m>,
@@ -79,7 +82,7 @@ fn first_in_code<'m>(
     }
 }
 
-/// The first global whose initialiser doesn't fit its type.
+/// The number of the first global, from 0, whose initialiser doesn't fit its type.
 fn first_in_globals<'a>(symbols: &'a Symbols<'_>, globals: &'a [GlobalVar]) -> Option<u32>
     requires { length globals.now < 2 ^ 30 }
     ensures { result ≡ globals_fault symbols.now.source.now 0 globals.now }

@@ -1,4 +1,4 @@
-//! Operands with the types before them (LLVM Language Reference, "Instruction Reference").
+//! Operands against the types before them in the text (LLVM Language Reference, "Instruction Reference").
 ghost use Rattle.std.specs.Prelude.{◌≡◌, option_map, slice_get};
 ghost use Rattle.ms_ir.specs.{Instructions.{operands}, ValueTypes.{type_of}};
 ghost use Rattle.ms_check_valid.specs.TypesAgree.{first_misfit};

@@ -1,4 +1,4 @@
-//! Types that have sizes in all their parts.
+//! Whether a type has a size in all its parts.
 ghost use Rattle.std.specs.{Prelude.{◌≡◌}, List.{list_all}};
 ghost use Rattle.ms_check_types.specs.SizedParts.{has_sizes};
 

@@ -1,4 +1,4 @@
-//! The types that are written in instructions and functions.
+//! Whether the types that are written in instructions and functions have sizes.
 ghost use Rattle.std.specs.{Prelude.{◌≡◌, slice_get}, List.{list_all}};
 ghost use Rattle.ms_ir.specs.{Instructions.{operands}, Written.{own_types}};
 ghost use Rattle.ms_check_types.specs.SizedParts.{has_sizes, is_typed_sized, is_op_sized, is_block_sized, is_func_sized};
@@ -10,7 +10,7 @@ use crate::written::is_typed_sized;
 use ms_check_tables::Extents;
 use ms_ir::{Block, Func, Op};
 
-/// Whether the type of an instruction that stands before no operand has sizes, if there is one.
+/// Whether the type of an instruction that stands before no operand, as that of an `alloca`, has sizes, if there is one.
 fn is_own_sized(extents: &Extents, op: &Op) -> bool
     ensures { result ≡ list_all (has_sizes extents.now) (own_types op.now) }
 {
@@ -49,6 +49,7 @@ fn is_op_sized(extents: &Extents, op: &Op) -> bool
     is_own_sized(extents, op) && are_operands_sized(extents, op)
 }
 
+/// Whether the types in the instructions of a block have sizes.
 fn is_block_sized(extents: &Extents, block: &Block) -> bool
     ensures { result ≡ is_block_sized extents.now block.now }
 {

@@ -1,4 +1,4 @@
-//! Steps from a type to its parts (LLVM Language Reference, "'getelementptr' Instruction").
+//! The ways that indices lead from a type to its parts (LLVM Language Reference, "'getelementptr' Instruction").
 ghost use Rattle.std.specs.Prelude.{◌≡◌, length, option_and_then, if◌then◌else◌, is_none, true, None};
 ghost use Rattle.std.specs.Option.{option_copied};
 ghost use Rattle.ms_ir.specs.declared.syntax.Ty as type;
@@ -29,7 +29,7 @@ fn field<'a>(fields: &'a [Ty], index_ty: &Ty, index: Option<u64>) -> Option<&'a 
     }
 }
 
-/// The part of a type without a name to which an index leads.
+/// The part of the type `whole`, which has no name, to which an index leads, by the index's type and number if it is constant.
 fn part_of<'a>(whole: &'a Ty, index_ty: &Ty, index: Option<u64>) -> Option<&'a Ty>
     ensures { option_copied result ≡ part_by whole.now index_ty.now index }
 {
@@ -40,7 +40,7 @@ fn part_of<'a>(whole: &'a Ty, index_ty: &Ty, index: Option<u64>) -> Option<&'a T
     }
 }
 
-/// The part of a type to which an index leads, by the index's type and number; none where it leads to none.
+/// The part of a type to which an index leads, by the index's type and its number if it is constant; none where it leads to none.
 pub fn part<'a>(
     symbols: &'a Symbols<'_>,
     ty: &'a Ty,
@@ -55,7 +55,7 @@ pub fn part<'a>(
     }
 }
 
-/// Whether each of some constant indices leads into a part, where the first begins at a type.
+/// Whether each of some constant indices leads into a part, the first from `ty`, each other from the part before it.
 pub fn leads_on<'a>(symbols: &'a Symbols<'_>, ty: &'a Ty, indices: &[(Ty, u64)]) -> bool
     ensures { result ≡ is_none (first_misstep (λ i. true) symbols.now.source.now.types ty.now 0 (constant_indices indices.now)) }
 {

@@ -1,4 +1,5 @@
-//! What the names of a module stand for (LLVM Language Reference, "Module Structure"), each found as `NameTable` finds it.
+//! What the names of a module stand for, for the check of its types (LLVM Language Reference, "Module Structure"), each found as
+//! `NameTable` finds it.
 ghost use Rattle.std.specs.{Prelude.{◌≡◌, IfOk, option_map, unwrap_or}, Option.{option_copied}};
 ghost use Rattle.ms_ir.specs.declared.syntax.Ty as type;
 ghost use Rattle.ms_ir.specs.{Layout.{resolved}, Locals.{type_names, global_names}, Names.{lookup}};
@@ -30,9 +31,13 @@ fn names_of_types_and_globals<'m>(
 /// A module with what its names stand for.
 #[derive(Drop)]
 pub struct Symbols<'m> {
+    /// The module.
     pub source: &'m Module,
+    /// The names of its named types.
     types: NameTable<'m>,
+    /// The names of its global variables.
     globals: NameTable<'m>,
+    /// Its functions, defined or declared.
     callees: FuncTable<'m>,
     ghost types_are: { types ≡ type_names source.now },
     ghost globals_are: { globals ≡ global_names source.now },
@@ -65,7 +70,7 @@ impl<'m> Symbols<'m> {
         }
     }
 
-    /// The type that a name stands for.
+    /// The type that a type's name stands for.
     fn named(&self, name: &Name) -> Option<&'m Ty>
         ensures { option_copied result ≡ lookup self.now.source.now.types name.now }
     {
@@ -96,7 +101,8 @@ impl<'m> Symbols<'m> {
         name.is(b"pthread_create") && self.callees.declares(name)
     }
 
-    /// Whether a name is that of a function that the module defines, which takes a pointer and returns one.
+    /// Whether a name is that of a function that a thread can start with: the module defines it, and it takes a pointer and
+    /// returns one.
     pub fn is_start(&self, name: &Name) -> bool
         ensures { result ≡ is_start self.now.source.now (operand.Global name.now) }
     {

@@ -24,6 +24,7 @@ impl<'m> Model for TypedNames<'m> {
 
     ghost Value = { Types };
 
+    // By which the prover tells values of the model apart.
     ghost coded = { Prim.hlevel (codes, coded_ty.the_row.coded) };
 
     ghost view = { λ t. map (λ r. (r.0.now, type_of r.1)) t.rows.items };

@@ -1,4 +1,4 @@
-//! Types that are asked for by their form (LLVM Language Reference, "Type System").
+//! Whether a type is the one that is asked for (LLVM Language Reference, "Type System").
 ghost use Rattle.std.specs.Prelude.{◌≡◌};
 ghost use Rattle.ms_ir.specs.declared.syntax.Ty as type;
 ghost use Rattle.ms_ir.specs.Equal.{type_eq};

@@ -1,4 +1,4 @@
-//! The types that are written in operands and initialisers.
+//! Whether the types that are written in operands and initialisers have sizes.
 ghost use Rattle.std.specs.{Prelude.{◌≡◌, map}, List.{list_all}};
 ghost use Rattle.ms_ir.specs.{ValueTypes.{type_of}, Written.{operand_types, init_types}};
 ghost use Rattle.ms_check_types.specs.SizedParts.{has_sizes, is_step_sized, is_typed_sized, is_item_sized};
@@ -18,26 +18,28 @@ pub fn is_operand_sized(extents: &Extents, operand: &Operand) -> bool
     }
 }
 
-/// Whether the types in steps have sizes.
+/// Whether the types in the steps of a constant `getelementptr` have sizes.
 fn are_steps_sized(extents: &Extents, steps: &[(Ty, List<(Ty, u64)>)]) -> bool
     ensures { result ≡ list_all (is_step_sized extents.now) steps.now }
 {
     steps.iter().all(|step| is_step_sized(extents, step))
 }
 
+/// Whether the type that a step begins at has sizes, and each type of an index.
 fn is_step_sized(extents: &Extents, step: &(Ty, List<(Ty, u64)>)) -> bool
     ensures { result ≡ is_step_sized extents.now step.now }
 {
     has_sizes(extents, &step.0) && are_indices_sized(extents, step.1.as_slice())
 }
 
+/// Whether the types of a step's indices have sizes.
 fn are_indices_sized(extents: &Extents, indices: &[(Ty, u64)]) -> bool
     ensures { result ≡ list_all (λ i. has_sizes extents.now i.0) indices.now }
 {
     indices.iter().all(|index| has_sizes(extents, &index.0))
 }
 
-/// Whether the type of a value has sizes.
+/// Whether the type that stands before an operand has sizes.
 fn is_value_sized(extents: &Extents, ty: ValueType<'_>) -> bool
     ensures { result ≡ has_sizes extents.now (type_of ty.entry) }
 {
@@ -68,6 +70,7 @@ pub fn is_init_sized(extents: &Extents, init: &Init) -> bool
     }
 }
 
+/// Whether the types of an array's items or a struct's fields have sizes, and those within each.
 #[cycle(inits)]
 fn are_items_sized(extents: &Extents, items: &[(Ty, Init)]) -> bool
     ensures { result ≡ list_all (is_item_sized extents.now) items.now }

@@ -1,4 +1,5 @@
-//! Laws about validity: how paths are tested, which clauses make a module valid or refuse it, what is set where it is used.
+//! Laws about validity: how paths are tested, which clauses make a module valid or refuse it, what is set where it is used. `n`,
+//! `b` and `p` number a function, a block in it and an instruction in that.
 ghost use Rattle.std.specs.Prelude.{◌≡◌, ◌↔◌, ◌⊎◌, ◌++◌, ℕ, List, [], ◌∷◌, false, Some, Contains, length, slice_get};
 ghost use Rattle.ms_flow.specs.Paths as flow;
 ghost use Rattle.ms_ir.specs.{declared.syntax.Func.{Func}, declared.syntax.Inst.{Inst}};
@@ -14,13 +15,14 @@ ghost use Rattle.ms_check_valid.specs.{Formed.{Formed}, ValidAt.{FitsOutside, Fi
 ghost use Rattle.ms_check_valid.specs.{Refusals.{Fault, IsFirstUndefined, IsRefused}, UsesDefined.{UsesDefined}};
 ghost use Rattle.ms_check_valid.specs.{PathTest.{undefined_uses}, FlowGraph.{graph_of, flow_use}};
 
-/// Where no use fails the computed test, each use is defined on every path to it.
+/// Where no use fails the test that can be computed (`undefined_uses`), each use is defined on every path to it.
 pub fn law_tested_paths()
     ensures { (m : Module) → undefined_uses m ≡ [] → UsesDefined m }
 {}
 
-/// The paths through a function are those of its graph, a value of the function that is no parameter is defined where it is
-/// used exactly where its number is in the graph, and a path that misses a definition of its number misses one of the value.
+/// The paths through a function are those of its graph (of numbers, for `ms_flow`), a value of the function that is no parameter is
+/// defined where it is used exactly where its number is in the graph, and a path that misses a definition of its number misses one
+/// of the value.
 pub fn law_graph_paths()
     ensures paths { (f : Func) (blocks : List ℕ) → Path f blocks ↔ flow.IsPath (graph_of f) blocks }
     ensures uses { (f : Func) (place : ValueUse) → Contains (locals f) place.name → ¬ Contains (parameter_names f) place.name

@@ -1,4 +1,5 @@
-//! The pairs of an earlier origin and the site of a write, each under its number.
+//! The pairs of an earlier origin and the site of a write, each under its number: the chained origins. Roots have the lowest
+//! numbers.
 ghost use Rattle.std.specs.Prelude.{◌≡◌, ◌≤◌, ◌<◌, ◌+◌, ◌-◌, ◌^◌, [], ℕ, length, IfOk, OnErr, MatchOption, Some, None};
 ghost use Rattle.ms_runs.specs.{World.{World, Setting}, Origins.{depth_limit, trail as trail_of}};
 ghost use Rattle.ms_depot.specs.Depots.{IsNumber, StandsFor, IsChained, depth_in, earlier_of};
@@ -40,7 +41,7 @@ fn depth_of(roots: u32, depths: &[u32], count: usize, id: u32) -> Option<u32>
     }
 }
 
-/// The number of the origin before one on its way; 0, which is no origin's, before a root.
+/// The number of the origin before one on its way to the root; 0, which is no origin's, before a root.
 fn earlier(origin: Origin) -> u32
     ensures { result ≡ earlier_of origin }
 {
@@ -55,8 +56,11 @@ fn earlier(origin: Origin) -> u32
 #[derive(Drop)]
 pub struct Depot {
     alloc: Global,
+    /// The number of roots.
     roots: u32,
+    /// An earlier origin and a site each, in the order of their numbers.
     pairs: IndexSet<(u32, u32)>,
+    /// The depth of each pair; one more may stand here than there are pairs.
     depths: Vec<u32>,
 }
 

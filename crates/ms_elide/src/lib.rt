@@ -1,5 +1,6 @@
-//! Which values of a module are clean: no run gives them a poisoned bit, as far as the text of their functions shows. Shadow
-//! code for them can be left out. They are the greatest set of values whose members support each other, found by removal.
+//! Which values of a module are clean: no run gives them a poisoned bit, as far as the text of their functions shows. The pass
+//! leaves out shadow code for them. They are the greatest set of values whose members support each other, found by removal: an
+//! item is a local of a function by its place, an entry has the items that it needs.
 #![tactic(auto)]
 
 mod checked;

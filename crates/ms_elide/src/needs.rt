@@ -1,4 +1,4 @@
-//! What has to be clean so that a function's results are.
+//! What has to be clean so that a function's results are: an entry for each local, with the places of the locals that it needs.
 ghost use Rattle.std.specs.Prelude.{◌≡◌, ◌++◌, map, take, option_to_list, slice_get, IfOk, OnOk};
 ghost use Rattle.ms_ir.specs.Instructions.{operands};
 ghost use Rattle.ms_check_tables.specs.FirstPlace.{first_place};
@@ -16,9 +16,9 @@ use std::alloc::Global;
 pub enum Need {
     /// Nothing: it is a constant.
     Nothing,
-    /// The local with a place.
+    /// The local with a place among the function's parameters, blocks and results.
     Local(usize),
-    /// It never is.
+    /// It never is clean.
     Never,
 }
 
@@ -47,7 +47,7 @@ fn need_at(locals: &NameTable<'_>, op: &Op, place: usize) -> Need
     }
 }
 
-/// The locals that the first operands of an operation need; none where one of these never is clean.
+/// The locals that the first `count` operands of an operation need; `None` where one of these never is clean.
 fn operands_need(
     alloc: Global,
     locals: &NameTable<'_>,
@@ -67,7 +67,7 @@ fn operands_need(
     Ok(Some(List::from_vec(needs)))
 }
 
-/// The locals that the result of an operation needs; none where it never is clean.
+/// The locals that the result of an operation needs; `None` where it never is clean.
 fn op_need(
     alloc: Global,
     scope: &FuncNames<'_, '_>,
@@ -125,14 +125,14 @@ fn push_block(
     push_results(alloc, scope, needs, block.insts.as_slice())
 }
 
-/// For each parameter that it never is clean.
+/// The entries of the parameters: none ever is clean, as callers differ.
 fn parameter_needs(alloc: Global, func: &Func) -> Result<Vec<Option<List<usize>>>, NoMemory>
     ensures { IfOk result (λ needs. needs.items ≡ map (λ p. None) func.now.params) }
 {
     func.params.as_slice().iter().map(|_| None).collect(alloc)
 }
 
-/// What each local of a function needs, in the order of their places; none for one that never is clean.
+/// What each local of a function needs, in the order of their places; `None` for one that never is clean.
 pub fn needs_of(
     alloc: Global,
     scope: &FuncNames<'_, '_>,

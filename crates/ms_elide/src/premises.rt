@@ -1,4 +1,4 @@
-//! Which operands decide whether a result is clean.
+//! Which operands decide whether a result is clean: so many from the first on.
 ghost use Rattle.std.specs.Prelude.{◌≡◌, if◌then◌else◌};
 ghost use Rattle.ms_ir.specs.Instructions.{external_named};
 ghost use Rattle.ms_check_tables.specs.FirstPlace.{first_place};
@@ -30,7 +30,7 @@ fn external_of(functions: &NameTable<'_>, name: &Name) -> Option<External>
     }
 }
 
-/// How many arguments of an external decide: all of a function of whole words, and none of another.
+/// How many arguments of an external decide: all of a function of whole words, and none of another, whose result always is clean.
 fn answer_premises(external: Option<External>, args: &[(Ty, Operand)]) -> Option<usize>
     ensures { result ≡ answer_premises external args.now }
 {

@@ -1,5 +1,5 @@
-//! The greatest set in which each item has all that it needs, found by removal. The items are the places of a function's locals, and
-//! the set that of the clean ones.
+//! The greatest set in which each item has all that it needs, found by removal. The items are the places of a function's locals,
+//! and the set that of the clean ones.
 ghost use Rattle.std.specs.Prelude.{◌≡◌, ◌<◌, ◌↔◌, ℕ, [], false, map, is_some, All, Contains, IfOk, OnOk, IsTrue, length, slice_index_or};
 ghost use Rattle.ms_elide.specs.{SelfSupport.{Needs, StaysWithin, IsInGreatest}, Removal.{IsRemoved}};
 
@@ -18,7 +18,7 @@ pub fn greatest(alloc: Global, needs: &[Option<List<usize>>]) -> Result<List<boo
     settle(alloc, needs, &users)
 }
 
-/// Removes what can't be a member, and all that needs it.
+/// Removes what can't be a member, and all that needs it, until each member has what it needs. `users` are those of `needs`.
 fn settle(
     alloc: Global,
     needs: &[Option<List<usize>>],
@@ -38,7 +38,7 @@ fn settle(
     Ok(List::from_vec(members))
 }
 
-/// For each item, whether it may be a member.
+/// For each item, whether it may be a member: it has an entry.
 fn able(alloc: Global, needs: &[Option<List<usize>>]) -> Result<Vec<bool>, NoMemory>
     ensures { IfOk result (λ able. able.items ≡ map is_some needs.now) }
 {
@@ -58,7 +58,7 @@ fn barred(alloc: Global, able: &[bool]) -> Result<Vec<usize>, NoMemory>
     Ok(barred)
 }
 
-/// Removes items, and notes those that were still members.
+/// Removes items from `members`, and notes in `removed` those that were still members.
 fn remove(items: &[usize], members: &mut [bool], removed: &mut Vec<usize>) -> Result<(), NoMemory>
     requires { All (λ item. item < length members.old) items.now }
     ensures { OnOk result (IsRemoved items.now members.old removed.old.items members.new removed.new.items) }

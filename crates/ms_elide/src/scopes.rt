@@ -6,6 +6,8 @@ use ms_check_tables::NameTable;
 /// parameters, blocks and results, by whose places they are numbered.
 #[derive(Clone, Copy)]
 pub struct FuncNames<'a, 'm> {
+    /// The functions that the module defines.
     pub functions: &'a NameTable<'m>,
+    /// The function's parameters, blocks and results.
     pub locals: &'a NameTable<'m>,
 }

@@ -15,6 +15,7 @@ use std::marker::Model;
 /// the list of the names.
 #[derive(Drop)]
 pub struct CleanSet<'m> {
+    /// The names of each function's values, in written order.
     funcs: Vec<NameTable<'m>>,
 }
 

@@ -9,6 +9,7 @@ use std::marker::Model;
 /// For each item the items that need it. Contracts see the lists.
 #[derive(Drop)]
 pub struct Users {
+    /// One for each item.
     rows: Vec<Vec<usize>>,
 }
 
@@ -33,7 +34,7 @@ impl Users {
         Ok(Users { rows })
     }
 
-    /// Adds one that needs an item.
+    /// Adds `user` to those that need an item.
     fn add(&mut self, user: usize, item: usize) -> Result<(), NoMemory>
         requires { item < length self.old }
         ensures { OnOk result (self.new ≡ slice_set self.old item (slice_index_or self.old item [] ++ user ∷ [])) }
@@ -42,7 +43,7 @@ impl Users {
         Ok(())
     }
 
-    /// Adds one that needs some items.
+    /// Adds `user` to those that need each of some items.
     fn add_all(&mut self, user: usize, items: &[usize]) -> Result<(), NoMemory>
         requires { All (λ item. item < length self.old) items.now }
         ensures len { OnOk result (length self.new ≡ length self.old) }
@@ -55,7 +56,7 @@ impl Users {
         Ok(())
     }
 
-    /// Adds an item's needs, if it has an entry.
+    /// Adds the item `user` to those that need what its entry has, if it has an entry.
     fn add_entry(&mut self, user: usize, entry: &Option<List<usize>>) -> Result<(), NoMemory>
         requires { All (λ item. item < length self.old) (listed entry.now) }
         ensures len { OnOk result (length self.new ≡ length self.old) }

@@ -1,5 +1,5 @@
-//! The clean values of one function: its premises, and what removal leaves. `members` says of each place of a local whether its value
-//! is clean.
+//! The clean values of one function: its premises, and what removal leaves. `members` says of each place of a local whether its
+//! value is clean.
 ghost use Rattle.std.specs.Prelude.{◌≡◌, ◌++◌, ◌↔◌, ℕ, [], false, IfOk, IsTrue, OnOk, filter, map, option_to_list, slice_index_or};
 ghost use Rattle.ms_ir.specs.{declared.syntax.Name.{Name as NameOf}, declared.syntax.Module.{Module}, Equal.{has_name}};
 ghost use Rattle.ms_ir.specs.Locals.{locals, results, func_insts, function_names};
@@ -15,7 +15,7 @@ use ms_check_tables::{NameTable, locals_of};
 use ms_ir::{Block, Func, Inst, Name};
 use std::alloc::Global;
 
-/// Whether the local with a name is a member.
+/// Whether the local with a name is a member: clean.
 fn is_member(locals: &NameTable<'_>, members: &[bool], name: &Name) -> bool
     ensures { result ≡ is_member locals.now members.now name.now }
 {

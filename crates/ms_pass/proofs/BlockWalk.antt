@@ -25,20 +25,20 @@ module _ (func : Name → Option ℕ) where
       → past_blocks func counts (drop i blocks) ≡ whole → past_blocks func next (drop (i + 1) blocks) ≡ whole
   counts_next counts next whole blocks i b below is later before =
       ap (λ n. past_blocks func n (drop (i + 1) blocks)) later
-      ∙ ap₂ {C = Counts} (λ s r. record { site = s; root = r })
+      ∙ ap₂ {C = Counts} (λ s r. record { site = s; roots = r })
       (add_assoc counts.site (over_insts one_unmarked b.insts) (over_blocks one_unmarked (drop (i + 1) blocks)))
-      (add_assoc counts.root (over_insts (roots_in func) b.insts) (over_blocks (roots_in func) (drop (i + 1) blocks)))
+      (add_assoc counts.roots (over_insts (roots_in func) b.insts) (over_blocks (roots_in func) (drop (i + 1) blocks)))
       ∙ ap (past_blocks func counts) (sym (drop_next blocks i b below is)) ∙ before
 
   pub counts_end : (counts whole : Counts) (blocks : List Block) (i : ℕ) → length blocks ≤ i → past_blocks func counts (drop i blocks) ≡ whole → counts ≡ whole
   counts_end counts whole blocks i past before =
-      ap₂ {C = Counts} (λ s r. record { site = s; root = r }) (omega arith) (omega arith) ∙ ap (past_blocks func counts) (sym (drop_all i blocks past)) ∙ before
+      ap₂ {C = Counts} (λ s r. record { site = s; roots = r }) (omega arith) (omega arith) ∙ ap (past_blocks func counts) (sym (drop_all i blocks past)) ∙ before
 
   pub small_next : (counts whole : Counts) (blocks : List Block) (i : ℕ) (b : Block) → i < length blocks → b ≡ get_or blocks i b
       → past_blocks func counts (drop i blocks) ≡ whole → AreSmall whole → AreSmall (past_insts func counts b.insts)
   small_next counts whole blocks i b below is before small =
       let parts = ap (past_blocks func counts) (sym (drop_next blocks i b below is)) ∙ before in
-      (below_sum counts.site (over_insts one_unmarked b.insts) _ _ (2 ^ 32) (ap (λ c. c.site) parts) small.0, below_sum counts.root (over_insts (roots_in func) b.insts) _ _ (2 ^ 40) (ap (λ c. c.root) parts) small.1)
+      (below_sum counts.site (over_insts one_unmarked b.insts) _ _ (2 ^ 32) (ap (λ c. c.site) parts) small.0, below_sum counts.roots (over_insts (roots_in func) b.insts) _ _ (2 ^ 40) (ap (λ c. c.roots) parts) small.1)
     where
       below_sum : (a b c total limit : ℕ) → a + (b + c) ≡ total → total < limit → a + b < limit
       below_sum a b c total limit e l = omega (arith, e, l)

@@ -44,7 +44,7 @@ module _ (func : Name → Option ℕ) where
   pub next_counts : (fs : List Func) (k : ℕ) → k < length fs → past_blocks func (before_func func fs k) (func_in fs k).blocks ≡ before_func func fs (k + 1)
   next_counts fs k below =
       let sum : (count : Inst → ℕ) → over_funcs count (take k fs) + over_blocks count (func_in fs k).blocks ≡ over_funcs count (take (suc k) fs) = λ count. sym (over_more count fs k below) in
-      ap₂ {C = Counts} (λ s r. record { site = s; root = r })
+      ap₂ {C = Counts} (λ s r. record { site = s; roots = r })
       (add_assoc 1 (over_funcs one_unmarked (take k fs)) (over_blocks one_unmarked (func_in fs k).blocks) ∙ ap (λ n. 1 + n) (sum one_unmarked))
       (add_assoc 0 (over_funcs (roots_in func) (take k fs)) (over_blocks (roots_in func) (func_in fs k).blocks) ∙ ap (λ n. 0 + n) (sum (roots_in func)))
       ∙ ap (before_func func fs) (sym (add-one k))

@@ -23,20 +23,20 @@ module _ (func : Name → Option ℕ) where
       → past_insts func counts (drop i insts) ≡ whole → past_insts func next (drop (i + 1) insts) ≡ whole
   counts_next counts next whole insts i inst below is later before =
       ap (λ n. past_insts func n (drop (i + 1) insts)) later
-      ∙ ap₂ {C = Counts} (λ s r. record { site = s; root = r })
+      ∙ ap₂ {C = Counts} (λ s r. record { site = s; roots = r })
       (add_assoc counts.site (one_unmarked inst) (over_insts one_unmarked (drop (i + 1) insts)))
-      (add_assoc counts.root (roots_in func inst) (over_insts (roots_in func) (drop (i + 1) insts)))
+      (add_assoc counts.roots (roots_in func inst) (over_insts (roots_in func) (drop (i + 1) insts)))
       ∙ ap (past_insts func counts) (sym (drop_next insts i inst below is)) ∙ before
 
   pub counts_end : (counts whole : Counts) (insts : List Inst) (i : ℕ) → length insts ≤ i → past_insts func counts (drop i insts) ≡ whole → counts ≡ whole
   counts_end counts whole insts i past before =
-      ap₂ {C = Counts} (λ s r. record { site = s; root = r }) (omega arith) (omega arith) ∙ ap (past_insts func counts) (sym (drop_all i insts past)) ∙ before
+      ap₂ {C = Counts} (λ s r. record { site = s; roots = r }) (omega arith) (omega arith) ∙ ap (past_insts func counts) (sym (drop_all i insts past)) ∙ before
 
   pub small_next : (counts whole : Counts) (insts : List Inst) (i : ℕ) (inst : Inst) → i < length insts → inst ≡ get_or insts i inst
       → past_insts func counts (drop i insts) ≡ whole → AreSmall whole → AreSmall (past_inst func counts inst)
   small_next counts whole insts i inst below is before small =
       let parts = ap (past_insts func counts) (sym (drop_next insts i inst below is)) ∙ before in
-      (below_sum counts.site (one_unmarked inst) _ _ (2 ^ 32) (ap (λ c. c.site) parts) small.0, below_sum counts.root (roots_in func inst) _ _ (2 ^ 40) (ap (λ c. c.root) parts) small.1)
+      (below_sum counts.site (one_unmarked inst) _ _ (2 ^ 32) (ap (λ c. c.site) parts) small.0, below_sum counts.roots (roots_in func inst) _ _ (2 ^ 40) (ap (λ c. c.roots) parts) small.1)
     where
       below_sum : (a b c total limit : ℕ) → a + (b + c) ≡ total → total < limit → a + b < limit
       below_sum a b c total limit e l = omega (arith, e, l)

@@ -73,7 +73,7 @@ module _ (given : Given) where
   made_first : (clean : ℕ → List Name) (c : Counts) (f : Func) (fs : List Func) → passed_func given (clean 0) (here_of c (name_eq f.name main_name)) f ≡ made_from clean c (f ∷ fs) 0
   unfolding made_from
   made_first clean c f fs =
-      ap (λ n. passed_func given (clean 0) (here_of n (name_eq f.name main_name)) f) (ap₂ {C = Counts} (λ s r. record { site = s; root = r }) (no_more c.site) (no_more c.root))
+      ap (λ n. passed_func given (clean 0) (here_of n (name_eq f.name main_name)) f) (ap₂ {C = Counts} (λ s r. record { site = s; roots = r }) (no_more c.site) (no_more c.roots))
     where
       no_more : (n : ℕ) → n ≡ n + 0
       no_more n = omega arith
@@ -83,17 +83,17 @@ module _ (given : Given) where
   made_next clean c f fs k =
       let g = func_in fs k in
       ap (λ n. passed_func given (clean (suc k)) (here_of n (name_eq g.name main_name)) g)
-      (ap₂ {C = Counts} (λ s r. record { site = s; root = r })
+      (ap₂ {C = Counts} (λ s r. record { site = s; roots = r })
       (add_assoc c.site (over_blocks one_unmarked f.blocks) (over_funcs one_unmarked (take k fs)))
-      (add_assoc c.root (over_blocks (roots_in given.func) f.blocks) (over_funcs (roots_in given.func) (take k fs))))
+      (add_assoc c.roots (over_blocks (roots_in given.func) f.blocks) (over_funcs (roots_in given.func) (take k fs))))
 
   funcs_are : (numbers : ℕ → Numbering) (clean : ℕ → List Name) (fs : List Func) (c : Counts)
       → ((k : ℕ) (f : Func) → slice_get fs k ≡ Some f → numbers k ≡ numbered (value_names f) (clean k))
-      → pass_funcs given numbers fs c.site c.root ≡ map (made_from clean c fs) (range_with_len 0 (length fs))
+      → pass_funcs given numbers fs c.site c.roots ≡ map (made_from clean c fs) (range_with_len 0 (length fs))
   unfolding numbered
   funcs_are numbers clean [] c is = refl
   funcs_are numbers clean (f ∷ fs) c is =
-      let h : Here = record { site = c.site; root = c.root; main = name_eq f.name main_name } in
+      let h : Here = record { site = c.site; root = c.roots; main = name_eq f.name main_name } in
       let by : Numbering → Func = λ n. record f { blocks = enter_block (entry_code n.env f.params (2 * n.size + 1)) (pass_blocks given n.env f.blocks h (2 * n.size + 1)) } in
       let next = past_blocks given.func c f.blocks in
       let later : ℕ → List Name = λ k. clean (suc k) in

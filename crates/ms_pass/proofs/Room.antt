@@ -62,7 +62,7 @@ func_room types given clean c f ready =
     let names = value_names f in
     let numbers : ℕ → Numbering = λ k. record { env = env_by names clean; size = length names } in
     let limits : list_all (λ g. nat_le (length g.params) 100) (f ∷ []) ≡ true = ap (λ a. a && true) (le-leb (length f.params) 100 ready.params) in
-    few (length names) _ _ _ _ (values_few types f ready) (funcs_cost given numbers (f ∷ []) c.site c.root limits) (funcs_bound (f ∷ [])) ready.instructions ready.operands
+    few (length names) _ _ _ _ (values_few types f ready) (funcs_cost given numbers (f ∷ []) c.site c.roots limits) (funcs_bound (f ∷ [])) ready.instructions ready.operands
   where
     few : (size a b c d : ℕ) → size ≤ 100 + 2 ^ 17 → a + 0 ≤ b + 1000 * 1 → b ≡ 200 * (c + 0) + 55 * (d + 0) → c ≤ 2 ^ 17 → d ≤ 2 ^ 20 → 2 * size + 1 + a < 2 ^ 40
     few size a b c d s l e p q = omega (arith, s, l, e, p, q)

@@ -59,7 +59,7 @@ given_by types functions = record { types = types; func = first_place functions 
 
 -- the counts before the first instruction
 abbrev pub no_counts : Counts
-no_counts = record { site = 1; root = 0 }
+no_counts = record { site = 1; roots = 0 }
 
 -- the function with a number, and one without blocks where there is none
 abbrev pub func_in : List Func → ℕ → Func

@@ -1,4 +1,5 @@
-//! The instrumented form of blocks, one after the other, with the number of the next inserted result.
+//! The instrumented form of blocks, one after the other, with the number of the next inserted result, which stays below 2^40
+//! (`room`).
 ghost use Rattle.std.specs.Prelude.{◌≡◌, ◌+◌, ◌++◌, [], ◌∷◌, ◌<◌, ◌≤◌, ◌^◌, All, length, IfOk, OnOk};
 ghost use Rattle.ms_ir.specs.Instructions.{over_blocks};
 ghost use Rattle.ms_check_valid.specs.Formed.{count_written};
@@ -13,8 +14,8 @@ use ms_rules::Scope;
 use ms_rules_builder::Builder;
 use std::alloc::Global;
 
-/// Adds the instrumented form of a block that begins with code, and returns what the next one begins with: no code, and
-/// the number of the next inserted result. The counts become those after it.
+/// Adds the instrumented form of a block, whose first instructions are in `start`, and returns what the next one begins with: no
+/// code, and the number of the next inserted result. The counts become those after it.
 fn push_block(
     alloc: Global,
     done: &mut Vec<Block>,
@@ -40,7 +41,8 @@ fn push_block(
     Ok(Builder::new(alloc, next))
 }
 
-/// The instrumented form of blocks of which the first begins with code. The counts become those after them.
+/// The instrumented form of a function's blocks; the first begins with the code in `start`, which takes over what parameters were
+/// handed. The counts become those after them.
 pub fn passed_blocks(
     alloc: Global,
     scope: &Scope<'_, '_>,

@@ -1,4 +1,4 @@
-//! How many sites and roots stand before a place in a module.
+//! How many sites and roots stand before a place in a module, so that functions can be instrumented each by itself.
 ghost use Rattle.std.specs.{Prelude.{◌≡◌, map, length, IfOk}, List.{range_with_len}};
 ghost use Rattle.ms_check_tables.specs.FirstPlace.{first_place};
 ghost use Rattle.ms_pass.specs.Counted.{past_inst, past_insts, past_blocks, past_funcs, AreSmall};
@@ -14,7 +14,8 @@ use std::alloc::Global;
 #[derive(Clone, Copy)]
 pub struct Counts {
     pub site: u32,
-    pub root: u64,
+    /// The number of roots before it.
+    pub roots: u64,
 }
 
 impl Counts {
@@ -25,7 +26,7 @@ impl Counts {
     {
         Counts {
             site: next_site(self.site, inst),
-            root: self.root + root_count(functions, inst),
+            roots: self.roots + root_count(functions, inst),
         }
     }
 
@@ -63,7 +64,7 @@ pub fn counts_before(
     requires { AreSmall (past_funcs (first_place functions.now) no_counts funcs.now) }
     ensures { IfOk result (λ all. all.items ≡ map (before_func (first_place functions.now) funcs.now) (range_with_len 0 (length funcs.now))) }
 {
-    let mut counts = Counts { site: 1, root: 0 };
+    let mut counts = Counts { site: 1, roots: 0 };
     let mut all = Vec::with_capacity(alloc, funcs.len())?;
     for func in funcs {
         all.push(counts)?;

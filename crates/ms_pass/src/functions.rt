@@ -19,7 +19,8 @@ use ms_rules_builder::Builder;
 use std::alloc::Global;
 use std::thread::Threads;
 
-/// What a function begins with.
+/// What a function begins with: it takes over the masks and origins of its parameters. The first numbers of inserted results are
+/// those of the values, two for each.
 fn entry_of(
     alloc: Global,
     scope: &Scope<'_, '_>,
@@ -33,8 +34,8 @@ fn entry_of(
     Ok(builder)
 }
 
-/// The blocks of the instrumented form of a function, where so many sites and roots stand before it and the values with
-/// some names are known to be clean.
+/// The blocks of the instrumented form of a function, where so many sites and roots stand before it and the values with the
+/// names `clean` are known to be clean.
 fn blocks_in<'m>(
     alloc: Global,
     extents: &Extents<'m>,
@@ -78,7 +79,7 @@ fn blocks_by<'m>(
     passed_blocks(alloc, &scope, &mut counts, start, func.blocks.as_slice())
 }
 
-/// A function with other blocks.
+/// A function with other blocks, a copy in all else.
 fn with_blocks(alloc: Global, func: &Func, blocks: List<Block>) -> Result<Func, NoMemory>
     ensures { IfOk result (λ f. f ≡ record func.now { blocks = blocks }) }
 {
@@ -86,7 +87,7 @@ fn with_blocks(alloc: Global, func: &Func, blocks: List<Block>) -> Result<Func, 
     with_parts(alloc, func, params, blocks)
 }
 
-/// A function with other parameters and blocks.
+/// A function with other parameters and blocks, a copy in all else.
 fn with_parts(
     alloc: Global,
     func: &Func,
@@ -109,12 +110,17 @@ fn with_parts(
 #[derive(Drop)]
 struct Functions<'a, 'm> {
     extents: &'a Extents<'m>,
+    /// The names of the functions.
     functions: &'a NameTable<'m>,
+    /// The clean values of each function.
     clean: &'a CleanSet<'m>,
+    /// The sites and roots before each function.
     counts: &'a [Counts],
     funcs: &'m [Func],
 }
 
+/// The item of a number is the instrumented form of the function with it (`answer`), which can be made where all is known that
+/// the pass asks of it (`can`).
 impl<'a, 'm> Work for Functions<'a, 'm> {
     type Item = Func;
 

@@ -24,9 +24,9 @@ fn push_next(
     ensures code { OnOk result (builder.new ≡ with_inst (given_of scope.now) (env_of scope.now) (here_of counts.old scope.now.main) inst.now builder.old) }
     ensures counts { OnOk result (counts.new ≡ past_inst (given_of scope.now).func counts.old inst.now) }
 {
-    let roots = push_inst(builder, scope, counts.site, counts.root, inst)?;
+    let roots = push_inst(builder, scope, counts.site, counts.roots, inst)?;
     counts.site = next_site(counts.site, inst);
-    counts.root += roots;
+    counts.roots += roots;
     Ok(())
 }
 

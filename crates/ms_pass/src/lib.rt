@@ -1,4 +1,5 @@
-//! The pass: shadow code is inserted into a module, after Stepanov and Serebryany (CGO 2015).
+//! The pass: shadow code is inserted into a module, after Stepanov and Serebryany (CGO 2015). It makes what `check` runs and
+//! `instrument` writes.
 #![tactic(auto)]
 
 mod blocks;

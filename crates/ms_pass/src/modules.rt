@@ -51,7 +51,7 @@ fn declarations_of(alloc: Global, m: &Module) -> Result<List<Decl>, NoMemory>
     joined(alloc, m.decls.as_slice(), runtime.as_slice())
 }
 
-/// The instrumented form of the functions of a module with these clean values.
+/// The instrumented form of the functions of a module with these clean values. Each piece of the work enters `gate`.
 fn funcs_of<'m, R: Threads + Sync, G: Gate + Sync>(
     rt: &R,
     alloc: Global,

@@ -1,4 +1,4 @@
-//! How many checks of words are left.
+//! How many checks of words are left in the instrumented form, where those of clean values are left out.
 ghost use Rattle.std.specs.Prelude.{◌≡◌, ℕ, Bool, Some, option_map};
 ghost use Rattle.ms_ir.specs.{declared.syntax.Name.{Name}, declared.syntax.Func.{Func}};
 ghost use Rattle.ms_ir.specs.{declared.syntax.Module.{Module}, Instructions.{func_at}};

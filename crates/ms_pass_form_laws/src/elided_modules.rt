@@ -1,4 +1,5 @@
-//! Laws about whole modules that are instrumented with clean values left out.
+//! Laws about whole modules that are instrumented with clean values left out (elided). `clean` says of each function's values
+//! which are clean, `eliding clean m` numbers the values in text order with these; `IsElided m j`: j is so made of m.
 ghost use Rattle.std.specs.Prelude.{◌≡◌, ◌≤◌, ◌+◌, ◌*◌, ℕ, Bool, true, Some, length};
 ghost use Rattle.ms_ir.specs.{declared.syntax.Name.{Name}, declared.syntax.Operand.{Operand}};
 ghost use Rattle.ms_ir.specs.{declared.syntax.Func.{Func}, declared.syntax.Module.{Module}};

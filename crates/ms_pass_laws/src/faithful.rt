@@ -1,4 +1,5 @@
-//! Laws about whole instrumented modules.
+//! Laws about whole instrumented modules. `numbers` says of each function how its values are numbered and which are known to be
+//! clean; `numbering` does so in text order, with none; `pass numbers m` is the instrumented form of m.
 ghost use Rattle.std.specs.Prelude.{◌≡◌, ℕ};
 ghost use Rattle.ms_ir.specs.{declared.syntax.Module.{Module}, Instructions.{strip}};
 ghost use Rattle.ms_runs.specs.{declared.runs.Setup.{Setup}, World.{Setting}, Faithful.{Faithful}, Plain.{PlainState, setting_of}};

@@ -1,4 +1,4 @@
-//! Laws about single instructions that rest on laws of whole runs.
+//! A law about single instructions, which rests on laws of whole runs: their masks, by completions and by formulas.
 ghost use Rattle.std.specs.Prelude.{◌≡◌};
 ghost use Rattle.ms_ir.specs.{declared.syntax.Name.{Name}, declared.syntax.Inst.{Inst}};
 ghost use Rattle.ms_runs.specs.{World.{Setting, Here}, Poisoned.{Poisoned}, Masks.{by_completions, by_formulas}};

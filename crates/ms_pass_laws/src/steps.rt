@@ -1,4 +1,5 @@
-//! Laws about steps and runs of an instrumented module beside the shadow run of the module.
+//! Laws about steps and runs of an instrumented module beside the shadow run of the module: c is a state of the shadow run, d one
+//! of the plain run of the instrumented form, and `Follows` says that d has the masks and origins of c in inserted names.
 ghost use Rattle.std.specs.Prelude.{◌≡◌, ℕ, [], unwrap_or};
 ghost use Rattle.ms_ir.specs.{declared.syntax.Module.{Module}, Names.{main_name}, Instructions.{func_index, strip}};
 ghost use Rattle.ms_runs.specs.{declared.runs.Setup.{Setup}, World.{Setting}, Control.{params_at}};

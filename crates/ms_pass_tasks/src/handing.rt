@@ -1,5 +1,6 @@
 //! Laws about calls: what the caller stores in the slots the callee loads, and what the callee stores the caller loads.
-//! That the slots are filled is said by `instruction_is_due`.
+//! That the slots are filled is said by `law_instruction_is_due`. `cells`: what the slots hold; `env`: the names of a function's
+//! values, with their numbers and which of them are clean; `ps`: the arguments with masks and origins.
 ghost use Rattle.std.specs.Prelude.{◌≡◌, ◌≤◌, ℕ, true, length, List, Option, Some};
 ghost use Rattle.ms_ir.specs.{declared.syntax.Name.{Name}, declared.syntax.Ty.{Ty}, declared.syntax.Operand.{Operand}};
 ghost use Rattle.ms_runs.specs.{World.{Setting, Here}, Control.{bind}, Poisoned.{Poisoned, clean}};
@@ -17,7 +18,8 @@ pub fn law_arguments_arrive()
         → Entered s h env params ps cells }
 {}
 
-/// After a call the mask and the origin of what was returned stand under the names of the call's result.
+/// After a call the mask and the origin of what was returned, which the slots hold (`ReturnFits`), stand under the names of the
+/// call's result.
 pub fn law_result_arrives()
     ensures { (s : Setting) → SlotAddresses s → (h : Here) (env : Env) (size : ℕ) → OneName env
         → (x : Option Name) (ret : Option Ty) → KnownResult env size x → (values : Name → Poisoned) (p : Poisoned) (names : Name → ℕ) (cells : ℕ → ℕ)

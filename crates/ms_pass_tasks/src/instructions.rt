@@ -1,6 +1,8 @@
 //! Laws about the lists that are inserted round one instruction that is no phi. The list before it hands over what a
 //! callee or caller takes, checks its operands, counts a blind use and defines the mask and the origin of its result; the
 //! list after it sets the shadow and the origins of memory, or takes the result of a call. All as the shadow run does.
+//! `Stands`: the instruction i stands at h, is taken by the pass, and has `saved` inserted results before it. `Matches`: the words
+//! of inserted code are the masks and origins of the shadow run's `values`. `RangedWorld`, `RangedValues`: origins have 32 bits.
 ghost use Rattle.std.specs.Prelude.{◌≡◌, ◌≢◌, ◌≤◌, ◌+◌, ℕ, true, false, is_some, List, [], Option, Some, None};
 ghost use Rattle.ms_ir.specs.{declared.syntax.Name.{Name}, declared.syntax.Ty.{Ty}, declared.syntax.Operand.{Operand}};
 ghost use Rattle.ms_ir.specs.{declared.syntax.Inst.{Inst}, Names.{is_reserved}, Instructions.{operands}};

@@ -1,4 +1,5 @@
-//! Laws about phis: each is followed by the phis of its mask and of its origin, and a jump reads them all at once.
+//! Laws about phis: each is followed by the phis of its mask and of its origin, and a jump reads them all at once. `is` are the
+//! instructions of the block to which the jump goes, phis first.
 ghost use Rattle.std.specs.Prelude.{◌≡◌, ℕ, drop, true, List};
 ghost use Rattle.ms_ir.specs.{declared.syntax.Name.{Name}, declared.syntax.Inst.{Inst}};
 ghost use Rattle.ms_runs.specs.{World.{Setting, Here}, Control.{phis, count_phis}, Act.{plain_reading}};

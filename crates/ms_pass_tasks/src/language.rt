@@ -1,4 +1,5 @@
-//! Laws about the language of inserted code.
+//! Laws about the language of inserted code: a `Task` is one thing that it does, as a check or a store to shadow; `tasks_code`
+//! makes instructions of tasks, whose temporaries are inserted results. `v`, `u`: words of a frame; `w`: the world.
 ghost use Rattle.std.specs.Prelude.{◌≡◌, ◌≤◌, ℕ, true, List};
 ghost use Rattle.ms_ir.specs.Names.{is_reserved};
 ghost use Rattle.ms_runs.specs.World.{World, Setting, Here};
@@ -7,7 +8,7 @@ ghost use Rattle.ms_pass_tasks.specs.Meaning.{Values, AllMarked, run_marked, do_
 
 /// Tasks have a meaning without temporaries. The instructions that they become come to the same, whatever stands in the
 /// inserted names from `base` on: the run is over in the same way and in the same world, or it goes on in the same world
-/// with the same slots and the same words but for those names. `n` is the number of the first temporary.
+/// with the same slots and the same words but for those names (`Same`). `n` is the number of the first temporary.
 pub fn law_code_does_its_tasks()
     ensures runs { (s : Setting) (h : Here) (base : ℕ) (ts : List Task) → BelowTasks base ts → (n : ℕ) → base ≤ n
         → (v u : Values) (w : World) → Same base v u

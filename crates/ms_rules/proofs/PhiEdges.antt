@@ -17,7 +17,7 @@ use Rattle.ms_rules_builder.specs.Steps.{tracked_of, shadow_mask, shadow_origin}
 use Rattle.ms_rules_builder.specs.declared.tracked.TrackedOperand.{TrackedOperand}
 use Rattle.ms_rules.specs.declared.scopes.Scope.{Scope}
 use Rattle.ms_rules.specs.Scopes.{env_of, unclean_number}
-use Rattle.ms_rules.specs.Edges.{masks, origins, with_operands, first_operand, with_first, pair_of}
+use Rattle.ms_rules.specs.Edges.{masks, origins, with_operands, first_operand, with_first, shadow_phis}
 use Rattle.ms_rules.proofs.Unclean.{number_first}
 
 -- ---- edges in turn
@@ -88,8 +88,8 @@ module _ (env : Env) (t : Ty) where
 -- the phis after a phi
 pub phis_are : (s : Scope) (v root : ℕ) (n : Option Name) (x : Name) (t : Ty) (es : List (Operand × Name)) (ts : List TrackedOperand) → n ≡ Some x → Some v ≡ unclean_number (env_of s) x
     → map tracked_of ts ≡ tracked (env_of s) root (map (λ e. (t, e.0)) es)
-    → pair_of v t (with_operands (masks ts) es) (with_first (origins ts) (map (λ e. e.1) es) es) ≡ phi_code (env_of s) root n t es
+    → shadow_phis v t (with_operands (masks ts) es) (with_first (origins ts) (map (λ e. e.1) es) es) ≡ phi_code (env_of s) root n t es
 phis_are s v root n x t es ts named numbered are =
-    (λ j. pair_of v t (masks_are (env_of s) t root ts es are j) (origins_are (env_of s) t root ts es are j))
+    (λ j. shadow_phis v t (masks_are (env_of s) t root ts es are j) (origins_are (env_of s) t root ts es are j))
     ∙ number_first {A = List Inst} (λ v. phi_pair (env_of s) v root t es) [] ((env_of s).clean x) ((env_of s).number x) (Some v) numbered
     ∙ ap (λ m. phi_code (env_of s) root m t es) (sym named)

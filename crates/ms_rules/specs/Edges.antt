@@ -35,5 +35,5 @@ abbrev pub with_first : List Operand → List Name → List (Operand × Name) �
 with_first os labels es = map (λ e. (first_operand os labels e.1, e.1)) es
 
 -- the phis of the mask and the origin of the value with a number
-abbrev pub pair_of : (v : ℕ) → Ty → (masks origins : List (Operand × Name)) → List Inst
-pair_of v t ms os = inserted (Some (mask_name v)) (op.Phi (mask_type t) ms) ∷ inserted (Some (origin_name v)) (op.Phi (Int 32) os) ∷ []
+abbrev pub shadow_phis : (v : ℕ) → Ty → (masks origins : List (Operand × Name)) → List Inst
+shadow_phis v t ms os = inserted (Some (mask_name v)) (op.Phi (mask_type t) ms) ∷ inserted (Some (origin_name v)) (op.Phi (Int 32) os) ∷ []

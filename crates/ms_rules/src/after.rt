@@ -16,7 +16,7 @@ use ms_rules_builder::Builder;
 use ms_rules_tables::update_shadow;
 use ms_slots::fetch_result;
 
-/// The size of what an `alloca` makes room for, and 0 of another operation.
+/// The bytes of one element of an `alloca`, and 0 of another operation.
 fn element_size(scope: &Scope<'_, '_>, op: &Op) -> u64
     requires { IsSizedAlloca (given_of scope.now).types op.now }
     ensures { element_size (given_of scope.now).types op.now ≡ result }
@@ -27,7 +27,7 @@ fn element_size(scope: &Scope<'_, '_>, op: &Op) -> u64
     }
 }
 
-/// Adds what takes over the mask and the origin of a result of a call.
+/// Adds what takes over the mask and the origin of a call's result from its slots, unless the result is known to be clean.
 #[tactic(auto, using(crate::proofs::Adding::none_with))]
 fn take_over(
     builder: &mut Builder,
@@ -61,7 +61,7 @@ fn take_result(
     }
 }
 
-/// Adds what stands after an instruction that is no phi. `saved` is the number of what was saved before it.
+/// Adds what stands after an instruction that is no phi. `saved` is the number of the inserted result that was saved before it.
 pub fn push_after(
     builder: &mut Builder,
     scope: &Scope<'_, '_>,

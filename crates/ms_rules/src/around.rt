@@ -16,7 +16,7 @@ use ms_bits::NoMemory;
 use ms_ir::{External, Inst, Op};
 use ms_rules_builder::Builder;
 
-/// The next number, which is kept where something is saved under it.
+/// The number of the next inserted result; it is kept for what is saved before a call of an external that needs that (`realloc`).
 pub fn number_to_save(builder: &mut Builder, external: Option<External>) -> u64
     requires { builder.old.next < 2 ^ 40 }
     ensures number { result ≡ builder.old.next }
@@ -28,7 +28,7 @@ pub fn number_to_save(builder: &mut Builder, external: Option<External>) -> u64
     }
 }
 
-/// Adds an instruction that is no phi between its lists.
+/// Adds an instruction that is no phi between its lists, with what is known of its callee and its operands.
 fn push_around(
     builder: &mut Builder,
     scope: &Scope<'_, '_>,

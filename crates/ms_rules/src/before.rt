@@ -14,7 +14,7 @@ use ms_rules_builder::{Builder, TrackedOperand};
 use ms_rules_tables::{check, count_blind, define, save};
 use ms_slots::{hand_arguments, hand_result};
 
-/// Adds what hands masks and origins over to a function of the module that is called, or to the caller.
+/// Adds what hands masks and origins over in slots: at a call to a function of the module, at a return to the caller.
 #[tactic(auto, using(crate::proofs::Adding::none_with))]
 fn hand_over(
     builder: &mut Builder,
@@ -68,7 +68,7 @@ fn define_result(
     }
 }
 
-/// Adds what stands before an instruction that is no phi. `saved` is the number for what is saved.
+/// Adds what stands before an instruction that is no phi. `saved` is the number of the inserted result for what is saved.
 pub fn push_before(
     builder: &mut Builder,
     scope: &Scope<'_, '_>,

@@ -10,7 +10,9 @@ use ms_ir::{External, Name, Op};
 /// What an operation calls: a function of the module, an external, or nothing.
 #[derive(Clone, Copy)]
 pub struct CalleeKind {
+    /// It is a function of the module.
     pub own: bool,
+    /// The external that it is, if it is one.
     pub external: Option<External>,
 }
 
@@ -44,7 +46,7 @@ pub fn callee_of(functions: &NameTable<'_>, op: &Op) -> CalleeKind
     }
 }
 
-/// Whether an external makes uninitialised bytes.
+/// Whether an external makes uninitialised bytes, so that a call of it is a root.
 fn makes_unset(external: Option<External>) -> bool
     ensures { result ≡ makes_unset external }
 {
@@ -56,7 +58,7 @@ fn makes_unset(external: Option<External>) -> bool
     }
 }
 
-/// How many roots an operation is itself.
+/// How many roots an operation is itself, besides its undefined operands: 1 where it makes uninitialised bytes, else 0.
 pub fn own_roots(functions: &NameTable<'_>, callee: CalleeKind, op: &Op) -> u64
     requires { IsCallee (first_place functions.now) op.now callee }
     ensures { result ≡ if is_root (first_place functions.now) op.now then 1 else 0 }

@@ -21,7 +21,7 @@ fn is_zero(operand: &Operand) -> bool
     }
 }
 
-/// Adds the name of a value whose operands are the constant 0.
+/// Adds the name of a value if its mask and its origin, `operands`, are the constant 0.
 fn push_clean<'m>(
     names: &mut NameTable<'m>,
     name: &'m Name,
@@ -35,7 +35,7 @@ fn push_clean<'m>(
     Ok(())
 }
 
-/// The names of values whose operands are the constant 0.
+/// The names of the values, of those given with mask and origin, whose mask and origin are the constant 0.
 pub fn clean_names(
     alloc: Global,
     values: &BTreeMap<Name, (Operand, Operand)>,

@@ -1,4 +1,5 @@
-//! The edges of the phis of masks and origins. Where several edges come from one block, their origin is that of the first of them.
+//! The edges of the phis that are inserted after a phi, for its mask and its origin. Where several edges come from one block, their
+//! origin is that of the first of them.
 ghost use Rattle.std.specs.Prelude.{◌≡◌, ◌++◌, [], ◌∷◌, length, map, IfOk, OnOk};
 ghost use Rattle.ms_rules_builder.specs.Steps.{shadow_mask};
 ghost use Rattle.ms_rules.specs.Edges.{masks, origins, with_operands, first_operand, with_first};
@@ -35,7 +36,7 @@ fn push_mask(
     push_edge(edges, operand, label)
 }
 
-/// Edges with the masks of their operands.
+/// The edges of the phi of a mask: for each edge its label, with the mask of its operand.
 pub fn mask_edges(
     alloc: Global,
     operands: &[TrackedOperand<'_>],

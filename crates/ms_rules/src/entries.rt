@@ -10,7 +10,7 @@ use ms_ir::{Name, Ty};
 use ms_rules_builder::Builder;
 use ms_slots::fetch_parameter;
 
-/// Adds what takes over the mask and the origin of the parameter with a place, from 0.
+/// Adds what takes over the mask and the origin of the parameter with a place, from 0, from their slots.
 #[tactic(auto, using(crate::proofs::Adding::none_with))]
 fn push_parameter(
     builder: &mut Builder,

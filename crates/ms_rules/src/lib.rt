@@ -1,4 +1,5 @@
-//! What is inserted round one instruction.
+//! What is inserted round one instruction, for `ms_pass`, which goes through a module: a list before the instruction and one after
+//! it. `ms_rules_tables` has the rules.
 #![tactic(auto)]
 
 mod after;

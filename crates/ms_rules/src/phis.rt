@@ -1,9 +1,9 @@
-//! Phis, which the phis of their masks and origins follow.
+//! Phis of the program, each followed by two that are inserted: one for its mask, one for its origin.
 ghost use Rattle.std.specs.Prelude.{◌≡◌, ◌<◌, ◌≤◌, ◌^◌, [], ◌∷◌, Some, All, length, map, IfOk, OnOk};
 ghost use Rattle.ms_ir.specs.{declared.syntax.Ty.{Int}, Instructions.{count_undefs, operands}, Layout.{width_of}};
 ghost use Rattle.ms_pass_tasks.specs.{Tasks.{inserted, mask_name, origin_name}, Environments.{mask_type}};
 ghost use Rattle.ms_pass_tasks.specs.PassLists.{phi_code};
-ghost use Rattle.ms_rules.specs.{Edges.{masks, origins, with_operands, with_first, pair_of}, Placed.{with_insts}};
+ghost use Rattle.ms_rules.specs.{Edges.{masks, origins, with_operands, with_first, shadow_phis}, Placed.{with_insts}};
 ghost use Rattle.ms_rules.specs.{Scopes.{env_of}, Tracking.{IsTracked}};
 
 use crate::copies::push_copy;
@@ -32,7 +32,7 @@ fn put_phi(
     )
 }
 
-/// Adds the phi of the mask of the value with a number.
+/// Adds the phi of the mask of the value with a number, which is a phi with these edges and operands.
 fn put_mask(
     builder: &mut Builder,
     value: u32,
@@ -48,7 +48,7 @@ fn put_mask(
     put_phi(builder, name, width_of(ty), edges)
 }
 
-/// Adds the phi of the origin of the value with a number.
+/// Adds the phi of the origin of the value with a number, which is a phi with these edges and operands.
 fn put_origin(
     builder: &mut Builder,
     value: u32,
@@ -63,7 +63,7 @@ fn put_origin(
 }
 
 /// Adds the phis of the mask and the origin of the value with a number.
-fn put_pair(
+fn put_shadow_phis(
     builder: &mut Builder,
     value: u32,
     ty: &Ty,
@@ -71,14 +71,14 @@ fn put_pair(
     operands: &[TrackedOperand<'_>],
 ) -> Result<(), NoMemory>
     requires { length operands.now ≡ length edges.now }
-    ensures { OnOk result (builder.new ≡ with_insts builder.old (pair_of value ty.now (with_operands (masks operands.now) edges.now) (with_first (origins operands.now) (map (λ e. e.1) edges.now) edges.now))) }
+    ensures { OnOk result (builder.new ≡ with_insts builder.old (shadow_phis value ty.now (with_operands (masks operands.now) edges.now) (with_first (origins operands.now) (map (λ e. e.1) edges.now) edges.now))) }
 {
     put_mask(builder, value, ty, edges, operands)?;
     put_origin(builder, value, edges, operands)
 }
 
-/// Adds the phis of the mask and the origin of a phi, where its result has a number.
-fn push_pair(
+/// Adds the phis of the mask and the origin of a phi, where its result has a number: not where it is known to be clean.
+fn push_shadow_phis(
     builder: &mut Builder,
     scope: &Scope<'_, '_>,
     name: &Option<Name>,
@@ -92,14 +92,14 @@ fn push_pair(
 {
     match name {
         Some(name) => match scope.number(name) {
-            Some(value) => put_pair(builder, value, ty, edges, &tracking.operands),
+            Some(value) => put_shadow_phis(builder, value, ty, edges, &tracking.operands),
             None => Ok(()),
         },
         None => Ok(()),
     }
 }
 
-/// Adds what stands after a phi: the phis of its mask and its origin. Returns how many of its operands are undefined.
+/// Adds what stands after a phi: the phis of its mask and its origin. Returns how many of its operands are undefined: its roots.
 pub fn push_after_phi(
     builder: &mut Builder,
     scope: &Scope<'_, '_>,
@@ -116,7 +116,7 @@ pub fn push_after_phi(
     ensures roots { IfOk result (λ n. n ≡ count_undefs (operands inst.now.op)) }
 {
     let tracking = track(builder.alloc(), scope, roots_before, &inst.op)?;
-    push_pair(builder, scope, &inst.result, ty, edges, &tracking)?;
+    push_shadow_phis(builder, scope, &inst.result, ty, edges, &tracking)?;
     Ok(tracking.after - tracking.before)
 }
 

@@ -10,9 +10,13 @@ use ms_ir::Name;
 #[derive(Clone, Copy)]
 pub struct Scope<'a, 'm> {
     pub extents: &'a Extents<'m>,
+    /// The functions that the module defines.
     pub functions: &'a NameTable<'m>,
+    /// All values of the function, each numbered by its place.
     pub values: &'a NameTable<'m>,
+    /// Those of them of which nothing is computed.
     pub clean: &'a NameTable<'m>,
+    /// The function is `main`.
     pub main: bool,
 }
 

@@ -1,4 +1,5 @@
-//! The two lists of one instruction alone, without its module's other code: what `emit` gives.
+//! The two lists of one instruction alone, without its module's other code: what `emit` gives. The pass doesn't call it. An
+//! instruction has at most 200 inserted results, and 55 for each operand (`room`).
 ghost use Rattle.std.specs.Prelude.{◌≡◌, ◌+◌, ◌*◌, ◌<◌, ◌≤◌, ◌^◌, false, length, IfOk};
 ghost use Rattle.ms_ir.specs.{Instructions.{is_phi, operands}, Names.{name_eq, main_name}};
 ghost use Rattle.ms_check_tables.specs.FirstPlace.{first_place};
@@ -31,7 +32,9 @@ use std::collections::BTreeMap;
 #[derive(Drop)]
 pub struct Env {
     pub site: u32,
+    /// The number of roots before the instruction.
     pub root: u32,
+    /// By name a mask and an origin.
     pub values: BTreeMap<Name, (Operand, Operand)>,
 }
 
@@ -43,7 +46,7 @@ pub struct Emitted {
     pub next: u32,
 }
 
-/// The lists as they are answered.
+/// What `emit` answers, of what was added before and after the instruction.
 fn answer(before: Builder, after: Builder) -> Emitted
     requires { after.next < 2 ^ 32 }
     ensures { lists_of result ≡ record { before = before.code; after = after.code; next = after.next } }
@@ -56,7 +59,7 @@ fn answer(before: Builder, after: Builder) -> Emitted
     }
 }
 
-/// The lists round a phi.
+/// The lists round a phi; the one before it is empty.
 fn round_phi(
     alloc: Global,
     scope: &Scope<'_, '_>,
@@ -78,7 +81,7 @@ fn round_phi(
     Ok(answer(Builder::new(alloc, next), after))
 }
 
-/// The lists round an instruction that is no phi.
+/// The lists round an instruction that is no phi, of whose callee and operands this is known.
 fn round_tracked(
     alloc: Global,
     scope: &Scope<'_, '_>,
@@ -126,7 +129,7 @@ fn round_plain(
     round_tracked(alloc, scope, site, next, inst, callee, &tracking)
 }
 
-/// Whether an operation calls a function of the module, or returns outside `main`.
+/// Whether an operation calls a function of the module, or returns outside `main`, and so hands masks over.
 fn is_handing_over(scope: &Scope<'_, '_>, op: &Op) -> bool
     ensures { result ≡ hands_over (given_of scope.now).func scope.now.main op.now }
 {
@@ -137,7 +140,7 @@ fn is_handing_over(scope: &Scope<'_, '_>, op: &Op) -> bool
     }
 }
 
-/// The lists round an instruction.
+/// The lists round an instruction; empty ones where it hands masks over.
 fn round_inst(
     alloc: Global,
     scope: &Scope<'_, '_>,
@@ -230,7 +233,7 @@ fn round_sized<'m>(
     round_in(alloc, extents, &functions, func, inst, env, next)
 }
 
-/// The lists round an instruction of a function of a module.
+/// The lists round an instruction of a function of a module; `next` is the number of the next inserted result.
 fn round_of<'m>(
     alloc: Global,
     m: &'m Module,

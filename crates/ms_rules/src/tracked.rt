@@ -17,11 +17,13 @@ use std::alloc::Global;
 #[derive(Drop)]
 pub struct Tracking<'a> {
     pub operands: Vec<TrackedOperand<'a>>,
+    /// The number of roots before the operands.
     pub before: u64,
+    /// The number of roots up to the last operand.
     pub after: u64,
 }
 
-/// What is known of a value of the function.
+/// What is known of the function's value with a name: that it is clean, or else only the names of its mask and its origin.
 fn value_shadow(scope: &Scope<'_, '_>, name: &Name) -> Shadow
     requires { length scope.now.values.now ≤ 2 ^ 30 }
     ensures mask { shadow_mask result ≡ local_mask (env_of scope.now) name.now }
@@ -58,7 +60,7 @@ fn shadow_of(scope: &Scope<'_, '_>, width: u8, roots_before: u64, operand: &Oper
     }
 }
 
-/// An operand with what is known of it, where so many roots stand before it.
+/// An operand with what is known of it, where so many roots of the module stand before it.
 fn track_one<'a>(
     scope: &Scope<'_, '_>,
     roots_before: u64,
@@ -94,7 +96,7 @@ pub fn one_undefined(operand: &Operand) -> u64
 }
 
 impl<'a> Tracking<'a> {
-    /// Adds an operand after the others.
+    /// Adds an operand, of the type before it, after the others.
     fn push(
         &mut self,
         scope: &Scope<'_, '_>,

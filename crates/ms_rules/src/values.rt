@@ -1,4 +1,4 @@
-//! The names of a function's values.
+//! The names of a function's values, which number them: value v has the inserted results 2v + 1 and 2v + 2, mask and origin.
 ghost use Rattle.std.specs.Prelude.{◌≡◌, ◌++◌, option_to_list, IfOk};
 ghost use Rattle.ms_rules.specs.Valued.{result_names, block_results, value_names, valued};
 

@@ -1,4 +1,4 @@
-//! The arguments of calls of runtime functions.
+//! The types of the arguments of inserted calls of runtime functions; the table of their signatures is in `ms_ir/src/runtime.rt`.
 ghost use Rattle.std.specs.{Prelude.{◌≡◌, map, IfOk}, List.{zip}};
 ghost use Rattle.ms_ir.specs.declared.calls.RuntimeFn.TheVariants as called;
 ghost use Rattle.ms_ir.specs.Signatures.{runtime_signature};
@@ -31,27 +31,27 @@ impl Parameter {
 
 const POINTER: Parameter = Parameter::Pointer;
 
-const LONG: Parameter = Parameter::Bits(64);
+const I64: Parameter = Parameter::Bits(64);
 
-const SHORT: Parameter = Parameter::Bits(32);
+const I32: Parameter = Parameter::Bits(32);
 
-const HALF: Parameter = Parameter::Bits(16);
+const I16: Parameter = Parameter::Bits(16);
 
-const BYTE: Parameter = Parameter::Bits(8);
+const I8: Parameter = Parameter::Bits(8);
 
-/// The parameters of a function that moves bits.
+/// The parameters of a function that moves bits: one word, or two and the amount of a funnel shift.
 fn move_parameters(kind: BitMove) -> &'static [Parameter]
     ensures { map parameter_type result.now ≡ (runtime_signature (called.Move kind)).params }
 {
     match kind {
-        BitMove::Bitreverse8 => &[BYTE],
-        BitMove::Bswap16 | BitMove::Bitreverse16 => &[HALF],
-        BitMove::Bswap32 | BitMove::Bitreverse32 => &[SHORT],
-        BitMove::Bswap64 | BitMove::Bitreverse64 => &[LONG],
-        BitMove::Fshl8 | BitMove::Fshr8 => &[BYTE, BYTE, BYTE],
-        BitMove::Fshl16 | BitMove::Fshr16 => &[HALF, HALF, HALF],
-        BitMove::Fshl32 | BitMove::Fshr32 => &[SHORT, SHORT, SHORT],
-        BitMove::Fshl64 | BitMove::Fshr64 => &[LONG, LONG, LONG],
+        BitMove::Bitreverse8 => &[I8],
+        BitMove::Bswap16 | BitMove::Bitreverse16 => &[I16],
+        BitMove::Bswap32 | BitMove::Bitreverse32 => &[I32],
+        BitMove::Bswap64 | BitMove::Bitreverse64 => &[I64],
+        BitMove::Fshl8 | BitMove::Fshr8 => &[I8, I8, I8],
+        BitMove::Fshl16 | BitMove::Fshr16 => &[I16, I16, I16],
+        BitMove::Fshl32 | BitMove::Fshr32 => &[I32, I32, I32],
+        BitMove::Fshl64 | BitMove::Fshr64 => &[I64, I64, I64],
     }
 }
 
@@ -60,24 +60,37 @@ fn parameters(function: RuntimeFn) -> &'static [Parameter]
     ensures { map parameter_type result.now ≡ (runtime_signature function).params }
 {
     match function {
-        RuntimeFn::Check => &[LONG, SHORT, SHORT, SHORT, SHORT, SHORT],
-        RuntimeFn::CheckMemory => &[POINTER, LONG, SHORT, SHORT],
-        RuntimeFn::CheckString => &[POINTER, SHORT],
-        RuntimeFn::Blind => &[LONG],
-        RuntimeFn::Poison => &[POINTER, LONG, LONG, SHORT],
-        RuntimeFn::Unpoison => &[POINTER, LONG],
-        RuntimeFn::Copy => &[POINTER, POINTER, LONG],
-        RuntimeFn::Fill => &[POINTER, LONG, LONG, SHORT, SHORT],
-        RuntimeFn::StoreOrigin => &[POINTER, LONG, SHORT, SHORT],
-        RuntimeFn::LoadOrigin => &[POINTER, LONG],
+        // mask, its bits, origin, kind of use, place of the operand, site
+        RuntimeFn::Check => &[I64, I32, I32, I32, I32, I32],
+        // start, size, kind of use, site
+        RuntimeFn::CheckMemory => &[POINTER, I64, I32, I32],
+        // start, site
+        RuntimeFn::CheckString => &[POINTER, I32],
+        // mask
+        RuntimeFn::Blind => &[I64],
+        // block, its first byte that is poisoned, the byte after the last one, root
+        RuntimeFn::Poison => &[POINTER, I64, I64, I32],
+        // start, size
+        RuntimeFn::Unpoison => &[POINTER, I64],
+        // target, source, size
+        RuntimeFn::Copy => &[POINTER, POINTER, I64],
+        // start, size, mask of the byte, its origin, site
+        RuntimeFn::Fill => &[POINTER, I64, I64, I32, I32],
+        // address, mask of what is stored, its origin, site
+        RuntimeFn::StoreOrigin => &[POINTER, I64, I32, I32],
+        // address, mask of what is loaded
+        RuntimeFn::LoadOrigin => &[POINTER, I64],
+        // block
         RuntimeFn::Size => &[POINTER],
-        RuntimeFn::CheckFormat => &[POINTER, SHORT, POINTER, SHORT],
-        RuntimeFn::ThreadResult => &[POINTER, LONG, SHORT, SHORT],
+        // format, place of the argument, its string, site
+        RuntimeFn::CheckFormat => &[POINTER, I32, POINTER, I32],
+        // where the join stored the value, thread, what the join returned, site
+        RuntimeFn::ThreadResult => &[POINTER, I64, I32, I32],
         RuntimeFn::Move(kind) => move_parameters(kind),
     }
 }
 
-/// Operands with the types of a runtime function's parameters.
+/// The arguments of a call of a runtime function: these operands, each with the type of its parameter.
 pub fn arguments(
     alloc: Global,
     function: RuntimeFn,

@@ -1,4 +1,6 @@
-//! A list of instructions that grows at its end.
+//! A list of instructions that grows at its end: those of a program, and the inserted ones, which rules are made into. Contracts
+//! tell these by tasks (`ms_pass_tasks`): `Sets` a result to a word, `Tries` an operation that may trap, `Fetches` (a load), `Puts`
+//! (a store), `Calls`.
 ghost use Rattle.std.specs.Prelude.{◌≡◌, ℕ, length, ◌+◌, ◌-◌, ◌<◌, ◌≤◌, ◌^◌, ◌++◌, [], ◌∷◌, true, reverse, map, List as ListOf, OnOk, Option, Some, None};
 ghost use Rattle.ms_ir.specs.{declared.syntax.Ty.{Ty as TyOf, Int}, Names.{runtime_name as runtime_name_of}};
 ghost use Rattle.ms_ir.specs.Signatures.{runtime_signature};
@@ -25,6 +27,7 @@ use std::marker::Model;
 pub struct Builder {
     alloc: Global,
     insts: Vec<Inst>,
+    /// The number of the next inserted result.
     next: u64,
 }
 
@@ -37,6 +40,7 @@ impl Model for Builder {
 
     ghost Value = { tasks.InsertedCode };
 
+    // By which the prover tells values of the model apart.
     ghost coded = { code_by (List Inst × ℕ) (coded× (coded_list instruction.the_row.coded) coded_ℕ) (λ c. (c.code, c.next)) (λ p. record { code = p.0; next = p.1 }) (λ _. refl) };
 
     ghost view = { λ c. record { code = c.insts.items; next = c.next } };
@@ -44,6 +48,7 @@ impl Model for Builder {
     ghost invariant = { λ c. c.next ≤ 2 ^ 40 + length c.insts.items };
 }
 
+/// Adds an instruction at the end.
 #[inline(always)]
 fn append(insts: &mut Vec<Inst>, inst: Inst) -> Result<(), NoMemory>
     ensures code { OnOk result (insts.new.items ≡ insts.old.items ++ inst ∷ []) }
@@ -54,7 +59,7 @@ fn append(insts: &mut Vec<Inst>, inst: Inst) -> Result<(), NoMemory>
 }
 
 impl Builder {
-    /// No instructions yet. Takes no memory.
+    /// No instructions yet; the first inserted result gets the number `next`. Takes no memory.
     pub fn new(alloc: Global, next: u64) -> Builder
         requires { next ≤ 2 ^ 40 }
         ensures { result ≡ record { code = []; next = next } }
@@ -104,7 +109,7 @@ impl Builder {
         append(&mut self.insts, inst)
     }
 
-    /// Adds an inserted instruction.
+    /// Adds an inserted instruction, marked, whose result has this name.
     #[inline(always)]
     pub fn put(&mut self, name: Option<Name>, op: Op) -> Result<(), NoMemory>
         ensures { OnOk result (self.new ≡ record { code = self.old.code ++ inserted name op ∷ []; next = self.old.next }) }
@@ -119,7 +124,7 @@ impl Builder {
         )
     }
 
-    /// A name of a width gets the word that steps leave, of which `last` is an operation.
+    /// An inserted result with a name and a width gets the word that steps leave, of which the last, `last`, is an operation.
     pub fn set(
         &mut self,
         name: Name,
@@ -135,7 +140,7 @@ impl Builder {
         self.put(Some(name), operation_at(&mut stack, inputs, last))
     }
 
-    /// A name of a width gets a word that is there already.
+    /// An inserted result with a name and a width gets a word that is there already, by an `or` with 0.
     pub fn set_leaf(
         &mut self,
         name: Name,
@@ -159,7 +164,7 @@ impl Builder {
         )
     }
 
-    /// A name of a width gets what an operation that may trap makes of the two words that steps leave.
+    /// An inserted result with a name and a width gets what an operation that may trap makes of the two words that steps leave.
     pub fn attempt(
         &mut self,
         name: Name,
@@ -174,7 +179,7 @@ impl Builder {
         self.put(Some(name), binary(&mut stack, op, Ty::Int(width)))
     }
 
-    /// A name of a width gets what stands at the address that steps leave.
+    /// An inserted result with a name and a width gets what stands at the address that steps leave.
     pub fn fetch(
         &mut self,
         name: Name,
@@ -201,7 +206,7 @@ impl Builder {
         self.put(None, store(&mut stack, Ty::Int(width)))
     }
 
-    /// A runtime function is called with the words that steps leave.
+    /// A runtime function is called with the words that steps leave; what it returns gets the name, if there is one.
     pub fn call(
         &mut self,
         name: Option<Name>,

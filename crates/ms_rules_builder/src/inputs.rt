@@ -11,14 +11,18 @@ use ms_ir::Name;
 #[derive(Clone, Copy)]
 pub struct Inputs<'a> {
     pub operands: &'a [TrackedOperand<'a>],
+    /// In bits.
     pub width: u8,
+    /// The word of this width with all bits.
     pub ones: u64,
+    /// The word of this width with the sign bit alone.
     pub sign: u64,
+    /// The name of the instruction's result.
     pub result: &'a Option<Name>,
 }
 
 impl<'a> Inputs<'a> {
-    /// The inputs of a rule that uses neither of the two words.
+    /// The inputs of a rule that uses neither `ones` nor `sign`; `name` is that of the instruction's result.
     pub fn plain(
         operands: &'a [TrackedOperand<'a>],
         width: u8,
@@ -35,7 +39,7 @@ impl<'a> Inputs<'a> {
         }
     }
 
-    /// The inputs of a rule that works on a width.
+    /// The inputs of a rule that works on a width in bits; `name` is that of the instruction's result.
     pub fn new(operands: &'a [TrackedOperand<'a>], width: u8, name: &'a Option<Name>) -> Inputs<'a>
         requires some { 1 ≤ width }
         requires few { width ≤ 64 }

@@ -1,4 +1,4 @@
-//! The names that inserted code gives and calls.
+//! The names that inserted code gives its results, and those that it calls.
 ghost use Rattle.std.specs.Prelude.{◌≡◌, ◌+◌, ◌*◌, ◌<◌, ◌^◌, IfOk};
 ghost use Rattle.ms_ir.specs.Names.{runtime_name as runtime_name_of};
 ghost use Rattle.ms_pass_tasks.specs.Tasks.{msan_name as msan_name_of, mask_name as mask_name_of, origin_name as origin_name_of};
@@ -17,7 +17,7 @@ pub fn msan_name(alloc: Global, number: u64) -> Result<Name, NoMemory>
     Ok(Name::Text(SmallBytes::joined(alloc, b"__msan.", digits)?))
 }
 
-/// The name of the mask of the function's value with a number.
+/// The name of the mask of the function's value with a number: value v has the inserted results 2v + 1 and 2v + 2.
 pub fn mask_name(alloc: Global, value: u64) -> Result<Name, NoMemory>
     requires { value < 2 ^ 62 }
     ensures { IfOk result (λ x. x ≡ mask_name_of value) }

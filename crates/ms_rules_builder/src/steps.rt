@@ -1,4 +1,4 @@
-//! The steps of which rules consist.
+//! The steps of which rules consist, each an operation of a machine with a stack.
 use ms_bits::{CastOp, Pred};
 
 /// An operation on two words that never traps.
@@ -37,9 +37,9 @@ pub enum StackOp {
     Ones,
     /// The word with the sign bit alone.
     Sign,
-    /// The inserted result with a number.
+    /// The inserted result with a number, which was made before.
     Inserted(u64),
-    /// The result of the instruction.
+    /// The result of the instruction round which code is inserted.
     Result,
     /// A word of so many bits as one of 64, with zeros before it.
     Widen(u8),
@@ -49,7 +49,7 @@ pub enum StackOp {
     Two(Operation, Width),
     /// A comparison of two words, which gives a bit.
     Test(Pred, Width),
-    /// By a bit, one of two words.
+    /// By a bit, one of two words: the first where it is 1.
     Pick(Width),
     /// A cast of a word from one width to another.
     Turn(CastOp, Width, Width),

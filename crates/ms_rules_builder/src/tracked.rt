@@ -1,4 +1,4 @@
-//! Operands with what is known of their masks and origins.
+//! Operands of an instruction with what is known of their masks and origins while code is inserted.
 ghost use Rattle.std.specs.Prelude.{◌≡◌, IfOk};
 ghost use Rattle.ms_ir.specs.{Layout.{width_of}, Equal.{type_eq}, ValueTypes.{type_of}};
 ghost use Rattle.ms_ir.specs.declared.syntax.Ty as type;

@@ -1,4 +1,4 @@
-//! The steps that join the masks of operands.
+//! The steps that join the masks of operands, for rules that ask whether some bit of any of them is poisoned.
 ghost use Rattle.std.specs.Prelude.{◌≡◌, ◌++◌, length, map, replicate, IfOk, OnOk};
 ghost use Rattle.ms_pass_tasks.specs.Environments.{unknown};
 ghost use Rattle.ms_rules_builder.specs.Steps.{tracked_of};

@@ -1,4 +1,4 @@
-//! The code that counts blind uses.
+//! The code that counts blind uses: which operands' poisoned bits are one, and a call of the runtime with the union of their masks.
 ghost use Rattle.std.specs.Prelude.{◌≡◌, ℕ, [], ◌∷◌, map, take, drop, IfOk, OnOk, Option};
 ghost use Rattle.ms_ir.specs.declared.syntax.Name.{Name as NameOf};
 ghost use Rattle.ms_runs.specs.Uses.{has_flag as has_flag_of, is_odd as is_odd_of, has_true_flag as has_true_flag_of, flagged_words, blind_words as blind_words_of};
@@ -12,7 +12,7 @@ use ms_ir::{External, Op, Operand, RuntimeFn, Ty};
 use ms_rules_builder::{Builder, StackOp, TrackedOperand, Widening, push_union};
 use std::alloc::Global;
 
-/// Whether an operation carries a flag.
+/// Whether an operation carries a flag by which it traps, as `nsw`.
 fn has_flag(flags: &Flags) -> bool
     ensures { result ≡ has_flag_of flags.now }
 {
@@ -62,7 +62,7 @@ fn is_odd(operand: &Operand) -> bool
     }
 }
 
-/// Whether the second argument of a call is such a flag.
+/// Whether the second argument of a call is a flag that is `true`.
 fn has_true_flag(args: &[(Ty, Operand)]) -> bool
     ensures { result ≡ has_true_flag_of args.now }
 {

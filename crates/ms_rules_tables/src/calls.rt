@@ -31,7 +31,8 @@ pub fn is_clean_at(operands: &[TrackedOperand<'_>], place: usize) -> bool
     }
 }
 
-/// Calls a runtime function that returns nothing with the words that steps leave.
+/// Calls a runtime function that returns nothing with the words that steps leave. `name` is the instruction's result, which steps
+/// may use.
 pub fn call(
     builder: &mut Builder,
     function: RuntimeFn,

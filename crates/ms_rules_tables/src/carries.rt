@@ -9,7 +9,8 @@ use ms_rules_builder::StackOp::Constant;
 use ms_rules_builder::{Operation, StackOp, TrackedOperand, Widening, push_union};
 use std::alloc::Global;
 
-/// The rule of the first operands' masks: a bit is poisoned where it or a lower one is in one of them.
+/// The rule of the mask of a sum of these operands, which are the rule's first ones: a bit is poisoned where it or a lower one is
+/// in one of their masks. It is `u | (0 - u)` of the union `u` of the masks.
 pub fn carry_rule(
     alloc: Global,
     operands: &[TrackedOperand<'_>],

@@ -1,4 +1,4 @@
-//! The code that checks uses.
+//! The code that checks uses: before an instruction, a call of the runtime function that makes the report for each checked use.
 ghost use Rattle.std.specs.Prelude.{◌≡◌, ℕ, map, drop, OnOk, Option};
 ghost use Rattle.ms_ir.specs.{declared.syntax.Name.{Name as NameOf}};
 ghost use Rattle.ms_runs.specs.Uses.{uses, value_uses, string_uses, Word};
@@ -19,7 +19,8 @@ struct Checked<'a, 'm> {
     operands: &'a [TrackedOperand<'m>],
 }
 
-/// Checks the mask of an operand by its place, unless it is known to be 0.
+/// Checks the mask of an operand by its place, unless it is known to be 0. `kind` is the number of the use's kind, which a report
+/// tells.
 fn check_word(
     builder: &mut Builder,
     inst: &Checked<'_, '_>,
@@ -49,7 +50,7 @@ fn check_word(
     )
 }
 
-/// Checks a use.
+/// Checks a use: of a word, of bytes in memory from an address on, or of a string.
 fn check_use(
     builder: &mut Builder,
     inst: &Checked<'_, '_>,

@@ -1,5 +1,5 @@
-//! The code of the rules round one instruction, one table of steps for each: masks and origins of results; checks of uses,
-//! blind uses, and shadow and origins of memory.
+//! The code of the rules round one instruction, one table of steps for each, for `ms_rules`: masks and origins of results; checks
+//! of uses, blind uses, and shadow and origins of memory. The `Builder` of `ms_rules_builder` makes inserted instructions of them.
 #![tactic(auto)]
 
 mod blind;

@@ -1,4 +1,4 @@
-//! The code of the mask and the origin of what is loaded.
+//! The code of the mask and the origin of what is loaded: an inserted load of the shadow, and a call of the runtime.
 ghost use Rattle.std.specs.Prelude.{◌≡◌, ℕ, [], ◌∷◌, map, OnOk, Option, Some};
 ghost use Rattle.ms_ir.specs.{declared.syntax.Name.{Name as NameOf}, declared.syntax.Ty.{Ty as TyOf, Int, Ptr}};
 ghost use Rattle.ms_ir.specs.{declared.syntax.Operand.{Operand as OperandOf}, Layout.{width_of}};
@@ -18,7 +18,7 @@ use ms_rules_builder::{
     Builder, Inputs, Operation, StackOp, TrackedOperand, Width, mask_name, origin_name,
 };
 
-// The address of the shadow of what the address names.
+/// The address of the shadow of what the address, operand 0, names: its bits `SHADOW_BITS` are turned.
 const SHADOW: [StackOp; 5] = [
     Word(0),
     ToNumber,
@@ -27,7 +27,7 @@ const SHADOW: [StackOp; 5] = [
     ToPointer,
 ];
 
-// Loads the mask of a value from the shadow of what the address names.
+/// Loads the mask of a value from the shadow of what the address names.
 fn load_mask(
     builder: &mut Builder,
     value: u32,
@@ -40,7 +40,7 @@ fn load_mask(
     builder.fetch(name, width, inputs, &SHADOW)
 }
 
-// Calls what gives the origin of a loaded value.
+/// Calls what gives the origin of a loaded value, with its address and its mask, which has just been loaded.
 fn load_origin(
     builder: &mut Builder,
     value: u32,

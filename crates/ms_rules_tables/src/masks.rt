@@ -1,5 +1,5 @@
-//! The rules of masks that are the same for all operands: each is a table of steps, in which an operation stands after the
-//! words that it works on.
+//! The rules of masks that are the same for all operands: each is a table of steps (`StackOp`), in which an operation stands after
+//! the words that it works on. `Word(k)`, `Bits(k)` and `Mask(k)` put operand k on the stack: its word, as a number, and its mask.
 ghost use Rattle.std.specs.Prelude.{◌≡◌, ◌≢◌, ℕ, true, List, [], ◌∷◌, map, reverse, MatchOption};
 ghost use Rattle.ms_bits.specs.declared.operations.BinOp.TheVariants as binary;
 ghost use Rattle.ms_bits.specs.declared.word_functions.WordFn.TheVariants as word;
@@ -13,6 +13,7 @@ use ms_bits::{BinOp, CastOp, Pred, WordFn, WordWidth};
 use ms_rules_builder::StackOp::{Bits, Constant, Mask, Ones, Sign, Word};
 use ms_rules_builder::{Operation, StackOp, Width};
 
+// Operations on the two words on top of the stack, in the width of the rule: up to `SUB` they give a word, up to `PICK` a bit.
 const AND: StackOp = StackOp::Two(Operation::And, Width::Own);
 
 const OR: StackOp = StackOp::Two(Operation::Or, Width::Own);
@@ -29,6 +30,7 @@ const IS_NOT_GREATER: StackOp = StackOp::Test(Pred::Ule, Width::Own);
 
 const IS_NOT_LESS: StackOp = StackOp::Test(Pred::Uge, Width::Own);
 
+// Of the two words on top, the first where the bit below them is 1, else the second.
 const PICK: StackOp = StackOp::Pick(Width::Own);
 
 const AND_OF_BITS: StackOp = StackOp::Two(Operation::And, Width::Bits(1));
@@ -46,6 +48,7 @@ const UNION: [StackOp; 3] = [Mask(0), Mask(1), OR];
 
 // Of `and`: where both bits are poisoned, or one is and the other word has a defined 1.
 const BOTH: [StackOp; 11] = [
+    // Both may be 1,
     Word(0),
     Mask(0),
     OR,
@@ -53,6 +56,7 @@ const BOTH: [StackOp; 11] = [
     Mask(1),
     OR,
     AND,
+    // and one is poisoned.
     Mask(0),
     Mask(1),
     OR,
@@ -61,6 +65,7 @@ const BOTH: [StackOp; 11] = [
 
 // Of `or`: where both bits are poisoned, or one is and the other word has a defined 0.
 const EITHER: [StackOp; 15] = [
+    // Both may be 0,
     Word(0),
     Ones,
     XOR,
@@ -72,6 +77,7 @@ const EITHER: [StackOp; 15] = [
     Mask(1),
     OR,
     AND,
+    // and one is poisoned.
     Mask(0),
     Mask(1),
     OR,
@@ -80,6 +86,7 @@ const EITHER: [StackOp; 15] = [
 
 // Of `eq` and `ne`: where no bit that is defined in both words differs and some bit is poisoned.
 const SAME: [StackOp; 17] = [
+    // All bits that differ are poisoned,
     Bits(0),
     Bits(1),
     XOR,
@@ -91,6 +98,7 @@ const SAME: [StackOp; 17] = [
     Mask(1),
     OR,
     IS_EQUAL,
+    // and some are.
     Mask(0),
     Mask(1),
     OR,
@@ -100,7 +108,8 @@ const SAME: [StackOp; 17] = [
 ];
 
 // Of an ordered comparison of two words with masks: where the least completion of the one and the greatest of the other
-// compare otherwise than the greatest of the one and the least of the other.
+// compare otherwise than the greatest of the one and the least of the other. `$a` puts the one on the stack, `$m` its mask, `$b`
+// and `$k` the other.
 macro_rules! order {
     ([$($a:expr),*], $m:expr, [$($b:expr),*], $k:expr, $pred:expr) => {
         [
@@ -125,7 +134,7 @@ const UNSIGNED_NOT_GREATER: [StackOp; 19] = order!(
     Pred::Ule
 );
 
-// Words with their sign bits turned are ordered as unsigned words are.
+// The same of signed words: with their sign bits turned they are ordered as unsigned words are.
 macro_rules! signed_order {
     ($a:expr, $m:expr, $b:expr, $k:expr, $pred:expr) => {
         order!([$a, Sign, XOR], $m, [$b, Sign, XOR], $k, $pred)
@@ -148,6 +157,7 @@ const SIGNED_NOT_GREATER: [StackOp; 27] = signed_order!(
 
 /// Of a `select`: with a defined condition the mask of what is chosen, else each bit that differs or is poisoned in one.
 pub const CHOICE: [StackOp; 13] = [
+    // Where the condition is poisoned, what differs or is poisoned,
     Mask(0),
     Bits(1),
     Bits(2),
@@ -156,6 +166,7 @@ pub const CHOICE: [StackOp; 13] = [
     OR,
     Mask(2),
     OR,
+    // else what is chosen.
     Word(0),
     Mask(1),
     Mask(2),
@@ -166,12 +177,14 @@ pub const CHOICE: [StackOp; 13] = [
 /// The words that a shift of the mask takes: with an amount that is defined these are the mask and the amount, else all bits
 /// and 0.
 pub const SHIFT: [StackOp; 12] = [
+    // Where the amount is poisoned all bits, else the mask;
     Mask(1),
     Constant(0),
     IS_OTHER,
     Ones,
     Mask(0),
     PICK,
+    // where it is poisoned 0, else the amount.
     Mask(1),
     Constant(0),
     IS_OTHER,
@@ -192,27 +205,30 @@ const WHOLE_OF_TWO: [StackOp; 8] = [
     PICK,
 ];
 
-// What a funnel shift takes to give its mask: the masks of two words, and the amount.
+// What a funnel shift takes to give its mask: the masks of two words, and the amount, which is known here.
 const KNOWN_AMOUNT: [StackOp; 3] = [Mask(0), Mask(1), Word(2)];
 
 // The same where the amount may not be known: then all bits of both words.
 const ANY_AMOUNT: [StackOp; 13] = [
+    // Where the amount is poisoned all bits, else the first mask;
     Mask(2),
     Constant(0),
     IS_OTHER,
     Ones,
     Mask(0),
     PICK,
+    // so of the second;
     Mask(2),
     Constant(0),
     IS_OTHER,
     Ones,
     Mask(1),
     PICK,
+    // the amount.
     Word(2),
 ];
 
-// Of `ctpop`: known where no bit is poisoned, else all places of a count, which a number has as bits.
+// Of `ctpop`: 0 where no bit is poisoned, else all bits that such a count may have, `$places`.
 macro_rules! ones {
     ($places:expr) => {
         [Mask(0), Constant(0), IS_EQUAL, Constant(0), Constant($places), PICK]
@@ -227,7 +243,7 @@ const ONES_OF_32: [StackOp; 6] = ones!(63);
 
 const ONES_OF_64: [StackOp; 6] = ones!(127);
 
-// Of `ctlz`: known where the highest bit that may be 1 is defined.
+// Of `ctlz`: 0 where the highest bit that may be 1 is defined, else all bits that such a count may have, `$places`.
 macro_rules! leading {
     ($places:expr) => {
         [
@@ -245,7 +261,7 @@ const LEADING_OF_32: [StackOp; 10] = leading!(63);
 
 const LEADING_OF_64: [StackOp; 10] = leading!(127);
 
-// Of `cttz`: known where the lowest bit that may be 1 is defined.
+// Of `cttz`: 0 where the lowest bit that may be 1 is defined, else all bits that such a count may have, `$places`.
 macro_rules! trailing {
     ($places:expr) => {
         [
@@ -266,6 +282,7 @@ const TRAILING_OF_64: [StackOp; 16] = trailing!(127);
 // Of `abs`: with a poisoned sign bit from the lowest bit on that may be 1, of a negative word that of the difference, else
 // the mask itself.
 const ABSOLUTE: [StackOp; 23] = [
+    // Where the sign bit is poisoned, from the lowest bit on that may be 1;
     Mask(0),
     Sign,
     IS_NOT_LESS,
@@ -278,6 +295,7 @@ const ABSOLUTE: [StackOp; 23] = [
     OR,
     SUB,
     OR,
+    // where the word is negative, the mask of 0 minus it,
     Word(0),
     Sign,
     IS_NOT_LESS,
@@ -286,13 +304,15 @@ const ABSOLUTE: [StackOp; 23] = [
     Mask(0),
     SUB,
     OR,
+    // else its own.
     Mask(0),
     PICK,
     PICK,
 ];
 
 // Of the greater or the smaller of two words: the mask of the one that is chosen in all completions, by which of them is the
-// greater one, else each bit in which they may differ.
+// greater one, else each bit in which they may differ. `$a` and `$b` put the words on the stack as they are ordered; `$first` is
+// the mask where the second word never is the greater one, `$second` where the first never is.
 macro_rules! extreme {
     ([$($a:expr),*], [$($b:expr),*], $first:expr, $second:expr) => {
         [
@@ -376,7 +396,7 @@ pub fn cast_step(op: CastOp, from: u8, to: u8) -> Option<StackOp>
     }
 }
 
-/// The rule of the mask of a number of bits that are 1.
+/// The rule of the mask of a number of bits that are 1, as `llvm.ctpop` counts them.
 #[tactic(auto, unfolding(ms_bits::specs::WordFunctions::places))]
 fn ones_rule(width: WordWidth) -> &'static [StackOp]
     ensures rule { is_rule result.now ≡ true }
@@ -390,7 +410,7 @@ fn ones_rule(width: WordWidth) -> &'static [StackOp]
     }
 }
 
-/// The rule of the mask of a number of leading zeros.
+/// The rule of the mask of a number of leading zeros, as `llvm.ctlz` counts them.
 #[tactic(auto, unfolding(ms_bits::specs::WordFunctions::places))]
 fn leading_rule(width: WordWidth) -> &'static [StackOp]
     ensures rule { is_rule result.now ≡ true }
@@ -404,7 +424,7 @@ fn leading_rule(width: WordWidth) -> &'static [StackOp]
     }
 }
 
-/// The rule of the mask of a number of trailing zeros.
+/// The rule of the mask of a number of trailing zeros, as `llvm.cttz` counts them.
 #[tactic(auto, unfolding(ms_bits::specs::WordFunctions::places))]
 fn trailing_rule(width: WordWidth) -> &'static [StackOp]
     ensures rule { is_rule result.now ≡ true }
@@ -444,7 +464,8 @@ fn amount_steps(known: bool) -> &'static [StackOp]
     if known { &KNOWN_AMOUNT } else { &ANY_AMOUNT }
 }
 
-/// The steps that leave what a function that moves bits takes to give its mask, by whether its amount is known.
+/// The steps that leave what a function that moves bits takes to give its mask; those of a funnel shift by whether its amount is
+/// known.
 pub fn move_steps(function: WordFn, known: bool) -> &'static [StackOp]
     ensures { (w : ℕ) (ts : List Tracked) → map (λ a. a.1) (args_with known function w (tracked_at 0 ts) (tracked_at 1 ts) (tracked_at 2 ts)) ≡ reverse (words (on_width w ts) result.now []) }
 {

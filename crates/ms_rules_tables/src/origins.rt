@@ -11,6 +11,7 @@ use ms_rules_builder::StackOp::{Constant, Mask, Origin, Word};
 use ms_rules_builder::{Builder, Inputs, StackOp, TrackedOperand, Width, push_times};
 use std::alloc::Global;
 
+/// Of two origins on top of the stack, the first where the bit below them is 1, else the second.
 const PICK: StackOp = StackOp::Pick(Width::Bits(32));
 
 /// The origin of a `select`: the condition's where this is poisoned, else that of what is chosen.
@@ -24,6 +25,7 @@ pub const CHOICE_ORIGIN: [StackOp; 7] = [
     PICK,
 ];
 
+/// Adds the test of each mask but the first, from the last down, whether it isn't 0, each with the operand's origin.
 fn push_tests(steps: &mut Vec<StackOp>, operands: &[TrackedOperand<'_>]) -> Result<(), NoMemory>
     ensures { OnOk result (steps.new.items ≡ steps.old.items ++ tests (map tracked_of operands.now) (length operands.now - 1)) }
 {
@@ -39,8 +41,8 @@ fn push_tests(steps: &mut Vec<StackOp>, operands: &[TrackedOperand<'_>]) -> Resu
     Ok(())
 }
 
-// A test of each mask from the last down, each with the operand's origin, then the first operand's origin, and a choice for
-// each test.
+/// The rule of the origin of the last operand that is poisoned: a test of each mask from the last down, each with the operand's
+/// origin, then the first operand's origin, and a choice for each test.
 fn last_origin_rule(
     alloc: Global,
     operands: &[TrackedOperand<'_>],

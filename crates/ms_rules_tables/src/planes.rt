@@ -1,4 +1,4 @@
-//! The code that sets shadow and origins of memory.
+//! The code that sets shadow and origins of memory after an instruction: after a store, an `alloca`, or a call of an external.
 ghost use Rattle.std.specs.Prelude.{◌≡◌, ℕ, ◌+◌, false, map, reverse, List, [], OnOk, Option};
 ghost use Rattle.ms_ir.specs.{declared.syntax.Ty.{Ty as TyOf}, Instructions.{operands as operands_of, count_undefs}};
 ghost use Rattle.ms_ir.specs.{declared.syntax.Name.{Name as NameOf}, Signatures.{runtime_signature}};
@@ -17,7 +17,7 @@ use ms_ir::areas::SHADOW_BITS;
 use ms_ir::{External, Name, Op, RuntimeFn, width_of};
 use ms_rules_builder::{Builder, Inputs, Operation, StackOp, TrackedOperand, Width, msan_name};
 
-/// Saves under the inserted name with a number what an external needs from before its call: the size of the block that
+/// Saves as the inserted result with a number what an external needs from before its call: the size of the block that
 /// `realloc` ends.
 fn save_for(
     builder: &mut Builder,
@@ -37,7 +37,7 @@ fn save_for(
     }
 }
 
-/// Saves under the inserted name with a number what an external needs from before its call.
+/// Saves as the inserted result with a number what an operation's external, if it calls one, needs from before its call.
 pub fn save(
     builder: &mut Builder,
     number: u64,
@@ -69,7 +69,7 @@ fn call_named(
     call(builder, function, operands, name, steps)
 }
 
-/// Stores the mask and the origin of a stored value of so many bits.
+/// Stores the mask of a stored value of `width` bits in the shadow of its address, operand 1, and the origin by a call.
 fn set_stored(
     builder: &mut Builder,
     site: u32,
@@ -116,7 +116,7 @@ fn set_filled(
     call(builder, RuntimeFn::Fill, operands, &None, &steps)
 }
 
-/// Clears the shadow of the bytes where `pthread_create` stored a thread's name, if it made one.
+/// Clears the shadow of the 8 bytes where `pthread_create` stored a thread's name, if it returned 0, as it does where it made one.
 fn set_created(
     builder: &mut Builder,
     name: &Option<Name>,
@@ -155,7 +155,8 @@ fn set_joined(
     call_named(builder, RuntimeFn::ThreadResult, operands, name, &steps)
 }
 
-/// Sets shadow and origins after a call of an external.
+/// Sets shadow and origins after a call of an external. What `Poison` takes: a block, its first byte that is poisoned, the byte
+/// after the last one, the root.
 fn set_external(
     builder: &mut Builder,
     site: u32,
@@ -202,8 +203,8 @@ fn set_external(
     }
 }
 
-/// Sets shadow and origins after an operation that calls no function of the module. `root` is the number of its own root,
-/// `saved` that of the inserted name with what was saved, and `size` the size of an element of an `alloca`.
+/// Sets shadow and origins after an operation that calls no function of the module. `root` is the number of its own root, `saved`
+/// that of the inserted result that was saved before it, `size` the bytes of an element of an `alloca`, `name` its result.
 pub fn update_shadow(
     builder: &mut Builder,
     site: u32,

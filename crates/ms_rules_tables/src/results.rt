@@ -1,4 +1,5 @@
-//! Which rule defines the mask and which the origin of a result, by the operation.
+//! Which rule defines the mask and which the origin of a result, by the operation. `value` is the result's number among the
+//! function's values, by which mask and origin are named, `width` its bits, and `inputs` what the rule is given.
 ghost use Rattle.std.specs.Prelude.{◌≡◌, ℕ, ◌≤◌, true, List, [], ◌∷◌, map, take, reverse, OnOk, Option, Some};
 ghost use Rattle.ms_bits.specs.declared.operations.Flags.{Flags as FlagsOf};
 ghost use Rattle.ms_bits.specs.WordFunctions.{move_of, bits_of as width_bits};
@@ -26,7 +27,7 @@ use ms_ir::{External, Name, Op, RuntimeFn, Ty, width_of};
 use ms_rules_builder::StackOp::Mask;
 use ms_rules_builder::{Builder, Inputs, StackOp, TrackedOperand, Widening, mask_name};
 
-// The origin and the mask of a value, of a width, get the words of rules.
+/// The origin and the mask of a value, of a width, get the words of these two rules.
 fn define_word(
     builder: &mut Builder,
     value: u32,
@@ -43,7 +44,7 @@ fn define_word(
     set_mask(builder, value, width, inputs, mask)
 }
 
-// The mask of a value gets the word of a rule; its origin is that of the last operand whose mask isn't 0.
+/// The mask of a value gets the word of a rule; its origin is that of the last operand whose mask isn't 0.
 fn define_joined(
     builder: &mut Builder,
     value: u32,
@@ -58,7 +59,7 @@ fn define_joined(
     set_mask(builder, value, width, inputs, mask)
 }
 
-// A result that is clean has no mask and no origin: both are 0.
+/// A result that is clean has no mask and no origin: both are 0.
 fn define_clean(
     builder: &mut Builder,
     value: u32,
@@ -71,6 +72,7 @@ fn define_clean(
     define_word(builder, value, width, &inputs, &CLEAN, &CLEAN)
 }
 
+/// Of a shift: the mask is shifted as the word is, where the amount is defined, else all bits are poisoned.
 fn define_shift(
     builder: &mut Builder,
     value: u32,
@@ -87,8 +89,8 @@ fn define_shift(
     attempt_mask(builder, value, op, width, &inputs, &SHIFT)
 }
 
-// The operands of an operation on two words.
-fn pair<'a, 'm>(operands: &'a [TrackedOperand<'m>]) -> &'a [TrackedOperand<'m>]
+/// The first two operands alone: those of an operation on two words.
+fn first_two<'a, 'm>(operands: &'a [TrackedOperand<'m>]) -> &'a [TrackedOperand<'m>]
     ensures { result.now ≡ take 2 operands.now }
 {
     if operands.len() < 2 {
@@ -98,6 +100,7 @@ fn pair<'a, 'm>(operands: &'a [TrackedOperand<'m>]) -> &'a [TrackedOperand<'m>]
     }
 }
 
+/// Of a sum, a difference or a product: each bit is poisoned from the lowest poisoned bit of the two words on.
 fn define_sum(
     builder: &mut Builder,
     value: u32,
@@ -107,10 +110,11 @@ fn define_sum(
     ensures { let ts = map tracked_of operands.now in OnOk result (builder.new ≡ with_tasks builder.old (defined value width (first_last ts) (sum_expr width (tracked_at 0 ts ∷ tracked_at 1 ts ∷ [])))) }
 {
     let inputs = Inputs::plain(operands, width, &None);
-    let mask = carry_rule(builder.alloc(), pair(operands), Widening::Own)?;
+    let mask = carry_rule(builder.alloc(), first_two(operands), Widening::Own)?;
     define_joined(builder, value, width, &inputs, mask.as_slice())
 }
 
+/// Of an operation on two words of `width` bits.
 fn define_binary(
     builder: &mut Builder,
     value: u32,
@@ -134,6 +138,7 @@ fn define_binary(
     }
 }
 
+/// Of a comparison of two words of `width` bits, which gives one bit.
 fn define_compare(
     builder: &mut Builder,
     value: u32,
@@ -149,6 +154,7 @@ fn define_compare(
     define_joined(builder, value, 1, &inputs, compare_rule(pred))
 }
 
+/// Of a cast from so many bits to so many: its mask is the operand's, cast too.
 fn define_cast(
     builder: &mut Builder,
     value: u32,
@@ -166,6 +172,7 @@ fn define_cast(
     }
 }
 
+/// Of a `select` between two words of `width` bits.
 fn define_select(
     builder: &mut Builder,
     value: u32,
@@ -178,6 +185,7 @@ fn define_select(
     define_word(builder, value, width, &inputs, &CHOICE_ORIGIN, &CHOICE)
 }
 
+/// Of a `getelementptr`: an address is a sum of its operands.
 fn define_gep(
     builder: &mut Builder,
     value: u32,
@@ -190,6 +198,7 @@ fn define_gep(
     define_joined(builder, value, 64, &inputs, mask.as_slice())
 }
 
+/// The bits of what a call returns; 64 where it returns nothing.
 fn result_width(ret: &Option<Ty>) -> u8
     ensures { (callee : NameOf) (args : List (TyOf × OperandOf)) → result ≡ result_width_of (operation.Call ret.now callee args) }
 {
@@ -199,7 +208,7 @@ fn result_width(ret: &Option<Ty>) -> u8
     }
 }
 
-// Whether the amount of a funnel shift is known: its mask is known to be 0.
+/// Whether the amount of a funnel shift is known: its mask is known to be 0.
 fn is_amount_known(operands: &[TrackedOperand<'_>]) -> bool
     ensures { result ≡ is_zero (tracked_at 2 (map tracked_of operands.now)).mask }
 {
@@ -210,7 +219,7 @@ fn is_amount_known(operands: &[TrackedOperand<'_>]) -> bool
     }
 }
 
-// A marked call of a function that moves bits, with what steps leave, gives the mask of a value.
+/// A marked call of a function that moves bits, with the words that steps leave, gives the mask of a value.
 fn call_move(
     builder: &mut Builder,
     value: u32,
@@ -224,7 +233,7 @@ fn call_move(
     builder.call(Some(name), RuntimeFn::Move(kind), inputs, steps)
 }
 
-// What a function that moves bits returns: it gives its mask too.
+/// Of what a function that moves bits returns, as `llvm.bswap`: called once more with the masks, it gives the mask too.
 fn define_move(
     builder: &mut Builder,
     value: u32,
@@ -239,7 +248,7 @@ fn define_move(
     call_move(builder, value, kind, &inputs, steps)
 }
 
-// What another function of whole words returns, as a value of a width.
+/// Of what another function of whole words returns, as a value of a width: by a rule.
 fn define_ruled(
     builder: &mut Builder,
     value: u32,
@@ -260,7 +269,7 @@ fn define_ruled(
     )
 }
 
-// What a function of whole words returns, as a value of a width.
+/// Of what a function of whole words of `word_width` returns, as a value of a width.
 fn define_word_answer(
     builder: &mut Builder,
     value: u32,
@@ -277,7 +286,7 @@ fn define_word_answer(
     }
 }
 
-// What an external that is known returns, as a value of a width.
+/// Of what an external that is known returns, as a value of a width: clean, but for functions of whole words.
 fn define_external(
     builder: &mut Builder,
     value: u32,
@@ -295,7 +304,7 @@ fn define_external(
     }
 }
 
-// What an external returns, as a value of a width.
+/// Of what an external returns, as a value of a width; clean where none is known.
 fn define_answer(
     builder: &mut Builder,
     value: u32,
@@ -311,6 +320,7 @@ fn define_answer(
     }
 }
 
+/// Of what a call returns; nothing where `own` says that it calls a function of the module, which hands both over itself.
 fn define_call(
     builder: &mut Builder,
     value: u32,
@@ -333,8 +343,8 @@ fn define_call(
     )
 }
 
-/// Defines the mask and the origin of the function's value with a number, which an operation sets; `own` says that it calls a
-/// function of the module, which hands both over itself.
+/// Adds the code before an operation that defines the mask and the origin of its result, the function's value with a number;
+/// `own` says that it calls a function of the module, which hands both over itself. Phis are `ms_rules`' work.
 pub fn define(
     builder: &mut Builder,
     value: u32,

@@ -1,4 +1,5 @@
-//! Runs a rule and gives its word a name: the mask of a value, or its origin.
+//! Runs a rule and gives its word a name: the mask of a value, or its origin. `words inputs rule []` are the words that a rule
+//! leaves on an empty stack, and `with_tasks` is the builder with the instructions of these tasks added.
 ghost use Rattle.std.specs.Prelude.{◌≡◌, true, [], ◌∷◌, OnOk};
 ghost use Rattle.ms_ir.specs.declared.syntax.Ty.{Int};
 ghost use Rattle.ms_pass_tasks.specs.Tasks.{Expr, Sets, Tries, mask_name as mask_name_of, origin_name as origin_name_of};
@@ -9,7 +10,7 @@ use ms_bits::{BinOp, NoMemory};
 use ms_ir::Name;
 use ms_rules_builder::{Builder, Inputs, StackOp, mask_name, origin_name};
 
-// A name of a width gets the word of a rule.
+/// An inserted result with a name and a width gets the word of a rule, which is one step or ends in an operation.
 fn set(
     builder: &mut Builder,
     name: Name,
@@ -56,7 +57,7 @@ pub fn set_mask(
     set(builder, name, width, inputs, rule)
 }
 
-/// The mask of a value, of a width, gets what an operation that may trap makes of the two words that steps leave.
+/// The mask of a value, of a width, gets what an operation that may trap, as a shift, makes of the two words that steps leave.
 pub fn attempt_mask(
     builder: &mut Builder,
     value: u32,

@@ -1,4 +1,4 @@
-//! Equal copies of what a run is given and what it returns.
+//! Equal copies of what a run is given and what it returns, for callers that need a second one, as tests do: no run makes any.
 
 use crate::runs::{BlindPlace, Calls, End, Origin, Report, RunResult, Setup};
 use ms_bits::{Duplicate, NoMemory};

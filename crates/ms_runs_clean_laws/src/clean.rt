@@ -1,4 +1,4 @@
-//! Values that are clean in every run.
+//! Values that are clean in every run: those for which the pass inserts nothing. `d` are rules that give masks.
 ghost use Rattle.std.specs.Prelude.{◌≡◌, ℕ, Some};
 ghost use Rattle.ms_ir.specs.declared.syntax.Module.{Module};
 ghost use Rattle.ms_runs.specs.{declared.runs.Setup.{Setup}, World.{World}, Plain.{setting_of}};

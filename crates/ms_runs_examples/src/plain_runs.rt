@@ -1,5 +1,8 @@
 //! How example modules run: laws about the definitions, computed by the check. The values are worked out by hand from
-//! what docs/DEFINITIONS.md says. `0xa5` is the one byte of the default fill.
+//! what docs/DEFINITIONS.md says. `0xa5` is the one byte of the default fill. `specs/Externals.antt` and `Programs.antt` have the
+//! modules: `calls_on_..` is a `main` that calls an external with these arguments on such memory, and then does the rest.
+//! `Setups.antt` has setups (`defaults`, another fill, input or bound of steps), and what runs return (`exits`, `trapped` at a
+//! site).
 ghost use Rattle.std.specs.Prelude.{◌≡◌, length, [], ◌∷◌, ◌++◌, codes, get_or, Ok, Err, true, false, Some, None};
 ghost use Rattle.ms_bits.specs.declared.traps.Trap.TheVariants as trap;
 ghost use Rattle.ms_runs.specs.declared.runs.End.TheVariants as «end»;
@@ -135,7 +138,8 @@ pub fn output_ends()
     ensures past_the_limit_by_two { (world : World) → length world.output ≡ 1048575 → printed 1 (65 ∷ 66 ∷ []) (Gives 2) world ≡ traps trap.Output 1 world }
 {}
 
-/// Jumps, calls, the stack, and words and globals in memory.
+/// Jumps, calls, the stack, and words and globals in memory. `with_globals` has three globals, among them `a` and `u`, and returns
+/// the word at an address.
 pub fn control_and_memory()
     ensures first_case { plain (chooses 1) defaults ≡ exits 20 }
     ensures second_case { plain (chooses 2) defaults ≡ exits 30 }
@@ -155,7 +159,9 @@ pub fn control_and_memory()
     ensures next_global { plain (with_globals (operand.Offset (name (codes "a")) ((i8, (i64, 36) ∷ []) ∷ []))) defaults ≡ trapped trap.BadAddress 1 }
 {}
 
-/// The runtime functions, each in marked calls.
+/// The runtime functions, each in marked calls where eight zero bytes stand on the heap (`on_heap`): `poisons from to origin`
+/// poisons those from one number to below another, `looks` checks all eight, as kind 9 at site 77. A report has site, kind, part,
+/// mask, width and origin.
 pub fn runtime_functions()
     ensures check { plain (on_heap (checks (int 6) 3 (int 4) ∷ [])) defaults ≡ reported (report_unknown 3 1 0 6 3 4) }
     ensures check_of_nothing { plain (on_heap (checks (int 0) 3 (int 4) ∷ [])) defaults ≡ exits 0 }
@@ -177,7 +183,7 @@ pub fn runtime_functions()
     ensures bad_ranges { plain (on_heap (bad_ranges ++ looks ∷ [])) defaults ≡ exits 0 }
 {}
 
-/// Marked instructions: their accesses, their steps, and whole modules with masks and checks.
+/// Marked instructions: which shadow, memory and slots they reach, that they are no steps, and whole modules with masks and checks.
 pub fn marks()
     ensures shadow_is_loaded { plain (on_heap (poisons 1 2 4 ∷ checks_loaded_shadow)) defaults ≡ reported (report_unknown 3 1 0 0xff00 16 4) }
     ensures shadow_is_stored { plain (on_heap (shadow_address ++ marked (op.Store i8 (int 0x0f) (inserted (codes "3"))) ∷ looks ∷ [])) defaults ≡ reported (report_unknown 77 9 0 0x0f 8 0) }

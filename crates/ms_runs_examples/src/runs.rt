@@ -1,4 +1,5 @@
-//! Whole runs. `0xa5` is the one byte of the default fill; kinds of uses are numbered as in `Report`.
+//! Whole shadow runs of example modules, computed by the check. `0xa5` is the one byte of the default fill; kinds of uses are
+//! numbered as in `ms_runs_uses::kinds`; `report` has site, kind, part, mask, width and root.
 ghost use Rattle.std.specs.Prelude.{◌≡◌, [], ◌∷◌};
 ghost use Rattle.ms_bits.specs.declared.traps.Trap.TheVariants as trap;
 ghost use Rattle.ms_runs.specs.declared.runs.End.TheVariants as «end»;

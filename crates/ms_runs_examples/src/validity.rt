@@ -1,5 +1,5 @@
 //! Which modules are valid: laws about the definitions, computed by the check. The values are worked out by hand from what
-//! docs/DEFINITIONS.md says.
+//! docs/DEFINITIONS.md says. The modules stand in `specs/Programs.antt` and `specs/Faults.antt`, a sentence over each.
 ghost use Rattle.std.specs.Prelude.{◌≡◌, [], ◌∷◌, codes, true, false, Some, None};
 ghost use Rattle.ms_ir.specs.declared.syntax.Name.TheVariants.{Number, Text};
 ghost use Rattle.ms_runs_examples.specs.Programs.{returns_zero, branch_on_unset, masked_to_zero, ordered_compare, set_bit_is_not_zero, select_undef, two_unset, shared_cell, lost_in_addition, recursion, nested_call, write_with_gap, store_to_shadow, clang_unoptimised, sum_wraps, undef_divisor, frozen, three_branches, undef_sum, undef_stored, carry_of_undef};

@@ -1,4 +1,4 @@
-//! Runs that are the same whatever uninitialised memory holds.
+//! Runs that are the same whatever uninitialised memory holds. Low equal states are the same but for poisoned bits.
 ghost use Rattle.std.specs.Prelude.{◌≡◌, ◌<◌, ℕ, List, [], ◌∷◌, All, false, length};
 ghost use Rattle.ms_ir.specs.{ThreadCalls.{is_threaded}, declared.syntax.Module.{Module}, Instructions.{NoMarks}};
 ghost use Rattle.ms_runs.specs.{declared.runs.Setup.{Setup}, declared.runs.Report.{Report}, Plain.{setting_of, plain}};

@@ -1,4 +1,5 @@
-//! What instructions and the functions that they call come to in good worlds.
+//! What instructions and the functions that they call come to in good worlds: `act` is the effect of an instruction on words and
+//! the world, `FitsEffect` says that it may have this effect, `IsBelow` and `PoisonedBelow` that a word is in range.
 ghost use Rattle.std.specs.Prelude.{◌≡◌, ℕ, List, map, true, Some, slice_get};
 ghost use Rattle.ms_ir.specs.{declared.syntax.Ty.{Ty}, declared.syntax.Func.{Func}, declared.syntax.Inst.{Inst}};
 ghost use Rattle.ms_ir.specs.{declared.syntax.Module.{Module}, declared.calls.External.{External}};

@@ -1,4 +1,5 @@
-//! Good frames: where a run starts, and what an instruction does to them.
+//! Good frames: where a run starts, and what an instruction does to them. `reading` is how a run's frames hold words: alone in a
+//! plain run, with masks and origins in a shadow run.
 ghost use Rattle.std.specs.Prelude.{◌≡◌, ℕ, List, [], ◌∷◌, Some, slice_get};
 ghost use Rattle.ms_ir.specs.{declared.syntax.Inst.{Inst}, declared.syntax.Module.{Module}};
 ghost use Rattle.ms_runs_good_laws.specs.GoodEffects.{FitsEffect, GoodMoved};

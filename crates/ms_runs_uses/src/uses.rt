@@ -1,4 +1,4 @@
-//! The uses that are checked, as tables.
+//! The uses that are checked, as tables: for each operation and external, by kind and place of the operand, in their order.
 ghost use Rattle.std.specs.Prelude.{◌≡◌, ◌++◌, List, map, drop, option_map, if◌then◌else◌, Some, None};
 ghost use Rattle.ms_ir.specs.{declared.syntax.Ty.{Ty as TyOf}, declared.syntax.Operand.{Operand as OperandOf}, Equal.{type_eq}};
 ghost use Rattle.ms_runs.specs.Uses.{external_uses as external_uses_of, binary_uses as binary_uses_of, value_uses, string_uses, Word as WordOf, Asked as AskedOf};
@@ -14,11 +14,11 @@ use ms_ir::{External, Op, Operand, Ty};
 /// A use that is checked. Operands go by their places from 0.
 #[derive(Clone, Copy)]
 pub enum CheckedUse {
-    /// The mask of an operand, for a report of a kind.
+    /// Kind and operand: the mask of the operand, for a report of the kind.
     Word(u32, usize),
-    /// The bytes at an operand, as many as a second one says, for a report of a kind.
+    /// Kind, operand and operand: the bytes at the first, as many as the second says, for a report of the kind.
     Bytes(u32, usize, usize),
-    /// The string at an operand.
+    /// The string at an operand, up to its zero byte.
     Line(usize),
     /// The string at an operand, where the format at operand 0 asks for one.
     Asked(usize),

@@ -9,11 +9,11 @@ use Rattle.ms_ir.specs.declared.syntax.Operand.{Operand}
 use Rattle.ms_pass_tasks.specs.Tasks.{Task, InsertedCode, tasks_code}
 use Rattle.ms_pass_tasks.proofs.Marked.{tasks_append, tasks_append_next}
 use Rattle.ms_rules_builder.specs.Made.{with_tasks}
-use Rattle.ms_slots.specs.Places.{store_arguments, load_parameters, made}
+use Rattle.ms_slots.specs.Places.{store_arguments, load_parameters, as_inserted}
 
 with_both : (c : InsertedCode) (a b : List Task) → with_tasks (with_tasks c a) b ≡ with_tasks c (a ++ b)
 with_both c a b =
-    ap₂ (λ (insts : List Inst) (n : ℕ). made (insts, n))
+    ap₂ (λ (insts : List Inst) (n : ℕ). as_inserted (insts, n))
     (append_assoc c.code (tasks_code a c.next).code (tasks_code b (tasks_code a c.next).next).code ∙ ap (λ l. c.code ++ l) (sym (tasks_append a b c.next)))
     (sym (tasks_append_next a b c.next))
 
@@ -33,7 +33,7 @@ loaded_next first k [] n = refl
 loaded_next first k (t ∷ params) n = loaded_next first (suc k) params n
 
 -- an answer is the code of tasks
-pub list_made : (ts : List Task) (n : ℕ) (insts : List Inst) (before after : InsertedCode) → insts ≡ after.code → before ≡ made ([], n) → after ≡ with_tasks before ts
-    → (tasks_code ts n).next ≡ n → made (insts, n) ≡ tasks_code ts n
+pub list_made : (ts : List Task) (n : ℕ) (insts : List Inst) (before after : InsertedCode) → insts ≡ after.code → before ≡ as_inserted ([], n) → after ≡ with_tasks before ts
+    → (tasks_code ts n).next ≡ n → as_inserted (insts, n) ≡ tasks_code ts n
 list_made ts n insts before after are none grown same =
-    ap₂ (λ (insts : List Inst) (n : ℕ). made (insts, n)) (are ∙ ap (λ c. c.code) (grown ∙ ap (λ c. with_tasks c ts) none)) (sym same)
+    ap₂ (λ (insts : List Inst) (n : ℕ). as_inserted (insts, n)) (are ∙ ap (λ c. c.code) (grown ∙ ap (λ c. with_tasks c ts) none)) (sym same)

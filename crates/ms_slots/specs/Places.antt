@@ -40,5 +40,5 @@ load_parameters n k [] = []
 load_parameters n k (t ∷ ts) = load_tasks (param_mask k) (param_origin k) (n + 2 * k) t ++ load_parameters n (suc k) ts
 
 -- instructions with the next free number of an inserted result
-abbrev pub made : List Inst × ℕ → InsertedCode
-made r = record { code = r.0; next = r.1 }
+abbrev pub as_inserted : List Inst × ℕ → InsertedCode
+as_inserted r = record { code = r.0; next = r.1 }

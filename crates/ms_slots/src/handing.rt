@@ -1,4 +1,4 @@
-//! What is handed over to a callee or a caller.
+//! The masks and origins that are handed over to a callee or a caller.
 ghost use Rattle.std.specs.Prelude.{◌≡◌, map, OnOk};
 ghost use Rattle.ms_pass_tasks.specs.SlotTasks as slots;
 ghost use Rattle.ms_rules_builder.specs.{Made.{with_tasks}, Steps.{tracked_of}};

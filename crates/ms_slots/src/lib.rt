@@ -1,4 +1,5 @@
-//! The code that hands masks and origins over at calls and returns, in the slots.
+//! The inserted code that hands masks and origins over at calls and returns, in the slots: for `ms_rules`. `lists.rt` has the same
+//! as single lists, which the pass doesn't call.
 #![tactic(auto)]
 
 mod arrival;

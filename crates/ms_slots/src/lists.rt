@@ -1,10 +1,10 @@
 //! The code that hands over or takes over all arguments of a call, or a result, as lists of marked instructions.
 //!
-//! Numbers are those of inserted results.
+//! Numbers are those of inserted results. A word is given as its type, its mask and its origin.
 ghost use Rattle.std.specs.Prelude.{◌≡◌, ◌<◌, ◌≤◌, ◌+◌, ◌*◌, ◌^◌, length, IfOk, OnOk};
 ghost use Rattle.ms_pass_tasks.specs.{Tasks.{tasks_code}, SlotTasks.{result_mask_slot, result_origin_slot}};
 ghost use Rattle.ms_rules_builder.specs.Made.{with_tasks};
-ghost use Rattle.ms_slots.specs.Places.{mask_slot, origin_slot, store_tasks, load_tasks, store_arguments, load_parameters, made};
+ghost use Rattle.ms_slots.specs.Places.{mask_slot, origin_slot, store_tasks, load_tasks, store_arguments, load_parameters, as_inserted};
 
 use crate::places::WordSlot;
 use crate::words::{load_word, store_mask, store_origin};
@@ -29,7 +29,7 @@ fn store_word(
     store_origin(builder, place, origin)
 }
 
-/// Hands over those of all arguments.
+/// Hands over the masks and origins of all arguments.
 fn store_words(builder: &mut Builder, args: &[(Ty, Operand, Operand)]) -> Result<(), NoMemory>
     ensures { OnOk result (builder.new ≡ with_tasks builder.old (store_arguments 0 args.now)) }
 {
@@ -39,7 +39,7 @@ fn store_words(builder: &mut Builder, args: &[(Ty, Operand, Operand)]) -> Result
     Ok(())
 }
 
-/// Takes over those of all parameters, as inserted results from `next` on.
+/// Takes over the masks and origins of all parameters, as inserted results from `next` on.
 fn load_words(builder: &mut Builder, params: &[Ty], next: u32) -> Result<(), NoMemory>
     ensures { OnOk result (builder.new ≡ with_tasks builder.old (load_parameters next 0 params.now)) }
 {
@@ -57,7 +57,7 @@ pub fn pass_arguments(
     args: &[(Ty, Operand, Operand)],
     next: u32,
 ) -> Result<(List<Inst>, u32), NoMemory>
-    ensures { IfOk result (λ r. made r ≡ tasks_code (store_arguments 0 args.now) next) }
+    ensures { IfOk result (λ r. as_inserted r ≡ tasks_code (store_arguments 0 args.now) next) }
 {
     let mut builder = Builder::new(alloc, u64::from(next));
     store_words(&mut builder, args)?;
@@ -73,7 +73,7 @@ pub fn take_parameters(
 ) -> Result<(List<Inst>, u32), NoMemory>
     requires low { next < 2 ^ 31 }
     requires few { length params.now ≤ 100 }
-    ensures { IfOk result (λ r. made r ≡ tasks_code (load_parameters next 0 params.now) (next + 2 * length params.now)) }
+    ensures { IfOk result (λ r. as_inserted r ≡ tasks_code (load_parameters next 0 params.now) (next + 2 * length params.now)) }
 {
     let after = next + 2 * params.len() as u32;
     let mut builder = Builder::new(alloc, u64::from(after));
@@ -89,7 +89,7 @@ pub fn give_result(
     origin: &Operand,
     next: u32,
 ) -> Result<(List<Inst>, u32), NoMemory>
-    ensures { IfOk result (λ r. made r ≡ tasks_code (store_tasks result_mask_slot result_origin_slot (ty.now, mask.now, origin.now)) next) }
+    ensures { IfOk result (λ r. as_inserted r ≡ tasks_code (store_tasks result_mask_slot result_origin_slot (ty.now, mask.now, origin.now)) next) }
 {
     let mut builder = Builder::new(alloc, u64::from(next));
     store_word(&mut builder, WordSlot::Result, ty, mask, origin)?;
@@ -100,7 +100,7 @@ pub fn give_result(
 /// inserted results `next` and the one after it.
 pub fn take_result(alloc: Global, ty: &Ty, next: u32) -> Result<(List<Inst>, u32), NoMemory>
     requires { next < 2 ^ 31 }
-    ensures { IfOk result (λ r. made r ≡ tasks_code (load_tasks result_mask_slot result_origin_slot next ty.now) (next + 2)) }
+    ensures { IfOk result (λ r. as_inserted r ≡ tasks_code (load_tasks result_mask_slot result_origin_slot next ty.now) (next + 2)) }
 {
     let after = next + 2;
     let mut builder = Builder::new(alloc, u64::from(after));

@@ -1,4 +1,4 @@
-//! The slots as operands.
+//! The slots as operands of inserted loads and stores: global variables, two of which are arrays with an item for each argument.
 ghost use Rattle.std.specs.Prelude.{◌≡◌, [], ◌∷◌, IfOk};
 ghost use Rattle.ms_ir.specs.declared.syntax.Ty as type;
 ghost use Rattle.ms_ir.specs.declared.syntax.Operand.TheVariants as operand;
@@ -32,7 +32,7 @@ fn whole_slot(alloc: Global, slot: Slot) -> Result<Operand, NoMemory>
     Ok(Operand::Global(slot_name(alloc, slot)?))
 }
 
-/// The index of an item.
+/// The indices of a step to the item at a place.
 fn index(alloc: Global, place: u64) -> Result<List<(Ty, u64)>, NoMemory>
     ensures { IfOk result (λ l. l ≡ (type.Int 64, place) ∷ []) }
 {
@@ -41,7 +41,7 @@ fn index(alloc: Global, place: u64) -> Result<List<(Ty, u64)>, NoMemory>
     Ok(List::from_vec(indices))
 }
 
-/// The step to an item of a width.
+/// The step from the start of a slot to its item, of `width` bits, at a place.
 fn step(alloc: Global, width: u8, place: u64) -> Result<List<(Ty, List<(Ty, u64)>)>, NoMemory>
     ensures { IfOk result (λ l. l ≡ (type.Int width, (type.Int 64, place) ∷ []) ∷ []) }
 {
@@ -51,7 +51,7 @@ fn step(alloc: Global, width: u8, place: u64) -> Result<List<(Ty, List<(Ty, u64)
     Ok(List::from_vec(steps))
 }
 
-/// An item of a width in a slot that is an array.
+/// The address of the item, of `width` bits, at a place of a slot that is an array.
 fn item_of_slot(alloc: Global, slot: Slot, width: u8, place: u64) -> Result<Operand, NoMemory>
     ensures { IfOk result (λ o. o ≡ operand.Offset (name_of slot) ((type.Int width, (type.Int 64, place) ∷ []) ∷ [])) }
 {
@@ -61,7 +61,7 @@ fn item_of_slot(alloc: Global, slot: Slot, width: u8, place: u64) -> Result<Oper
 }
 
 impl WordSlot {
-    /// The slot of the mask.
+    /// The address at which the mask is handed over.
     pub fn mask_slot(self, alloc: Global) -> Result<Operand, NoMemory>
         ensures { IfOk result (λ o. o ≡ mask_slot self) }
     {
@@ -71,7 +71,7 @@ impl WordSlot {
         }
     }
 
-    /// The slot of the origin.
+    /// The address at which the origin is handed over.
     pub fn origin_slot(self, alloc: Global) -> Result<Operand, NoMemory>
         ensures { IfOk result (λ o. o ≡ origin_slot self) }
     {

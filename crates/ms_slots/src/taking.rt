@@ -1,4 +1,4 @@
-//! What a function takes over from its caller, and a caller from its callee.
+//! The masks and origins that a function takes over from its caller, and a caller from its callee.
 ghost use Rattle.std.specs.Prelude.{◌≡◌, OnOk};
 ghost use Rattle.ms_pass_tasks.specs.SlotTasks.{take_tasks, param_mask, param_origin, result_mask_slot, result_origin_slot};
 ghost use Rattle.ms_rules_builder.specs.Made.{with_tasks};

@@ -1,4 +1,5 @@
-//! The code that puts a word's mask and origin into two slots, or takes them from there.
+//! The code that puts a word's mask and origin into two slots, or takes them from there: inserted stores (`Puts`) and loads
+//! (`Fetches`).
 ghost use Rattle.std.specs.Prelude.{◌≡◌, ◌<◌, ◌+◌, ◌^◌, [], ◌∷◌, OnOk};
 ghost use Rattle.ms_ir.specs.declared.syntax.Ty.{Int};
 ghost use Rattle.ms_pass_tasks.specs.Tasks.{msan_name, Leaf, Fetches, Puts};
@@ -13,7 +14,7 @@ use ms_rules_builder::{Builder, msan_name};
 /// The bits of an origin.
 const ORIGIN_WIDTH: u8 = 32;
 
-/// Adds a store.
+/// Adds a store of `width` bits.
 fn store(builder: &mut Builder, width: u8, value: Operand, addr: Operand) -> Result<(), NoMemory>
     ensures { OnOk result (builder.new ≡ with_tasks builder.old (Puts (Int width) (Leaf value) (Leaf addr) ∷ [])) }
 {
@@ -27,7 +28,7 @@ fn store(builder: &mut Builder, width: u8, value: Operand, addr: Operand) -> Res
     )
 }
 
-/// Adds a load.
+/// Adds a load of `width` bits, whose result has this name.
 fn load(builder: &mut Builder, name: Name, width: u8, addr: Operand) -> Result<(), NoMemory>
     ensures { OnOk result (builder.new ≡ with_tasks builder.old (Fetches name (Int width) (Leaf addr) ∷ [])) }
 {

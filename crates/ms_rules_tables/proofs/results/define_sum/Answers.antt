@@ -24,5 +24,5 @@ returns c =
     subst (λ (x : Inputs). OnOk r.result (r.new.builder ≡ with_tasks c.args.builder.now (defined c.args.value w (first_last x.operands) e)))
     c.plain-inputs.ensures
     (r.ensures e (ap (λ l. words i l []) c.as_slice.ensures.value
-    ∙ c.in_ok-mask.ensures.mask i (map tracked_of (drop 2 ops)) (same ∙ pair_first ops ∙ ap (λ l. map tracked_of l ++ map tracked_of (drop 2 ops)) (sym c.pair.ensures))
-    ∙ ap (λ l. carry_in i widening.Own (map tracked_of l) ∷ []) c.pair.ensures ∙ ap (λ x. x ∷ []) mask))
+    ∙ c.in_ok-mask.ensures.mask i (map tracked_of (drop 2 ops)) (same ∙ pair_first ops ∙ ap (λ l. map tracked_of l ++ map tracked_of (drop 2 ops)) (sym c.first_two.ensures))
+    ∙ ap (λ l. carry_in i widening.Own (map tracked_of l) ∷ []) c.first_two.ensures ∙ ap (λ x. x ∷ []) mask))

@@ -5,7 +5,7 @@ use Rattle.ms_pass_tasks.specs.Tasks.{inserted, mask_name, origin_name}
 use Rattle.ms_pass_tasks.specs.Environments.{mask_type}
 use Rattle.ms_rules.specs.Edges.{masks, origins, with_operands, with_first}
 use Rattle.ms_rules.proofs.Adding.{insts_with}
-use Rattle.ms_rules.proofs.phis.put_pair.Goals as goal
+use Rattle.ms_rules.proofs.phis.put_shadow_phis.Goals as goal
 
 pub returns : goal.returns
 returns c =
