@@ -1,7 +1,8 @@
 #!/usr/bin/env bash
 # Libraries of others, unchanged, from Debian's source packages, each with a driver of cc/tests/real: what the driver prints natively (clang -O0) is
 # what `msan run` and `msan check` of the text of `msan-cc` print, and the check is clean; of ten with one initialisation removed the first report is at
-# the place of the use, which stands in bench/cc_real.py beside it. Last stands what `msan` says of the text that the manual's commands write by hand.
+# the place of the use, which stands in bench/cc_real.py beside it. Told beside: what `msan` says of the text that the manual's commands write by hand. Last
+# stands one of them by its own `configure` and makefile, with its own tests.
 #
 # Usage: cc-real.sh [LIBRARY]..., by default all. The status is 1 if anything is wrong. Takes the program by MSAN=, by default crates/msan/out/msan as
 # `rt ci` builds it, and the folder for the sources by SOURCES=, by default out/cc-real, which it fills from Debian's mirror of this release by

@@ -15,6 +15,7 @@ int main(int argc, char **argv) {
   return 3;
 }
 '''
+threads = '#include <pthread.h>\n#include <sched.h>\n#include <stdio.h>\n'
 files = {
     'unset.c': unset,
     'clean.c': unset.replace('int wanted;', 'int wanted = 0;'),
@@ -31,6 +32,100 @@ files = {
     'words.c': '#include <stdio.h>\nint main(int argc, char **argv) { for (int k = 1; k < argc; k++) printf("[%s]", argv[k]); putchar(10); return 0; }\n',
     'two.c': 'int add(int a, int b) { return a; }\nint sub(int a, int b) { return b; }\n',
     'many.c': 'int puts(const char *);\nint main(void) { int a, b; if (a) puts("a"); if (b) puts("b"); return 0; }\n',
+    'c23.c': '''#include <stdio.h>
+long read_number(const char *, char **, int) __asm__("__isoc23_strtol"); /* what C23's strtol is called in headers of glibc 2.38 */
+int main(void) {
+  const char *texts[] = {"0b101", " -0B11z", "0b", "0b2", "0x1f", "017"};
+  for (int k = 0; k < 6; k++) {
+    char *end;
+    long number = read_number(texts[k], &end, 0);
+    printf("%ld \\"%s\\"\\n", number, end);
+  }
+  return 0;
+}
+''',
+    'mutex.c': threads + '''static pthread_mutex_t lock = PTHREAD_MUTEX_INITIALIZER;
+static int begun, sum;
+static void *add(void *given) {
+  begun++;
+  pthread_mutex_lock(&lock);
+  sum += *(int *)given;
+  pthread_mutex_unlock(&lock);
+  return NULL;
+}
+int main(void) {
+  int two[2] = {1, 2};
+  pthread_t each[2];
+  pthread_mutex_lock(&lock);
+  for (int k = 0; k < 2; k++)
+    pthread_create(&each[k], NULL, add, &two[k]);
+  while (begun < 2)
+    sched_yield();
+  pthread_mutex_unlock(&lock);
+  for (int k = 0; k < 2; k++)
+    pthread_join(each[k], NULL);
+  return !printf("%d\\n", sum);
+}
+''',
+    'condition.c': threads + '''static pthread_mutex_t lock = PTHREAD_MUTEX_INITIALIZER;
+static pthread_cond_t is_last = PTHREAD_COND_INITIALIZER;
+static int last;
+static void *work(void *number) {
+  pthread_mutex_lock(&lock);
+  while (last != *(int *)number)
+    pthread_cond_wait(&is_last, &lock);
+  last--;
+  pthread_cond_broadcast(&is_last);
+  pthread_mutex_unlock(&lock);
+  return NULL;
+}
+int main(void) {
+  int numbers[COUNT];
+  pthread_t each[COUNT];
+  for (int k = 0; k < COUNT; k++) {
+    numbers[k] = k + 1;
+    pthread_create(&each[k], NULL, work, &numbers[k]);
+  }
+  pthread_mutex_lock(&lock);
+  last = COUNT; /* each waits for the one that was made after it */
+  pthread_cond_broadcast(&is_last);
+  while (last > 0)
+    pthread_cond_wait(&is_last, &lock);
+  pthread_mutex_unlock(&lock);
+  for (int k = 0; k < COUNT; k++)
+    pthread_join(each[k], NULL);
+  return !printf("%d\\n", last);
+}
+''',
+    'semaphores.c': threads + '''#include <semaphore.h>
+static sem_t empty, full;
+static int slot;
+static void *make(void *given) {
+  for (int k = 1; k <= 3; k++) {
+    int made;
+    if (k < *(int *)given)
+      made = 10 * k;
+    sem_wait(&empty);
+    slot = made;
+    sem_post(&full);
+  }
+  return NULL;
+}
+int main(void) {
+  int first = FIRST;
+  pthread_t maker;
+  sem_init(&empty, 0, 1);
+  sem_init(&full, 0, 0);
+  pthread_create(&maker, NULL, make, &first);
+  for (int k = 0; k < 3; k++) {
+    sem_wait(&full);
+    if (slot > 15)
+      puts("much");
+    sem_post(&empty);
+  }
+  return pthread_join(maker, NULL);
+}
+''',
     'kept.c': 'extern int puts(const char *);\nint main(void) { puts("kept"); return 0; }\n',
 }
 
@@ -90,6 +185,8 @@ class Checks:
         self.is_so('a function of the program wins over the library\'s', ended.out == b'own\na\n', ended.out, ended.said)
         ended = self.cc('main.c', 'add.c', 'two.c', '-Iinclude', '-DOFFSET=1', '-o', 'twice.ll')
         self.is_so('two functions of one name: refused by the linker, nothing written', ended.status not in (0, None) and not os.path.exists(f'{self.folder}/twice.ll'), ended.status, ended.said)
+        ended = self.cc('--check', 'c23.c')
+        self.is_so('strtol of C23 reads 0b', (ended.out, ended.status) == (b'5 ""\n-3 "z"\n0 "b"\n0 "b2"\n31 ""\n15 ""\n', 0), ended.out, ended.said)
         ended = self.cc('--check', 'missing.c')
         self.is_so('a function that is missing: an error', ended.status == 1 and 'missing.c:3:' in ended.said and "'lost'" in ended.said, ended.status, ended.said)
         ended = self.cc('--check', '--missing-trap', 'missing.c')
@@ -104,6 +201,24 @@ class Checks:
         again = self.cc('kept.c', '-o', 'again.ll')
         self.is_so('a text by -c and one at once are the same but for the name of the file', ended.status == again.status == 0 and
                    open(f'{self.folder}/kept.ll').read().replace('kept.ll', '') == open(f'{self.folder}/again.ll').read().replace('again.ll', ''))
+
+    def waiting(self):
+        """Threads that wait for each other, by a schedule that the user needn't name."""
+        for name, flags, out in (('mutex', [], b'3\n'), ('condition', ['-DCOUNT=3'], b'0\n'), ('condition', ['-DCOUNT=20'], b'0\n'), ('condition', ['-DCOUNT=63'], b'0\n'),
+                                 ('semaphores', ['-DFIRST=4'], b'much\nmuch\n')):
+            ended = self.cc('--check', *flags, f'{name}.c')
+            checked = cc_run.Checked(ended)
+            self.is_so(f'--check of threads that wait, {" ".join([name] + flags)}: clean', (ended.status, ended.out, checked.verdict) == (0, out, 'clean'), ended.status, ended.out, ended.said)
+        ended = self.cc('--run', 'mutex.c')
+        self.is_so('--run of threads that wait', (ended.status, ended.out) == (0, b'3\n'), ended.status, ended.out, ended.said)
+        ended = self.cc('--check', '-DFIRST=3', 'semaphores.c')
+        self.is_so('--check of threads that wait, with a use: its report', ended.status == 77 and ended.out == b'much\n' and cc_run.Checked(ended).first[1] == cc_run.Place('semaphores.c', 26, 9),
+                   ended.status, ended.out, ended.said)
+        for own in (['--schedule', '00'], ['--schedule=00']):
+            ended = self.cc('--check', 'mutex.c', '--', '--steps', '100000', *own)
+            self.is_so(f'--check FILE -- {" ".join(own)}: the user\'s own schedule', ended.status == 4 and 'end: spent' in ended.said, ended.status, ended.said)
+        ended = self.cc('--explain', 'mutex.c')
+        self.is_so('--explain of threads: refused by msan, which has no schedule there', ended.status == 5 and 'refused 18: threads' in ended.said, ended.status, ended.said)
 
     def pointers(self):
         """Steps that a call through a pointer takes, for functions of one type."""
@@ -138,6 +253,7 @@ def main():
     checks.check_word()
     checks.makefile()
     checks.words()
+    checks.waiting()
     checks.pointers()
     return checks.table.end()
 

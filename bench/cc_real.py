@@ -5,6 +5,7 @@ A plant takes one line of a library's file away. It names a text of that line an
 import glob
 import os
 import re
+import shutil
 import sys
 import time
 
@@ -213,6 +214,24 @@ def planted(library, tree, made, files, flags, name):
     return f'{kind} {place}, root {checked.reports[0].root if checked.reports else "none"}', theirs, wrong
 
 
+def configured(tree, folder):
+    """What is wrong with libcsv by its own configure and makefile: its tests print natively what they print as a text, which is clean."""
+    shutil.copytree(tree, folder)
+    llvm = lambda name: cc_run.clang.replace('clang', name)
+    words = ['--host=x86_64-linux-gnu', '--disable-shared', f'CC={cc_run.msan_cc}', f'AR={llvm("llvm-ar")}', f'RANLIB={llvm("llvm-ranlib")}']
+    for command in ['./configure'] + words, ['make', 'check_csv']:
+        ended = cc_run.run(command, folder=folder, seconds=1200)
+        if ended.status:
+            return [f'{command[0]}: {ended.out.decode("latin1")[-400:]}{ended.said[-400:]}']
+    native = f'{folder}/native'
+    if cc_run.build([f'{folder}/libcsv.c', f'{folder}/test_csv.c'], native).status:
+        return ['native: not compiled']
+    want = cc_run.run([native])
+    ran, checked = cc_run.msan_run(f'{folder}/check_csv', steps, seconds=300), cc_run.msan_check(f'{folder}/check_csv', steps, seconds=300)
+    same = (want.status, ran.out, checked.out, checked.verdict) == (0, want.out, want.out, 'clean') and want.out
+    return [] if same else [f'{want.out} natively, {ran.out} by run, {checked.out} by check: {checked.said[:600]}']
+
+
 def main():
     chosen = [library for library in libraries if not sys.argv[3:] or library.name in sys.argv[3:]]
     if sys.argv[1] == '--packages':
@@ -236,6 +255,10 @@ def main():
     print('\nlibrary, without | first report | clang -fsanitize=memory\n--- | --- | ---')
     for library, (found, theirs, wrong) in plants:
         table.row(not wrong, f'{library.name}, `{library.plant.removed}`', found, theirs, why=wrong)
+    if any(library.name == 'libcsv' for library in chosen) and os.path.isdir(f'{sources}/libcsv'):
+        print('\nby its own configure and makefile | its own tests\n--- | ---')
+        wrong = configured(f'{sources}/libcsv', f'{work}/configured')
+        table.row(not wrong, 'libcsv', 'native = run = check, clean' if not wrong else 'wrong', why=wrong)
     return table.end()
 
 

@@ -30,15 +30,15 @@ wrongs = [
     Wrong('a variadic argument past the last is one of an earlier call', 'Variadics.cpp', '  B.CreateLifetimeStart(Variable, sizeOf(*Variable, B));\n', '', 'too_many P1'),
     Wrong('argv is unset', 'Start.cpp', '    return argumentVector(P);\n',
           '    return frameVariable(*const_cast<Function *>(A.getParent()), ArrayType::get(P.Ptr, P.Chosen.Words.size() + 2), Align(16), "arguments");\n', 'arguments'),
-    Wrong('a volatile read whose value nothing takes is dropped', 'Calls.cpp', 'void lowerVolatile(Program &P, Function &F) {\n',
+    Wrong('a volatile read whose value nothing takes is dropped', 'Marks.cpp', 'void lowerVolatile(Program &P, Function &F) {\n',
           'void lowerVolatile(Program &P, Function &F) {\n  for (LoadInst *Load : allOfKind<LoadInst>(F))\n    if (Load->isVolatile() && Load->use_empty())\n      Load->eraseFromParent();\n',
           'volatiles P1', 'volatiles P2'),
-    Wrong('a volatile write is dropped', 'Calls.cpp', 'void lowerVolatile(Program &P, Function &F) {\n',
+    Wrong('a volatile write is dropped', 'Marks.cpp', 'void lowerVolatile(Program &P, Function &F) {\n',
           'void lowerVolatile(Program &P, Function &F) {\n  for (StoreInst *Store : allOfKind<StoreInst>(F))\n    if (Store->isVolatile() && Store->getFunction()->getName() == "touch")\n'
           '      Store->eraseFromParent();\n', 'volatiles'),
     Wrong('the flag of an overflow is clean of an unset operand', 'Overflow.cpp', '  return made(I, {Result, IsOver});\n', '  return made(I, {Result, B.CreateFreeze(IsOver)});\n',
           'overflow P1', 'overflow P2', 'overflow P3', 'overflow P5'),
-    Wrong('an array of variable length keeps its last round\'s bytes', 'Calls.cpp', 'void lowerVolatile(Program &P, Function &F) {\n',
+    Wrong('an array of variable length keeps its last round\'s bytes', 'Marks.cpp', 'void lowerVolatile(Program &P, Function &F) {\n',
           'void lowerVolatile(Program &P, Function &F) {\n  for (AllocaInst *Array : allOfKind<AllocaInst>(F))\n    if (!isa<Constant>(Array->getArraySize()))\n'
           '      replace(Array, frameVariable(F, ArrayType::get(P.Int8, 4096), Align(16), "kept"));\n', 'vla P2'),
     Wrong('places are lost', 'Shorten.cpp', '  if (Place->getFile() != SP->getFile())\n    return Place;\n', '  return DebugLoc();\n', 'pointers P1', 'overflow P1', 'vla P2'),
@@ -64,7 +64,8 @@ def built(wrong, work):
     ended = cc_run.run(['g++'] + flags + ['-c', path, '-o', f'{copy}/work/{wrong.file[:-4]}.o'], seconds=900)
     if ended.status:
         return None, 'not compiled: ' + ended.said[:500]
-    ended = cc_run.run(['g++'] + sorted(glob.glob(f'{copy}/work/*.o')) + ['-o', f'{copy}/msan-lower', '-L' + say('--libdir'), '-lLLVM-19'], seconds=300)
+    objects = [f'{copy}/work/{os.path.basename(source)[:-4]}.o' for source in sorted(glob.glob(f'{copy}/lower/*.cpp'))]
+    ended = cc_run.run(['g++'] + objects + ['-o', f'{copy}/msan-lower', '-L' + say('--libdir'), '-lLLVM-19'], seconds=300)
     return (copy, '') if ended.status == 0 else (None, 'not linked: ' + ended.said[:300])
 
 

@@ -1,8 +1,8 @@
 #!/usr/bin/env bash
 # Checks the documents against the program and the tree:
 #
-# - runs the commands in the fenced blocks of README.md and docs/MANUAL.md, in a folder for each document, and compares what they
-#   print with what is shown. A file that `cat` shows before it exists is created from what is shown. Commands with `rt` prove
+# - runs the commands in the fenced blocks of README.md, docs/MANUAL.md and docs/CC.md, in a folder for each document, and compares
+#   what they print with what is shown. A file that `cat` shows before it exists is created from what is shown. Commands with `rt` prove
 #   everything, and `make` builds, so only their paths are checked
 # - runs a small program for each row of MANUAL's two tables of refusals, and for some flags of its command; and commands that
 #   are wrong
@@ -29,7 +29,7 @@ python3 - "$top" "$work" <<'PYTHON'
 import glob, os, re, subprocess, sys
 
 top, work = sys.argv[1:3]
-TRANSCRIPTS = ["README.md", "docs/MANUAL.md"]
+TRANSCRIPTS = ["README.md", "docs/MANUAL.md", "docs/CC.md"]
 DOCUMENTS = ["*.md", "docs/*.md", "examples/*.md"]
 # A changelog names what was, and decisions what was weighed and left.
 NOT_NAMING = {"CHANGELOG.md", "docs/DECISIONS.md"}

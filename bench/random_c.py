@@ -341,10 +341,7 @@ class Program:
     def overflow(self):
         kind, v = self.pick(*INTEGERS), self.name('o')
         self.line(f'{kind} {v};')
-        # A product of mixed signs at 64 bits would be one of 65, which msan-cc refuses.
         what, one, other = self.pick('add', 'sub', 'mul'), self.pick(*INTEGERS), self.pick(*INTEGERS)
-        if what == 'mul' and 'long' in kind + one + other:
-            one = other = kind
         self.line(f'mix(__builtin_{what}_overflow(({one})({self.value(2)}), ({other})({self.value(1)}), &{v}));')
         self.places.append((v, 0))
 

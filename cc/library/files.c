@@ -31,7 +31,8 @@ static void *nothing(const char *name) {
 
 weak FILE *fopen(const char *restrict name, const char *restrict mode) { return nothing(name); }
 also(fopen64, fopen);
-weak FILE *freopen(const char *restrict name, const char *restrict mode, FILE *restrict stream) { return nothing(name); }
+// Without a name the mode alone changes, which says nothing here.
+weak FILE *freopen(const char *restrict name, const char *restrict mode, FILE *restrict stream) { return name ? nothing(name) : stream; }
 weak FILE *tmpfile(void) { return none(ENOENT); }
 weak FILE *popen(const char *command, const char *mode) { return nothing(command); }
 weak int pclose(FILE *stream) { return failed(ECHILD); }

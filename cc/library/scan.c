@@ -160,7 +160,10 @@ static enum result scan_directive(struct source *source, const struct directive 
   case 'G': return cc_scan_float(source, d, arguments);
   case 'c':
   case 's':
-  case '[': return scan_text(source, d, arguments);
+  case '[':
+    if (d->size == sizeof(long))
+      cc_missing("scanf", d->kind);
+    return scan_text(source, d, arguments);
   case 'n':
     if (!d->is_dropped)
       cc_store_number(d, va_arg(*arguments, void *), source->count);

@@ -5,8 +5,10 @@
 #include "library.h"
 
 #include <ctype.h>
+#include <errno.h>
 #include <inttypes.h>
 #include <libgen.h>
+#include <limits.h>
 #undef basename // GNU's stands beside POSIX's
 #include <stdint.h>
 #include <stdlib.h>
@@ -166,12 +168,48 @@ weak char *dirname(char *path) {
 
 weak intmax_t strtoimax(const char *restrict text, char **restrict end, int base) { return strtol(text, end, base); }
 weak uintmax_t strtoumax(const char *restrict text, char **restrict end, int base) { return strtoul(text, end, base); }
-weak long __isoc23_strtol(const char *restrict text, char **restrict end, int base) { return strtol(text, end, base); }
-weak long long __isoc23_strtoll(const char *restrict text, char **restrict end, int base) { return strtol(text, end, base); }
-weak unsigned long __isoc23_strtoul(const char *restrict text, char **restrict end, int base) { return strtoul(text, end, base); }
-weak unsigned long long __isoc23_strtoull(const char *restrict text, char **restrict end, int base) { return strtoul(text, end, base); }
-weak intmax_t __isoc23_strtoimax(const char *restrict text, char **restrict end, int base) { return strtol(text, end, base); }
-weak uintmax_t __isoc23_strtoumax(const char *restrict text, char **restrict end, int base) { return strtoul(text, end, base); }
+
+// C23's take a prefix `0b` where the base is 0 or 2. Returns what stands behind it, or null.
+static const char *behind_prefix(const char *text, int base, int *is_negative) {
+  while (*text == ' ' || (*text >= '\t' && *text <= '\r'))
+    text++;
+  *is_negative = *text == '-';
+  text += *text == '-' || *text == '+';
+  int has_prefix = (base == 0 || base == 2) && text[0] == '0' && (text[1] == 'b' || text[1] == 'B') && (text[2] == '0' || text[2] == '1');
+  return has_prefix ? text + 2 : NULL;
+}
+
+weak unsigned long __isoc23_strtoul(const char *restrict text, char **restrict end, int base) {
+  int is_negative;
+  const char *digits = behind_prefix(text, base, &is_negative);
+  if (!digits)
+    return strtoul(text, end, base);
+  int before = errno;
+  errno = 0;
+  unsigned long magnitude = strtoul(digits, end, 2);
+  if (errno)
+    return magnitude; // the largest
+  errno = before;
+  return is_negative ? -magnitude : magnitude;
+}
+weak long __isoc23_strtol(const char *restrict text, char **restrict end, int base) {
+  int is_negative;
+  const char *digits = behind_prefix(text, base, &is_negative);
+  if (!digits)
+    return strtol(text, end, base);
+  unsigned long magnitude = strtoul(digits, end, 2), most = is_negative ? -(unsigned long)LONG_MIN : LONG_MAX;
+  if (magnitude > most) {
+    errno = ERANGE;
+    magnitude = most;
+  }
+  return is_negative ? -magnitude : magnitude;
+}
+weak long long __isoc23_strtoll(const char *restrict text, char **restrict end, int base) { return __isoc23_strtol(text, end, base); }
+weak unsigned long long __isoc23_strtoull(const char *restrict text, char **restrict end, int base) {
+  return __isoc23_strtoul(text, end, base);
+}
+weak intmax_t __isoc23_strtoimax(const char *restrict text, char **restrict end, int base) { return __isoc23_strtol(text, end, base); }
+weak uintmax_t __isoc23_strtoumax(const char *restrict text, char **restrict end, int base) { return __isoc23_strtoul(text, end, base); }
 weak intmax_t imaxabs(intmax_t number) { return number < 0 ? -number : number; }
 weak imaxdiv_t imaxdiv(intmax_t a, intmax_t b) { return (imaxdiv_t){a / b, a % b}; }
 

@@ -1,5 +1,16 @@
 // What moves a value in parts moves its parts, with their masks: none of these
 // is a use of what it moves.
+//
+//   %pair = load { i64, i32 }, ptr %p
+//   ret { i64, i32 } %pair
+//
+// becomes, in a function that has the pointer %result,
+//
+//   %1 = load i64, ptr %p
+//   %2 = load i32, ptr (%p + 8)
+//   store i64 %1, ptr %result
+//   store i32 %2, ptr (%result + 8)
+//   ret void
 #include "Parts.h"
 
 using namespace llvm;

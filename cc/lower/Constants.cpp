@@ -1,5 +1,13 @@
 // Constant expressions: instructions before their use; in an initialiser a
 // store when `main` starts.
+//
+//   @end = global i64 add (i64 ptrtoint (ptr @a to i64), i64 4)
+//
+// becomes `@end = global i64 0`, and in `main`
+//
+//   %1 = ptrtoint ptr @a to i64
+//   %2 = add i64 %1, 4
+//   store i64 %2, ptr @end
 #include "Lowerings.h"
 #include <map>
 

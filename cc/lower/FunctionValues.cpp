@@ -75,21 +75,6 @@ std::string spelled(const FunctionType &Type, StringRef First) {
   return Name;
 }
 
-// Where a function that isn't there is named as a value.
-void complainOfMissing(Program &P, const Function &F) {
-  std::string What =
-      ("'" + F.getName() + "' is neither in the program nor in the library")
-          .str();
-  bool IsPlaced = false;
-  for (const User *U : F.users())
-    if (auto *I = dyn_cast<Instruction>(U)) {
-      P.Errors.at(*I, What);
-      IsPlaced = true;
-    }
-  if (!IsPlaced)
-    P.Errors.about(What);
-}
-
 // The address of a function is that of a byte: a constant for a constant.
 void FunctionValues::addTables() {
   for (Function &F : P.M) {
@@ -97,7 +82,7 @@ void FunctionValues::addTables() {
       continue;
     Tables[F.getFunctionType()].Functions.push_back(&F);
     if (F.isDeclaration() && !isTaken(F) && !P.Chosen.MissingTraps)
-      complainOfMissing(P, F);
+      complainOfMissingValue(P, F);
   }
   for (auto &[Type, T] : Tables) {
     auto *Zero = Constant::getNullValue(ArrayType::get(P.Int8, T.size()));

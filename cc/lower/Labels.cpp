@@ -1,5 +1,13 @@
 // `goto *place`: a label's address is that of a byte of its own, the jump a
 // switch on which byte it is.
+//
+//   indirectbr ptr %place, [label %one, label %two]
+//
+// becomes, with the differences of addresses in short:
+//
+//   %byte = load i8, ptr %place
+//   %label = sub i64 %place, @f.labels
+//   switch i64 %label, label %elsewhere [i64 0, label %one i64 1, label %two]
 #include "Lowerings.h"
 #include <map>
 #include <set>

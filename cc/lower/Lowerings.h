@@ -1,5 +1,4 @@
-// The lowerings, in the order in which `lower` calls them. Each has its reason
-// with its body; docs/CC.md has a table of them.
+// The lowerings, file by file. README.md is the map; main.cpp has their order.
 #ifndef MSAN_LOWER_LOWERINGS_H
 #define MSAN_LOWER_LOWERINGS_H
 
@@ -7,14 +6,12 @@
 
 namespace lower {
 
-/// Lowers the program, or fills its complaints. (Lower.cpp)
-void lower(Program &P);
-
-// Linkage.cpp
+// Marks.cpp
 void dropLinkerMarks(Program &P);
 void keepReached(Program &P);
 void lowerThreadLocals(Program &P);
 void runPassesOfLLVM(Program &P);
+void lowerVolatile(Program &P, llvm::Function &F);
 
 // Start.cpp
 void lowerStart(Program &P);
@@ -31,30 +28,9 @@ void trapAtMissing(Program &P);
 // Choices.cpp: used by Library.cpp
 void chooseKnowing(Program &P);
 
-// Calls.cpp
-void lowerUnprototypedCalls(Program &P, llvm::Function &F);
-void lowerVolatile(Program &P, llvm::Function &F);
-void lowerByVal(Program &P, llvm::Function &F);
-
-// Labels.cpp
-void lowerLabels(Program &P);
-
-// Floats.cpp
-void carryFloatsAsWords(Program &P);
-
-// WideMemory.cpp
-void lowerWideMemory(Program &P);
-/// The type of a variable for values of a type.
-llvm::Type *typeInMemory(const Program &P, llvm::Type *T);
-
-// Constants.cpp
-void lowerConstants(Program &P);
-void lowerConstantOperands(Program &P, llvm::Function &F);
-
-// FunctionValues.cpp
-void lowerFunctionValues(Program &P);
-
 // Signatures.cpp
+void lowerUnprototypedCalls(Program &P, llvm::Function &F);
+void lowerByVal(Program &P, llvm::Function &F);
 void lowerSignatures(Program &P);
 
 // Variadics.cpp, which is called by Signatures.cpp too
@@ -62,15 +38,32 @@ void lowerWideVaArg(llvm::Function &F);
 
 // Intrinsics.cpp
 void lowerIntrinsics(Program &P, llvm::Function &F);
-
-// ZeroCounts.cpp
 void lowerZeroCounts(llvm::Function &F);
+
+// Labels.cpp
+void lowerLabels(Program &P);
+
+// Constants.cpp
+void lowerConstants(Program &P);
+void lowerConstantOperands(Program &P, llvm::Function &F);
+
+// Floats.cpp
+void carryFloatsAsWords(Program &P);
+
+// FunctionValues.cpp
+void lowerFunctionValues(Program &P);
+
+// WideIntegers.cpp
+void lowerWideMemory(Program &P);
+/// The type of a variable for values of a type.
+llvm::Type *typeInMemory(const Program &P, llvm::Type *T);
 
 // Parts.cpp
 void lowerParts(Program &P, llvm::Function &F);
 
 // Remaining.cpp
 void complainOfRemaining(Program &P);
+void complainOfMissingValue(Program &P, const llvm::Function &F);
 
 // Shorten.cpp
 void dropUnread(Program &P);

@@ -1,6 +1,6 @@
 // `__builtin_add_overflow` and its like: the sum, difference or product, and
 // whether it is another number than the exact one.
-#include "WideIntegers.h"
+#include "Words.h"
 
 using namespace llvm;
 
@@ -24,17 +24,6 @@ static Value *sumOverflows(Builder &B, WithOverflowInst &I, Value *Sum) {
   if (I.isSigned())
     return signsOverflow(B, IsAdd, X, Y, Sum);
   return IsAdd ? B.CreateICmpULT(Sum, X) : B.CreateICmpULT(X, Y);
-}
-
-/// The upper word of the product of two words, by halves.
-Value *upperWord(Builder &B, Value *X, Value *Y) {
-  auto Low = [&](Value *V) { return B.CreateAnd(V, B.getInt64(0xffffffff)); };
-  auto High = [&](Value *V) { return B.CreateLShr(V, 32); };
-  Value *Middle = B.CreateAdd(B.CreateMul(High(X), Low(Y)),
-                              High(B.CreateMul(Low(X), Low(Y))));
-  Value *Other = B.CreateAdd(B.CreateMul(Low(X), High(Y)), Low(Middle));
-  return B.CreateAdd(B.CreateAdd(B.CreateMul(High(X), High(Y)), High(Middle)),
-                     High(Other));
 }
 
 // No branch, no division and no shift by other than a constant, so that
@@ -61,6 +50,43 @@ static Value *productOverflows(Builder &B, WithOverflowInst &I,
   if (Width == 64)
     return IsWider;
   return B.CreateOr(IsWider, B.CreateICmpNE(B.CreateMul(X, Y), Wide(Product)));
+}
+
+// The product in twice as many words, which hold the exact one; and whether the
+// half of them is another number.
+bool PartsLowering::wideProduct(WithOverflowInst &I) {
+  Builder B(&I);
+  bool IsSigned = I.isSigned();
+  Type *T = I.getLHS()->getType();
+  Values X = words(B, parts(I.getLHS()), IsSigned);
+  Values Y = words(B, parts(I.getRHS()), IsSigned);
+  size_t Count = 2 * X.size();
+  Values Exact = multiply(B, extended(B, X, Count, IsSigned),
+                          extended(B, Y, Count, IsSigned));
+  Values Made = fromWords(B, Exact, T);
+  Values Again = extended(B, words(B, Made, IsSigned), Count, IsSigned);
+  Made.push_back(isEqual(B, ICmpInst::ICMP_NE, Exact, Again));
+  return made(I, Made);
+}
+
+// The sum or difference in words, and whether it is another number than the
+// exact one: by the signs, or by a comparison, as of one word.
+bool PartsLowering::wideOverflow(WithOverflowInst &I) {
+  if (I.getBinaryOp() == Instruction::Mul)
+    return wideProduct(I);
+  Builder B(&I);
+  Type *T = I.getLHS()->getType();
+  Values X = words(B, parts(I.getLHS()), false);
+  Values Y = words(B, parts(I.getRHS()), false);
+  bool IsAdd = I.getBinaryOp() == Instruction::Add;
+  Values Made = fromWords(B, IsAdd ? add(B, X, Y) : subtract(B, X, Y), T);
+  if (I.isSigned())
+    Made.push_back(signsOverflow(B, IsAdd, parts(I.getLHS()).back(),
+                                 parts(I.getRHS()).back(), Made.back()));
+  else
+    Made.push_back(isLess(B, ICmpInst::ICMP_ULT,
+                          IsAdd ? words(B, Made, false) : X, IsAdd ? X : Y));
+  return made(I, Made);
 }
 
 bool PartsLowering::visitIntrinsicInst(IntrinsicInst &I) {

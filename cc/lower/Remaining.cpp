@@ -56,6 +56,21 @@ static void complainOfMissing(Program &P, Instruction &I) {
   }
 }
 
+// Where a function that isn't there is named as a value.
+void complainOfMissingValue(Program &P, const Function &F) {
+  std::string What =
+      ("'" + F.getName() + "' is neither in the program nor in the library")
+          .str();
+  bool IsPlaced = false;
+  for (const User *U : F.users())
+    if (auto *I = dyn_cast<Instruction>(U)) {
+      P.Errors.at(*I, What);
+      IsPlaced = true;
+    }
+  if (!IsPlaced)
+    P.Errors.about(What);
+}
+
 static void complainOf(Program &P, Instruction &I) {
   auto *Call = dyn_cast<CallBase>(&I);
   if (Call && Call->isInlineAsm())

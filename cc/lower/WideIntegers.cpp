@@ -1,148 +1,16 @@
 // Integers of more than 64 bits, as packed bit-fields and `__int128` make them:
-// computed by their words, the lowest first.
-//
-// Bits stay what they are in operations on each bit, shifts by constants,
-// truncations and extensions, so their masks do. A sum, a difference or a
-// product has each bit unset above the lowest unset one of its operands, here
-// too: a carry is a comparison of words that have these bits.
-#include "WideIntegers.h"
-#include "Parts.h"
+// computed by their words, for which Words.cpp has the reasons; and the
+// variables that hold them: of as many bytes.
+#include "Lowerings.h"
+#include "Words.h"
+#include "llvm/IR/Operator.h"
+#include "llvm/Transforms/Utils/ValueMapper.h"
 
 using namespace llvm;
 
 namespace lower {
 
-static Type *topOf(Type *T) {
-  unsigned Rest = T->getIntegerBitWidth() % 64;
-  return IntegerType::get(T->getContext(), Rest ? Rest : 64);
-}
-
-// As words of 64 bits: the top one is extended.
-static Values words(Builder &B, Values Parts, bool IsSigned) {
-  Values::value_type &Top = Parts.back();
-  if (Top->getType() != B.getInt64Ty())
-    Top = IsSigned ? B.CreateSExt(Top, B.getInt64Ty())
-                   : B.CreateZExt(Top, B.getInt64Ty());
-  return Parts;
-}
-
-// More words of the same number.
-static Values extended(Builder &B, Values Words, size_t Count, bool IsSigned) {
-  Value *Fill = B.getInt64(0);
-  if (IsSigned && Words.size() < Count)
-    Fill = B.CreateAShr(Words.back(), 63);
-  Words.resize(std::max(Count, Words.size()), Fill);
-  return Words;
-}
-
-// The parts of a type, from at least as many words.
-static Values fromWords(Builder &B, Values Words, Type *T) {
-  Words.resize((T->getIntegerBitWidth() + 63) / 64);
-  if (topOf(T) != B.getInt64Ty())
-    Words.back() = B.CreateTrunc(Words.back(), topOf(T));
-  return Words;
-}
-
-static Values eachBit(Builder &B, Instruction::BinaryOps Op, const Values &X,
-                      const Values &Y) {
-  Values Made;
-  for (auto [One, Other] : zip_equal(X, Y))
-    Made.push_back(B.CreateBinOp(Op, One, Other));
-  return Made;
-}
-
-static bool isZero(const Value *V) {
-  auto *Number = dyn_cast<ConstantInt>(V);
-  return Number && Number->isZero();
-}
-
-static Values add(Builder &B, const Values &X, const Values &Y) {
-  Values Made;
-  Value *Carry = nullptr;
-  for (auto [One, Other] : zip_equal(X, Y)) {
-    if (!Carry && isZero(Other)) {
-      Made.push_back(One);
-      continue;
-    }
-    Value *Sum = B.CreateAdd(One, Other);
-    Value *Over = B.CreateICmpULT(Sum, One);
-    if (Carry) {
-      Value *With = B.CreateAdd(Sum, B.CreateZExt(Carry, B.getInt64Ty()));
-      Over = B.CreateOr(Over, B.CreateICmpULT(With, Sum));
-      Sum = With;
-    }
-    Made.push_back(Sum);
-    Carry = Over;
-  }
-  return Made;
-}
-
-static Values subtract(Builder &B, const Values &X, const Values &Y) {
-  Values Made;
-  Value *Borrow = nullptr;
-  for (auto [One, Other] : zip_equal(X, Y)) {
-    Value *Rest = B.CreateSub(One, Other);
-    Value *Under = B.CreateICmpULT(One, Other);
-    if (Borrow) {
-      Value *Less = B.CreateZExt(Borrow, B.getInt64Ty());
-      Under = B.CreateOr(Under, B.CreateICmpULT(Rest, Less));
-      Rest = B.CreateSub(Rest, Less);
-    }
-    Made.push_back(Rest);
-    Borrow = Under;
-  }
-  return Made;
-}
-
-// As many words of the product as the factors have: the sum of the products of
-// their words, each where it stands.
-static Values multiply(Builder &B, const Values &X, const Values &Y) {
-  Values Made(X.size(), B.getInt64(0));
-  for (unsigned I = 0; I < X.size(); I++)
-    for (unsigned J = 0; I + J < Y.size(); J++) {
-      Values Term(X.size(), B.getInt64(0));
-      Term[I + J] = B.CreateMul(X[I], Y[J]);
-      if (I + J + 1 < Term.size())
-        Term[I + J + 1] = upperWord(B, X[I], Y[J]);
-      Made = add(B, Made, Term);
-    }
-  return Made;
-}
-
-// By a constant number of bits. What comes in from above is Fill.
-static Values shiftRight(Builder &B, const Values &X, unsigned By,
-                         bool IsSigned, Value *Fill) {
-  unsigned Skipped = By / 64, Bits = By % 64;
-  auto Word = [&](unsigned K) { return K < X.size() ? X[K] : Fill; };
-  Values Made;
-  for (unsigned K = Skipped; K < X.size() + Skipped; K++) {
-    Value *Low = Word(K);
-    if (Bits && K < X.size()) {
-      bool IsTop = K + 1 == X.size();
-      Low =
-          IsTop && IsSigned ? B.CreateAShr(Low, Bits) : B.CreateLShr(Low, Bits);
-      if (!IsTop)
-        Low = B.CreateOr(Low, B.CreateShl(Word(K + 1), 64 - Bits));
-    }
-    Made.push_back(Low);
-  }
-  return Made;
-}
-
-static Values shiftLeft(Builder &B, const Values &X, unsigned By) {
-  unsigned Skipped = By / 64, Bits = By % 64;
-  Values Made(Skipped, B.getInt64(0));
-  for (unsigned K = 0; K + Skipped < X.size(); K++) {
-    Value *High = X[K];
-    if (Bits) {
-      High = B.CreateShl(High, Bits);
-      if (K)
-        High = B.CreateOr(High, B.CreateLShr(X[K - 1], 64 - Bits));
-    }
-    Made.push_back(High);
-  }
-  return Made;
-}
+// ---- computing
 
 static Values shift(Builder &B, BinaryOperator &I, const Values &X,
                     const ConstantInt &By) {
@@ -178,38 +46,6 @@ bool PartsLowering::visitBinaryOperator(BinaryOperator &I) {
   return made(I, fromWords(B, Made, I.getType()));
 }
 
-// Equal where no word has a bit that differs: as exact as one comparison.
-static Value *isEqual(Builder &B, ICmpInst::Predicate Predicate,
-                      const Values &X, const Values &Y) {
-  Value *Differs = nullptr;
-  for (auto [One, Other] : zip_equal(X, Y)) {
-    Value *Here = B.CreateXor(One, Other);
-    Differs = Differs ? B.CreateOr(Differs, Here) : Here;
-  }
-  return B.CreateICmp(Predicate, Differs, B.getInt64(0));
-}
-
-/// X < Y, or X <= Y: where the upper words are less, or are not greater and
-/// the words below are so. An unset bit of an upper word that changes whether
-/// it is less, but not whether it is greater, stays without effect where the
-/// words below decide the same.
-static Value *isLess(Builder &B, ICmpInst::Predicate Predicate, const Values &X,
-              const Values &Y) {
-  auto Unsigned = ICmpInst::getUnsignedPredicate(
-      ICmpInst::isSigned(Predicate) ? Predicate
-                                    : ICmpInst::getSignedPredicate(Predicate));
-  Value *Result = B.CreateICmp(Unsigned, X[0], Y[0]);
-  for (unsigned K = 1; K < X.size(); K++) {
-    auto Here = K + 1 == X.size() ? Predicate : Unsigned;
-    auto Less = ICmpInst::getStrictPredicate(Here);
-    auto NotGreater = ICmpInst::getNonStrictPredicate(Here);
-    Result =
-        B.CreateOr(B.CreateICmp(Less, X[K], Y[K]),
-                   B.CreateAnd(B.CreateICmp(NotGreater, X[K], Y[K]), Result));
-  }
-  return Result;
-}
-
 bool PartsLowering::visitICmpInst(ICmpInst &I) {
   if (!I.getOperand(0)->getType()->isIntegerTy())
     return false;
@@ -238,41 +74,119 @@ bool PartsLowering::visitCastInst(CastInst &I) {
   return made(I, fromWords(B, Words, I.getType()));
 }
 
-// The product in twice as many words, which hold the exact one; and whether the
-// half of them is another number.
-bool PartsLowering::wideProduct(WithOverflowInst &I) {
-  Builder B(&I);
-  bool IsSigned = I.isSigned();
-  Type *T = I.getLHS()->getType();
-  Values X = words(B, parts(I.getLHS()), IsSigned);
-  Values Y = words(B, parts(I.getRHS()), IsSigned);
-  size_t Count = 2 * X.size();
-  Values Exact = multiply(B, extended(B, X, Count, IsSigned),
-                          extended(B, Y, Count, IsSigned));
-  Values Made = fromWords(B, Exact, T);
-  Values Again = extended(B, words(B, Made, IsSigned), Count, IsSigned);
-  Made.push_back(isEqual(B, ICmpInst::ICMP_NE, Exact, Again));
-  return made(I, Made);
+// ---- variables
+
+static bool hasWide(Type *T) {
+  if (auto *Struct = dyn_cast<StructType>(T))
+    return any_of(Struct->elements(), hasWide);
+  if (auto *Array = dyn_cast<ArrayType>(T))
+    return hasWide(Array->getElementType());
+  return T->isIntegerTy() && T->getIntegerBitWidth() > 64;
 }
 
-// The sum or difference in words, and whether it is another number than the
-// exact one: by the signs, or by a comparison, as of one word.
-bool PartsLowering::wideOverflow(WithOverflowInst &I) {
-  if (I.getBinaryOp() == Instruction::Mul)
-    return wideProduct(I);
-  Builder B(&I);
-  Type *T = I.getLHS()->getType();
-  Values X = words(B, parts(I.getLHS()), false);
-  Values Y = words(B, parts(I.getRHS()), false);
-  bool IsAdd = I.getBinaryOp() == Instruction::Add;
-  Values Made = fromWords(B, IsAdd ? add(B, X, Y) : subtract(B, X, Y), T);
-  if (I.isSigned())
-    Made.push_back(signsOverflow(B, IsAdd, parts(I.getLHS()).back(),
-                                 parts(I.getRHS()).back(), Made.back()));
-  else
-    Made.push_back(isLess(B, ICmpInst::ICMP_ULT,
-                          IsAdd ? words(B, Made, false) : X, IsAdd ? X : Y));
-  return made(I, Made);
+Type *typeInMemory(const Program &P, Type *T) {
+  return hasWide(T) ? ArrayType::get(P.Int8, P.Layout.getTypeAllocSize(T)) : T;
+}
+
+namespace {
+// Constant places in such variables: so many bytes behind the beginning.
+class BytePlaces : public ValueMaterializer {
+public:
+  explicit BytePlaces(Program &P) : P(P) {}
+
+  Value *materialize(Value *V) override {
+    auto *Place = dyn_cast<GEPOperator>(V);
+    if (!Place || !isa<Constant>(V))
+      return nullptr;
+    auto *Base = cast<Constant>(Place->getPointerOperand());
+    Value *NewBase = materialize(Base);
+    APInt Offset(64, 0);
+    if ((!NewBase && !hasWide(Place->getSourceElementType())) ||
+        !Place->accumulateConstantOffset(P.Layout, Offset))
+      return nullptr;
+    return ConstantExpr::getGetElementPtr(
+        P.Int8, NewBase ? cast<Constant>(NewBase) : Base,
+        ConstantInt::get(P.Context, Offset), Place->getNoWrapFlags());
+  }
+
+private:
+  Program &P;
+};
+} // namespace
+
+// The same initialiser, with its parts where they were and zeros between.
+static Constant *withParts(Program &P, Constant &Initial) {
+  std::vector<Constant *> Parts;
+  uint64_t At = 0;
+  auto FillTo = [&](uint64_t Offset) {
+    if (Offset > At)
+      Parts.push_back(
+          Constant::getNullValue(ArrayType::get(P.Int8, Offset - At)));
+  };
+  std::vector<Leaf> Leaves = leavesOf(P.Layout, Initial.getType());
+  for (auto [Part, L] : zip_equal(partsOf(P, Initial), Leaves)) {
+    FillTo(L.Offset);
+    Parts.push_back(cast<Constant>(Part));
+    At = L.Offset + P.Layout.getTypeStoreSize(L.Type);
+  }
+  FillTo(P.Layout.getTypeAllocSize(Initial.getType()));
+  return ConstantStruct::getAnon(Parts, true);
+}
+
+static void retype(Program &P, GlobalVariable &Global) {
+  if (!hasWide(Global.getValueType()) || !Global.hasInitializer())
+    return;
+  Constant *Initial =
+      Global.getInitializer()->isNullValue()
+          ? Constant::getNullValue(typeInMemory(P, Global.getValueType()))
+          : withParts(P, *Global.getInitializer());
+  GlobalVariable *New = P.addGlobal(Initial, Global.isConstant(), "");
+  New->takeName(&Global);
+  New->copyAttributesFrom(&Global);
+  New->setAlignment(std::max(Global.getAlign().valueOrOne(),
+                             P.Layout.getABITypeAlign(Global.getValueType())));
+  New->copyMetadata(&Global, 0);
+  Global.replaceAllUsesWith(New);
+  Global.eraseFromParent();
+}
+
+// The same address, by a sum of products: an unset index makes the same bits
+// of it unset.
+static void lowerPlace(Program &P, GetElementPtrInst &Place) {
+  MapVector<Value *, APInt> Scaled;
+  APInt Offset(64, 0);
+  if (!hasWide(Place.getSourceElementType()) ||
+      !Place.collectOffset(P.Layout, 64, Scaled, Offset))
+    return;
+  Builder B(&Place);
+  Value *Sum = ConstantInt::get(P.Context, Offset);
+  for (auto &[Index, Size] : Scaled) {
+    Value *Word = B.CreateSExtOrTrunc(Index, P.Int64);
+    Sum = B.CreateAdd(Sum, B.CreateMul(Word, B.getInt(Size)));
+  }
+  replace(&Place, B.CreateGEP(P.Int8, Place.getPointerOperand(), Sum));
+}
+
+// Each byte of such a variable stays where it was, and what loads and stores
+// move isn't touched here.
+void lowerWideMemory(Program &P) {
+  BytePlaces Places(P);
+  ValueToValueMapTy Known;
+  ValueMapper Mapper(Known, RF_IgnoreMissingLocals | RF_NoModuleLevelChanges,
+                     nullptr, &Places);
+  for (GlobalVariable &Global : P.M.globals())
+    if (Global.hasInitializer())
+      Global.setInitializer(Mapper.mapConstant(*Global.getInitializer()));
+  for (Function *F : P.bodies()) {
+    for (Instruction &I : instructions(F))
+      Mapper.remapInstruction(I);
+    for (auto *Place : allOfKind<GetElementPtrInst>(*F))
+      lowerPlace(P, *Place);
+    for (auto *Variable : allOfKind<AllocaInst>(*F))
+      Variable->setAllocatedType(typeInMemory(P, Variable->getAllocatedType()));
+  }
+  for (GlobalVariable &Global : make_early_inc_range(P.M.globals()))
+    retype(P, Global);
 }
 
 } // namespace lower

@@ -1,31 +1,5 @@
 // msan-lower writes a linked C program, LLVM assembly or bitcode of clang 19,
-// as the text that `msan` takes.
-//
-// Each lowering replaces a construct that msan leaves out by instructions that
-// it takes, and keeps the place in C. None optimises. Two rules keep the
-// verdict of `msan check` that of the program:
-//
-// - nothing hides a use: each bit is copied by a load, a store or an operation
-//   that msan follows, and what chose the way (a pointer to a function, a
-//   label) still chooses it by a checked use;
-// - nothing adds one: an inserted branch, address or shift amount hangs on such
-//   a choice or on constants alone.
-//
-// The map:
-//
-//   Lower.cpp           the order of the lowerings; Lowerings.h declares them
-//   Linkage, Start      names and sections; main(argc, argv), constructors
-//   Library, Choices    what msan has, what the library does, what is missing
-//   Calls               f() without a prototype, volatile, structs by value
-//   FunctionValues      addresses of functions, calls through pointers
-//   Signatures, Variadics   struct results, variable arguments
-//   Labels, Constants, Intrinsics   goto *p; expressions; LLVM's functions
-//   ZeroCounts          __builtin_ffs
-//   Floats              double and float as words
-//   Parts, Aggregates, Overflow, WideIntegers   values of more than one word
-//   WideMemory          variables that have such integers
-//   Remaining, Complaints   what can't be lowered, and how that is said
-//   Shorten, Program    the text that is written; what all of them need
+// as the text that `msan` takes. README.md has the map.
 #include "Lowerings.h"
 #include "llvm/IR/LLVMContext.h"
 #include "llvm/IR/Verifier.h"
@@ -34,6 +8,46 @@
 #include "llvm/Support/SourceMgr.h"
 
 using namespace llvm;
+
+namespace lower {
+
+// Lowers the program, or fills its complaints. What a lowering leaves to a
+// later one is said where the two are called.
+static void lower(Program &P) {
+  if (Function *Main = P.M.getFunction("main"); !Main || Main->isDeclaration())
+    return P.Errors.about("there is no 'main'");
+  dropLinkerMarks(P);
+  lowerStart(P);
+  chooseLibrary(P);
+  keepReached(P); // so what can't run isn't complained of
+  lowerThreadLocals(P);
+  runPassesOfLLVM(P);
+  for (Function *F : P.bodies()) {
+    lowerUnprototypedCalls(P, *F);
+    lowerVolatile(P, *F);
+    lowerByVal(P, *F);
+    lowerWideVaArg(*F);
+    lowerIntrinsics(P, *F);
+    lowerZeroCounts(*F);
+  }
+  lowerLabels(P);
+  carryFloatsAsWords(P); // `long double` as an integer of 80 bits
+  lowerWideMemory(P);    // whose values are left to lowerParts
+  lowerConstants(P);
+  lowerFunctionValues(P); // whose own functions have signatures too
+  lowerSignatures(P);     // which leaves loads and stores for lowerParts
+  for (Function *F : P.bodies()) {
+    lowerParts(P, *F);
+    lowerConstantOperands(P, *F); // those of the parts
+  }
+  keepReached(P);
+  if (P.Chosen.MissingTraps)
+    trapAtMissing(P);
+  complainOfRemaining(P);
+  dropUnread(P);
+}
+
+} // namespace lower
 
 namespace {
 

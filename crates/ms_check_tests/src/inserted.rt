@@ -1,12 +1,12 @@
 //! Inserted code as lists by themselves: round one instruction, and what is handed over at calls and returns. The lines
 //! are worked out by hand from what docs/SIMULATION.md says.
-ghost use Rattle.std.specs.Prelude.{◌≡◌, ◌≤◌, ◌<◌, ◌^◌, length};
+ghost use Rattle.std.specs.Prelude.{◌≡◌, ◌≤◌, ◌<◌, ◌^◌, ◌∷◌, [], false, None, IfSome};
 ghost use Rattle.ms_check_valid.specs.{Formed.{Formed}, Uninstrumented.{CanInstrument}, Valid.{Valid}};
 
 use crate::answers::{differs, fails};
 use ms_bits::{List, NoMemory};
 use ms_check::{CheckedModule, check};
-use ms_ir::{Form, Inst, Module, Op, Operand, Ty};
+use ms_ir::{Block, Form, Func, Inst, Module, Op, Operand, Ty};
 use ms_read_top::read;
 use ms_rules::{Emitted, Env, emit};
 use ms_rules_builder::msan_name;
@@ -134,7 +134,11 @@ fn write_op(writer: &mut Writer, op: &Op) -> Result<(), NoMemory> {
             writer.typed(&Ty::Ptr, addr)
         }
         Op::Cast {
-            op, from, a, to, ..
+            op,
+            from,
+            a,
+            to,
+            ..
         } => {
             writer.token(cast_word(*op))?;
             writer.typed(from, a)?;
@@ -237,7 +241,7 @@ fn taken(alloc: Global, widths: &[u8], next: u32) -> Option<Inserted>
     take_parameters(alloc, types.as_slice(), next).ok()
 }
 
-fn given(alloc: Global, word: &Word, next: u32) -> Option<Inserted> {
+fn returned(alloc: Global, word: &Word, next: u32) -> Option<Inserted> {
     let mask = operand(alloc, word.1).ok()?;
     let origin = operand(alloc, word.2).ok()?;
     give_result(alloc, &Ty::Int(word.0), &mask, &origin, next).ok()
@@ -252,7 +256,7 @@ fn handed(alloc: Global, hand: &Hand, next: u32) -> Option<Inserted>
             pass_arguments(alloc, all.as_slice(), next).ok()
         }
         Hand::Parameters(widths) => taken(alloc, widths, next),
-        Hand::Result(word) => given(alloc, word, next),
+        Hand::Result(word) => returned(alloc, word, next),
         Hand::ResultOf(width) => take_result(alloc, &Ty::Int(*width), next).ok(),
     }
 }
@@ -285,27 +289,28 @@ fn are_round<R: Eprint>(rt: &R, alloc: Global, emitted: &Emitted, row: &Round) -
         && (emitted.next == row.4 || differs(rt, row.0.as_bytes(), &row.4, &emitted.next))
 }
 
-/// What is inserted round the first instruction of a module's first function, which returns a constant or what is undefined
-/// from a function without parameters.
-fn emitted(alloc: Global, m: &Module, next: u32) -> Option<Emitted>
+/// What is inserted round the only instruction of a module, which has no result and returns a constant or what is undefined from a
+/// function without parameters.
+fn emitted_round(
+    alloc: Global,
+    m: &Module,
+    func: &Func,
+    block: &Block,
+    inst: &Inst,
+    next: u32,
+) -> Option<Emitted>
     requires formed { Formed m.now }
     requires valid { Valid m.now }
     requires instrumentable { CanInstrument m.now }
+    requires one_func { m.now.funcs ≡ func.now ∷ [] }
+    requires no_params { func.now.params ≡ [] }
+    requires one_block { func.now.blocks ≡ block.now ∷ [] }
+    requires one_inst { block.now.insts ≡ inst.now ∷ [] }
+    requires unmarked { inst.now.marked ≡ false }
+    requires no_result { inst.now.result ≡ None }
     requires above { 1 ≤ next }
     requires below { next < 2 ^ 31 }
 {
-    let [func] = m.funcs.as_slice() else {
-        return None;
-    };
-    let ([], [block]) = (func.params.as_slice(), func.blocks.as_slice()) else {
-        return None;
-    };
-    let [inst] = block.insts.as_slice() else {
-        return None;
-    };
-    if inst.marked || inst.result.is_some() {
-        return None;
-    }
     match &inst.op {
         Op::Ret {
             value: Some((_, Operand::Undef | Operand::Int(_))),
@@ -318,6 +323,83 @@ fn emitted(alloc: Global, m: &Module, next: u32) -> Option<Emitted>
             emit(alloc, m, 0, inst, &env, next).ok()
         }
         _ => None,
+    }
+}
+
+/// The only item of a list.
+fn only<T>(items: &[T]) -> Option<&T>
+    ensures { IfSome result (λ item. items.now ≡ item.now ∷ []) }
+{
+    match items {
+        [item] => Some(item),
+        _ => None,
+    }
+}
+
+fn has_parameters(func: &Func) -> bool
+    ensures { result ≡ false → func.now.params ≡ [] }
+{
+    match func.params.as_slice() {
+        [] => false,
+        _ => true,
+    }
+}
+
+fn emitted_in_block(
+    alloc: Global,
+    m: &Module,
+    func: &Func,
+    block: &Block,
+    next: u32,
+) -> Option<Emitted>
+    requires formed { Formed m.now }
+    requires valid { Valid m.now }
+    requires instrumentable { CanInstrument m.now }
+    requires one_func { m.now.funcs ≡ func.now ∷ [] }
+    requires no_params { func.now.params ≡ [] }
+    requires one_block { func.now.blocks ≡ block.now ∷ [] }
+    requires above { 1 ≤ next }
+    requires below { next < 2 ^ 31 }
+{
+    match only(block.insts.as_slice()) {
+        Some(inst) => {
+            if inst.marked || inst.result.is_some() {
+                return None;
+            }
+            emitted_round(alloc, m, func, block, inst, next)
+        }
+        None => None,
+    }
+}
+
+fn emitted_in(alloc: Global, m: &Module, func: &Func, next: u32) -> Option<Emitted>
+    requires formed { Formed m.now }
+    requires valid { Valid m.now }
+    requires instrumentable { CanInstrument m.now }
+    requires one_func { m.now.funcs ≡ func.now ∷ [] }
+    requires above { 1 ≤ next }
+    requires below { next < 2 ^ 31 }
+{
+    if has_parameters(func) {
+        return None;
+    }
+    match only(func.blocks.as_slice()) {
+        Some(block) => emitted_in_block(alloc, m, func, block, next),
+        None => None,
+    }
+}
+
+/// What is inserted round the only instruction of a module, if it has one.
+fn emitted(alloc: Global, m: &Module, next: u32) -> Option<Emitted>
+    requires formed { Formed m.now }
+    requires valid { Valid m.now }
+    requires instrumentable { CanInstrument m.now }
+    requires above { 1 ≤ next }
+    requires below { next < 2 ^ 31 }
+{
+    match only(m.funcs.as_slice()) {
+        Some(func) => emitted_in(alloc, m, func, next),
+        None => None,
     }
 }
 
@@ -345,8 +427,7 @@ fn is_checked<R: Eprint>(rt: &R, alloc: Global, m: Module, row: &Round) -> bool
 }
 
 #[tactic(auto, unfolding(ms_text_grammar::specs::Texts::max_bytes))]
-fn agrees<R: Eprint>(rt: &R, alloc: Global, row: &Round) -> bool {
-    let text = row.0.as_bytes();
+fn agrees<R: Eprint>(rt: &R, alloc: Global, text: &[u8], row: &Round) -> bool {
     if text.len() > 1 << 20 {
         return false;
     }
@@ -358,7 +439,7 @@ fn agrees<R: Eprint>(rt: &R, alloc: Global, row: &Round) -> bool {
 
 fn all_agree<R: Eprint>(rt: &R, alloc: Global, rows: &[Round]) -> bool {
     for (number, row) in rows.iter().enumerate() {
-        if !agrees(rt, alloc, row) {
+        if !agrees(rt, alloc, row.0.as_bytes(), row) {
             return fails(rt, "row", number);
         }
     }

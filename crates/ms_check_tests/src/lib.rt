@@ -1,5 +1,5 @@
-//! What the check returns on modules, and their layouts, sites, roots and copies. Each module is the text that stands
-//! for it; each answer was worked out by hand.
+//! What the check returns on modules, and their layouts, sites, roots and copies; and calls that take a checked module and that the
+//! program makes in another form. Each module is the text that stands for it; each answer was worked out by hand.
 #![tactic(auto)]
 
 #[cfg(test)]

@@ -1,9 +1,11 @@
 //! Where a run stands at its first call of what the module doesn't define, what its values are by name, and what a call of
 //! `printf` there prints. The values are worked out by hand from what docs/DEFINITIONS.md and docs/MANUAL.md say.
-ghost use Rattle.std.specs.Prelude.{◌<◌, length, IfOk};
+ghost use Rattle.std.specs.Prelude.{◌≡◌, ◌<◌, length, IfOk};
 ghost use Rattle.ms_ir.specs.Places.{HasSmallNumbers};
 ghost use Rattle.ms_check_valid.specs.Formed.{Formed};
-ghost use Rattle.ms_machine.specs.Standing.{RunsSomewhere};
+ghost use Rattle.ms_runs.specs.Plain.{plain_start};
+ghost use Rattle.ms_host.specs.State.{nothing_beside};
+ghost use Rattle.ms_machine.specs.{Running.{IsRunning}, Standing.{RunsSomewhere}};
 
 use crate::answers::{differs, fails};
 use ms_bits::{Bytes, NoMemory, SmallBytes, Trap};
@@ -239,23 +241,52 @@ fn setup(alloc: Global) -> Result<Setup, NoMemory>
     })
 }
 
-/// Whether the run of a module stands so at its first call of what the module doesn't define.
-fn stands<R: Eprint>(rt: &R, alloc: Global, m: &CheckedModule, setup: &Setup, row: &Stand) -> bool
-    requires { 0 < length setup.now.fill }
+/// Whether a run stands so at a call.
+fn stands<R: Eprint>(
+    rt: &R,
+    alloc: Global,
+    m: &CheckedModule,
+    fiber: &Fiber,
+    world: World,
+    call: &HostCall,
+    row: &Stand,
+) -> bool
+    requires { RunsSomewhere m.now fiber.now }
 {
-    let Ok((mut fiber, mut world)) = start(alloc, m, setup) else {
-        return false;
-    };
+    m.law_valid();
+    law_small_numbers();
+    stands_at(rt, m, fiber, row)
+        && has_words(rt, alloc, m, fiber, row.words)
+        && is_called(rt, alloc, m.module(), call, world, row)
+}
+
+/// Whether a run that starts so stands so at its first call of what the module doesn't define.
+fn goes<R: Eprint>(
+    rt: &R,
+    alloc: Global,
+    m: &CheckedModule,
+    setup: &Setup,
+    mut fiber: Fiber,
+    mut world: World,
+    row: &Stand,
+) -> bool
+    requires running { IsRunning m.now setup.now nothing_beside fiber world (plain_start m.now setup.now) }
+    requires made { world.made ≡ 0 }
+{
     let mut budget = Budget { left: 1000 };
     match advance(alloc, m, &mut fiber, &mut world, &mut budget) {
-        Ok(Pause::Asked(call)) => {
-            m.law_valid();
-            law_small_numbers();
-            stands_at(rt, m, &fiber, row)
-                && has_words(rt, alloc, m, &fiber, row.words)
-                && is_called(rt, alloc, m.module(), &call, world, row)
-        }
+        Ok(Pause::Asked(call)) => stands(rt, alloc, m, &fiber, world, &call, row),
         _ => differs(rt, row.text.as_bytes(), &"a call", &"another pause"),
+    }
+}
+
+/// Whether the run of a module stands so at its first call of what the module doesn't define.
+fn starts<R: Eprint>(rt: &R, alloc: Global, m: &CheckedModule, setup: &Setup, row: &Stand) -> bool
+    requires { 0 < length setup.now.fill }
+{
+    match start(alloc, m, setup) {
+        Ok((fiber, world)) => goes(rt, alloc, m, setup, fiber, world, row),
+        Err(_) => false,
     }
 }
 
@@ -266,14 +297,13 @@ fn is_checked<R: Eprint>(rt: &R, alloc: Global, m: Module, row: &Stand) -> bool
         return false;
     };
     match check(alloc, m) {
-        Ok(module) => stands(rt, alloc, &module, &setup, row),
+        Ok(module) => starts(rt, alloc, &module, &setup, row),
         Err(_) => differs(rt, row.text.as_bytes(), &"a valid module", &"another"),
     }
 }
 
 #[tactic(auto, unfolding(ms_text_grammar::specs::Texts::max_bytes))]
-fn agrees<R: Eprint>(rt: &R, alloc: Global, row: &Stand) -> bool {
-    let text = row.text.as_bytes();
+fn agrees<R: Eprint>(rt: &R, alloc: Global, text: &[u8], row: &Stand) -> bool {
     if text.len() > 1 << 20 {
         return false;
     }
@@ -285,7 +315,7 @@ fn agrees<R: Eprint>(rt: &R, alloc: Global, row: &Stand) -> bool {
 
 fn all_agree<R: Eprint>(rt: &R, alloc: Global, rows: &[Stand]) -> bool {
     for (number, row) in rows.iter().enumerate() {
-        if !agrees(rt, alloc, row) {
+        if !agrees(rt, alloc, row.text.as_bytes(), row) {
             return fails(rt, "row", number);
         }
     }

@@ -63,7 +63,12 @@ fn is_cut<R: Eprint>(rt: &R, alloc: Global, row: &Format) -> bool {
         Ok(found) => match pieces_of(alloc, found.pieces.as_slice()) {
             Ok(told) => {
                 told.as_slice() == row.1.as_bytes() && found.bad == row.2
-                    || differs(rt, row.0.as_bytes(), &row.1, &from_utf8(told.as_slice()).ok())
+                    || differs(
+                        rt,
+                        row.0.as_bytes(),
+                        &row.1,
+                        &from_utf8(told.as_slice()).ok(),
+                    )
             }
             Err(_) => false,
         },
@@ -87,7 +92,12 @@ fn has_line<R: Eprint>(rt: &R, alloc: Global, refusal: Refusal, line: &str) -> b
     match refusal_line(alloc, &refusal) {
         Ok(told) => {
             told.as_slice() == line.as_bytes()
-                || differs(rt, line.as_bytes(), &"this line", &from_utf8(told.as_slice()).ok())
+                || differs(
+                    rt,
+                    line.as_bytes(),
+                    &"this line",
+                    &from_utf8(told.as_slice()).ok(),
+                )
         }
         Err(_) => false,
     }

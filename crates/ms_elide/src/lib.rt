@@ -8,6 +8,7 @@ mod premises;
 mod removal;
 mod scopes;
 mod sets;
+pub mod thread_safety;
 mod users;
 mod values;
 

@@ -1,9 +1,10 @@
-//! What lines under sites do to a text.
-ghost use Rattle.std.specs.Prelude.{◌≡◌, Bool, ℕ, List, [], Option, None};
-ghost use Rattle.ms_ir.specs.declared.syntax.Module.{Module};
+//! What lines under sites and lines of calls do to a text, and which function a line names.
+ghost use Rattle.std.specs.Prelude.{◌≡◌, Bool, ℕ, List, [], Option, Some, None, false, slice_get};
+ghost use Rattle.ms_ir.specs.{declared.syntax.Func.{Func}, declared.syntax.Inst.{Inst}, declared.syntax.Module.{Module}};
+ghost use Rattle.ms_ir.specs.Instructions.{func_at, insts_at, site_at};
 ghost use Rattle.ms_runs.specs.{declared.runs.RunResult.{RunResult}, declared.runs.Calls.{Calls}};
 ghost use Rattle.ms_where_places.specs.Indented.{IsIndented, unindented};
-ghost use Rattle.ms_report.specs.{declared.refusals.Refusal.{Refusal}, RunTexts.{closing_of}};
+ghost use Rattle.ms_report.specs.{declared.refusals.Refusal.{Refusal}, RunTexts.{closing_of, function_of}};
 ghost use Rattle.ms_report.specs.{ReportTexts.{report_text_of}, RefusalTexts.{refusal_text}, TrailTexts.{trail_with}};
 ghost use Rattle.ms_report.specs.WithLines.{no_lines, reports_with, closing_text_with, refusal_text_with};
 ghost use Rattle.ms_report.specs.CallTexts.{reports_calling, closing_calling};
@@ -11,7 +12,7 @@ ghost use Rattle.ms_trail_moves.specs.{declared.moves.Source.{Source}, declared.
 
 /// Laws: where there are no lines under any site, each text with lines is the text without. Where the lines under each site
 /// begin with four blanks, the text without is what is left once the lines that begin so are taken out: nothing else is added,
-/// and nothing is lost.
+/// and nothing is lost. Where no calls are told, each text with lines of calls is the text without.
 pub fn law_lines_are_added()
     ensures none_in_reports { (m : Module) (r : RunResult) → reports_with no_lines m 1 r.reports ≡ report_text_of m r }
     ensures none_in_closings { (m : Module) (r : RunResult) (verdict : Bool) → closing_text_with no_lines m r verdict ≡ closing_of m r verdict }
@@ -24,4 +25,10 @@ pub fn law_lines_are_added()
     ensures none_in_closing_calls { (under : ℕ → List ℕ) (m : Module) (r : RunResult) (verdict : Bool) → closing_calling under m r None verdict ≡ closing_text_with under m r verdict }
     ensures taken_out_of_closing_calls { (under : ℕ → List ℕ) (m : Module) (r : RunResult) (calls : Option Calls) (verdict : Bool) → ((site : ℕ) → IsIndented (under site)) → unindented (closing_calling under m r calls verdict) ≡ closing_calling no_lines m r calls verdict }
     ensures taken_out_of_refusals { (under : ℕ → List ℕ) (cause : Refusal) → ((site : ℕ) → IsIndented (under site)) → unindented (refusal_text_with under cause) ≡ refusal_text cause }
+{}
+
+/// The function that a line names with a site is that in which the instruction with this site stands.
+pub fn law_functions_are_named()
+    ensures { (m : Module) (f b p : ℕ) (func : Func) (inst : Inst) → func_at m f ≡ Some func → slice_get (insts_at m f b) p ≡ Some inst → inst.marked ≡ false
+        → function_of m (site_at m f b p) ≡ Some func.name }
 {}

@@ -17,7 +17,7 @@ mod trails;
 mod words;
 
 pub use endings::{closing, closing_calling, closing_with};
-pub use laws::law_lines_are_added;
+pub use laws::{law_functions_are_named, law_lines_are_added};
 pub use refusals::{Refusal, refusal_line, refusal_line_with, threads_line};
 pub use reports::{report_text, report_text_calling, report_text_with};
 pub use site_lines::{NoLines, SiteLines};

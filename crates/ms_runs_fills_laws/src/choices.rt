@@ -27,8 +27,9 @@ pub fn clean_under_choices()
     ensures instrumented { (m : Module) → Formed m → Valid m → is_threaded m ≡ false → NoMarks m → (j : Module) → Faithful m j → (setup : Setup) → Fair setup → HoldsUnderChoices m setup (plain j setup) }
 {}
 
-/// Both hold too where uninitialised memory changes: before each step memory may hold any bytes that are those of the shadow run
-/// outside its shadow, so that each load of an uninitialised byte may give another value, and each step has a fill of its own.
+/// Both hold too where uninitialised memory and words change: before each step memory may hold any bytes that are those of the
+/// shadow run outside its shadow, and the frames any words that are those of the shadow run outside their masks, so that each use of
+/// an uninitialised byte or word may find another value; and each step has a fill of its own.
 pub fn memory_may_change()
     ensures certain { (m : Module) → Formed m → Valid m → is_threaded m ≡ false → NoMarks m → (setup : Setup) → GivesBytes setup → (n : ℕ) (z : Stepped PlainState)
         → UntoldSteps (steps (shadow_step by_completions (setting_of m setup) m) n (shadow_start m setup))

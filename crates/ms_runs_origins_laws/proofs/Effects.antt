@@ -1,5 +1,5 @@
 -- What instructions leave of worlds in which origins lead back.
-use Rattle.std.proofs.Common.{◌≡◌, ℕ, ◌+◌, ◌-◌, ◌*◌, ◌%◌, ◌^◌, ◌<◌, ◌≤◌, min, List, [], ◌∷◌, ◌++◌, map, length, Bool, true, false, ◌&&◌, eqb, leb, ltb, Option, Some, None, unwrap_or, is_some, slice_get, true≢false, Result, Ok, Err, refl, sym, ap, subst, arith, add-one, if◌then◌else◌}
+use Rattle.std.proofs.Common.{◌≡◌, ◌⊎◌, inl, inr, ℕ, ◌+◌, ◌-◌, ◌*◌, ◌%◌, ◌^◌, ◌<◌, ◌≤◌, min, List, [], ◌∷◌, ◌++◌, map, length, Bool, true, false, not, ◌&&◌, eqb, leb, ltb, Option, Some, None, unwrap_or, is_some, slice_get, true≢false, Result, Ok, Err, refl, sym, ap, subst, arith, add-one, if◌then◌else◌}
 use Rattle.std.proofs.lemmas.Bool.{and_parts, ne_eqb, le-leb}
 use Rattle.ms_bits.specs.declared.traps.Trap.{Trap}
 use Rattle.ms_bits.specs.declared.traps.Trap.TheVariants as trap
@@ -17,9 +17,9 @@ use Rattle.ms_ir.specs.Areas.{Heap, area_base, room}
 use Rattle.ms_runs.specs.World.{World, Setting, Here, Effect, Gives, Does, Goes, Enters, Leaves, Ends, traps, stuck, word, gives}
 use Rattle.ms_runs.specs.Memory.{used, fits, next_base, local_area, is_good, heap_size, store_number, set_shadow, set_cells, copy_bytes, copy_shadow, make_unset}
 use Rattle.ms_ir.specs.Instructions.{external_named, is_root, makes_unset}
-use Rattle.ms_runs.specs.Externals.{malloc, reallocated, realloc, where_good, string_at, output_limit, printed, next_byte, external, formatted, prints}
+use Rattle.ms_runs.specs.Externals.{malloc, reallocated, realloc, where_good, string_at, output_limit, printed, next_byte, external, formatted, prints, joined, join}
 use Rattle.ms_runs.specs.Act.{act, alloca, store}
-use Rattle.ms_runs.specs.Origins.{trail_within, poison, unpoison, copy_planes, store_origin}
+use Rattle.ms_runs.specs.Origins.{trail_within, poison, unpoison, copy_planes, store_origin, thread_result}
 use Rattle.ms_runs.specs.Poisoned.{Poisoned}
 use Rattle.ms_runs.specs.Masks.{word_at}
 use Rattle.ms_runs.specs.Shadow.{external_planes, callee_planes, planes}
@@ -29,7 +29,7 @@ use Rattle.ms_runs_good_laws.proofs.Readings.{word_number}
 use Rattle.ms_ir.specs.Written.{targets}
 use Rattle.ms_runs_origins_laws.proofs.Trails.{inside, next_block}
 use Rattle.ms_runs_origins_laws.proofs.Worlds.{Back, Backed, NoneFree, poisoned, unpoisoned, planes_copied, copied_back, made_heap, made_room, ended_back, stored, store_grows, filled, fill_grows}
-use Rattle.ms_runs.specs.Threads.{fiber_limit, thread_at, has_ended, join_answer}
+use Rattle.ms_runs.specs.Threads.{fiber_limit, thread_at, has_ended, with_joined, join_answer}
 use Rattle.ms_runs_good_laws.proofs.ThreadsApart.{NoThread, CallsNoThread}
 
 -- ---- words
@@ -59,9 +59,22 @@ abbrev pub SmallStore : Op → Type 0
 SmallStore (op.Store t v a) = stored_size t ≤ 8
 SmallStore o = Unit {0}
 
+-- an external is a join
+abbrev pub is_join : External → Bool
+is_join PthreadJoin = true
+is_join e = false
+
 -- ---- worlds after an instruction, before its shadow is set
 
 module _ (site root told : ℕ → Type 0) (s : Setting) where
+  -- what fibers answered has origins that lead back
+  abbrev pub AnswersBack : World → Type 0
+  AnswersBack w = (k : ℕ) → ¬ (w.answer_masks k ≡ 0) → Back site root s.roots w.pairs (w.answer_origins k)
+
+  -- an operation is no thread call, or what fibers answered leads back
+  abbrev pub Quiet : (Name → Option ℕ) → Op → World → Type 0
+  Quiet func o w = CallsNoThread func o ⊎ AnswersBack w
+
   -- a world in which all origins lead back
   abbrev pub Good : World → Type 0
   Good w = Backed site root told s.roots NoneFree w
@@ -221,8 +234,35 @@ module _ (site root told : ℕ → Type 0) (s : Setting) where
       by_test false = refl
 
   module _ (at own : ℕ) (here : site at) (ps : List Poisoned) where
+    -- what a join stores where the word goes that the fiber answered
+    result_grown : (a id v : ℕ) (w : World) → AnswersBack w → Grown w (thread_result s a id v at w)
+    result_grown a id v w back = by_test (eqb v 0 && not (eqb a 0) && is_good w a 8 && has_ended (thread_at id w.threads)) refl
+      where
+        by_test : (t : Bool) → (eqb v 0 && not (eqb a 0) && is_good w a 8 && has_ended (thread_at id w.threads)) ≡ t
+            → Grown w (if t then store_origin s a (w.answer_masks id) (w.answer_origins id) at (set_shadow a 8 (byte_of (w.answer_masks id)) w) else w)
+        by_test true e =
+            let good = and_parts (eqb v 0 && not (eqb a 0)) (is_good w a 8) (and_parts (eqb v 0 && not (eqb a 0) && is_good w a 8) (has_ended (thread_at id w.threads)) e).0 in (
+              store_grows site root told s a (w.answer_masks id) (w.answer_origins id) at (set_shadow a 8 (byte_of (w.answer_masks id)) w),
+              λ b. stored site root told s a 8 (w.answer_masks id) (w.answer_origins id) at w good.1 (omega arith) here (back id) b,
+            )
+        by_test false e = grown_itself w
+
+    either_grown : (jumps : Type 0) (w : World) (after : ℕ → World → World) (t : Bool) (e x : Effect) → GrownAfter jumps w after e → GrownAfter jumps w after x → GrownAfter jumps w after (if t then e else x)
+    either_grown jumps w after true e x h g = h
+    either_grown jumps w after false e x h g = g
+
+    join_grown : (jumps : Type 0) (id r : ℕ) (w : World) (a k : ℕ) → AnswersBack w → GrownAfter jumps w (λ v u. thread_result s a k v at u) (join at id r w)
+    join_grown jumps id r w a k back =
+        let after : ℕ → World → World = λ v u. thread_result s a k v at u in
+        either_grown jumps w after (eqb (join_answer w.turn id w.threads) 0) _ (Gives (join_answer w.turn id w.threads) w)
+        (either_grown jumps w after (has_ended (thread_at id w.threads)) (joined at id r w) (traps trap.Deadlock at w)
+        (either_grown jumps w after (eqb r 0) (Gives 0 (with_joined id w)) _ (result_grown a k 0 (with_joined id w) back)
+        (either_grown jumps w after (is_good w r 8) (Gives 0 (store_number r 8 (w.answers id) (with_joined id w))) (traps trap.BadAddress at w)
+        (result_grown a k 0 (store_number r 8 (w.answers id) (with_joined id w)) back) refl)) refl)
+        (result_grown a k (join_answer w.turn id w.threads) w back)
+
     external_grown : (e : External) (before : World) (v : ℕ) (w : World) → (makes_unset (Some e) ≡ true → (pairs : List (ℕ × ℕ)) → Back site root s.roots pairs own)
-        → WordsBack site root s.roots w.pairs ps → NoThread (Some e) → Grown w (external_planes s at own e ps before v w)
+        → WordsBack site root s.roots w.pairs ps → is_join e ≡ false → Grown w (external_planes s at own e ps before v w)
     external_grown Malloc before v w is words plain = poison_grown v 0 (word_at 0 ps).value own w (is refl)
     external_grown Realloc before v w is words plain = poison_grown v (unwrap_or (heap_size before (word_at 0 ps).value) 0) (word_at 1 ps).value own w (is refl)
     external_grown Memcpy before v w is words plain = copy_grown (word_at 0 ps).value (word_at 1 ps).value (word_at 2 ps).value w
@@ -239,20 +279,23 @@ module _ (site root told : ℕ → Type 0) (s : Setting) where
       filled site root told s (word_at 0 ps).value (word_at 2 ps).value (word_at 1 ps).mask (word_at 1 ps).origin at w here (words 1),
     )
     external_grown LifetimeStart before v w is words plain = poison_grown (word_at 1 ps).value 0 (word_at 0 ps).value own w (is refl)
-    external_grown PthreadCreate before v w is words plain = absurd (true≢false plain)
+    external_grown PthreadCreate before v w is words plain = unpoison_grown (word_at 0 ps).value (if eqb v 0 then 8 else 0) w
     external_grown PthreadJoin before v w is words plain = absurd (true≢false plain)
     external_grown e before v w is words plain = grown_itself w
 
     -- ---- instructions
 
     module _ (jumps : Type 0) where
-      call_grown : (h : Here) (types : List Ty) (f : Option ℕ) (e : Option External) (w : World) → (makes_unset e ≡ true → (pairs : List (ℕ × ℕ)) → Back site root s.roots pairs own) → WordsBack site root s.roots w.pairs ps → NoThread e
+      call_grown : (h : Here) (types : List Ty) (f : Option ℕ) (e : Option External) (w : World) → (makes_unset e ≡ true → (pairs : List (ℕ × ℕ)) → Back site root s.roots pairs own) → WordsBack site root s.roots w.pairs ps → NoThread e ⊎ AnswersBack w
           → GrownAfter jumps w (λ v u. callee_planes s at own e ps w v u) (elim f [ Some g ↦ Enters g w | None ↦ elim e [ Some x ↦ external s at x types (map (λ p. p.value) ps) w | None ↦ Ends stuck w ] ])
       call_grown h types (Some g) e w is words plain = refl
       call_grown h types None None w is words plain = refl
+      call_grown h types None (Some PthreadJoin) w is words (inl plain) = absurd (true≢false plain)
+      call_grown h types None (Some PthreadJoin) w is words (inr back) =
+          join_grown jumps (word 0 (map (λ p. p.value) ps)) (word 1 (map (λ p. p.value) ps)) w (word_at 1 ps).value (word_at 0 ps).value back
       call_grown h types None (Some x) w is words plain =
           then_grown jumps w (λ v u. external_planes s at own x ps w v u) (external s at x types (map (λ p. p.value) ps) w) (external_kept at x types (map (λ p. p.value) ps) w)
-          (λ v u e. external_grown x w v u is (subst (λ pairs. WordsBack site root s.roots pairs ps) (sym e) words) plain)
+          (λ v u e. external_grown x w v u is (subst (λ pairs. WordsBack site root s.roots pairs ps) (sym e) words) refl)
 
       gives_grown : (r : Result ℕ Trap) (w : World) → GrownAfter jumps w (λ v u. u) (gives at r w)
       gives_grown (Ok v) w = grown_itself w
@@ -290,7 +333,7 @@ module _ (site root told : ℕ → Type 0) (s : Setting) where
     some_name x xs e = grind arith
 
     -- an instruction, with its shadow
-    pub op_grown : (h : Here) → (o : Op) → SmallStore o → (is_root s.func o ≡ true → (pairs : List (ℕ × ℕ)) → Back site root s.roots pairs own) → (w : World) → WordsBack site root s.roots w.pairs ps → CallsNoThread s.func o
+    pub op_grown : (h : Here) → (o : Op) → SmallStore o → (is_root s.func o ≡ true → (pairs : List (ℕ × ℕ)) → Back site root s.roots pairs own) → (w : World) → WordsBack site root s.roots w.pairs ps → Quiet s.func o w
         → GrownAfter (¬ (targets o ≡ [])) w (λ v u. planes s at own o ps w v u) (act s (record h { site = at }) o (map (λ p. p.value) ps) w)
     op_grown h (op.Binary o f t a b) small is w words plain = gives_grown (¬ (targets (op.Binary o f t a b) ≡ [])) _ w
     op_grown h (op.Icmp p f t a b) small is w words plain = gives_grown (¬ (targets (op.Icmp p f t a b) ≡ [])) _ w

@@ -1,11 +1,12 @@
 -- In every state of a shadow run, and at its end, poisoned bits come from what the run has reached.
 use Rattle.std.proofs.Common.{◌≡◌, inl, inr, ⊎_elim, ℕ, suc, List, [], ◌∷◌, Some, refl, sym, subst, arith, false}
 use Rattle.ms_ir.specs.ThreadCalls.{is_threaded}
+use Rattle.ms_ir.specs.declared.syntax.Inst.{Inst}
 use Rattle.ms_ir.specs.declared.syntax.Module.{Module}
 use Rattle.ms_runs.specs.declared.runs.Setup.{Setup}
 use Rattle.ms_runs.specs.World.{World}
 use Rattle.ms_ir.specs.Instructions.{count_roots, NoMarks}
-use Rattle.ms_runs.specs.Control.{Frame, Outcome, On, Over}
+use Rattle.ms_runs.specs.Control.{Frame, Outcome, On, Over, rest_of}
 use Rattle.ms_runs.specs.Plain.{Stepped, More, Stop, setting_of}
 use Rattle.ms_runs.specs.Poisoned.{Poisoned}
 use Rattle.ms_runs.specs.Masks.{Rules, by_completions}
@@ -14,16 +15,23 @@ use Rattle.ms_check_valid.specs.Formed.{Formed}
 use Rattle.ms_check_valid.specs.Valid.{Valid}
 use Rattle.ms_runs_good_laws.specs.Reached.{Walk, walk_start, walked, Due, IsOperand, Reaches, AsOperand, AsItself, AsEdge, AnyStep, IsReached, HasRun, HasReachedOrigins, ShowsTrails, IsTold, ended, FromReached}
 use Rattle.ms_runs_good_laws.specs.GoodRules.{KeepWidths}
+use Rattle.ms_runs_good_laws.specs.GoodStates.{PoisonedBelow, GoodFrames}
 use Rattle.ms_runs_good_laws.specs.GoodWorlds.{GivesBytes}
 use Rattle.ms_runs_good_laws.specs.GoodRuns.{SoundShadow}
+use Rattle.ms_runs_good_laws.proofs.Frames.{top_good, due_first}
 use Rattle.ms_runs_good_laws.proofs.MaskRanges.{completions_keep}
+use Rattle.ms_runs_good_laws.proofs.ThreadsApart.{no_thread_called}
 use Rattle.ms_runs_good_laws.proofs.Walks.{walks_keep, walks_sound}
 use Rattle.ms_runs_clean_laws.specs.KeepClean.{KeepClean}
 use Rattle.ms_runs_clean_laws.proofs.CleanRules.{completions_clean}
 use Rattle.ms_runs_origins_laws.proofs.Worlds.{Back, Backed, NoneFree}
 use Rattle.ms_runs_origins_laws.proofs.Frames.{FramesHold, each_holds}
-use Rattle.ms_runs_origins_laws.proofs.Steps.{backed_weaker, frames_back, Leads, RunsNow, ReachesNow, ReachesNext, MovedLeads, frames_lead}
+use Rattle.ms_runs_origins_laws.proofs.Steps.{backed_weaker, frames_back, Leads, RunsNow, ReachesNow, ReachesNext, MovedLeads, CalmFirst, CalmTop, frames_lead}
 use Rattle.ms_runs_origins_laws.proofs.Starting.{start_backed}
+
+-- what every state of a run has
+abbrev WalkLeads : Module → Walk → (told : ℕ → Type 0) → Type 0
+WalkLeads m walk told = Leads m walk.state (HasRun m walk) (IsReached m walk) told
 
 -- ---- one step more
 
@@ -32,16 +40,23 @@ abbrev next_walk : Walk → List (Frame Poisoned) → World → Walk
 next_walk walk fs u = record { state = record { frames = fs; world = u }; passed = walk.state ∷ walk.passed }
 
 module _ (m : Module) (walk : Walk) (fs : List (Frame Poisoned)) (u : World) where
-  runs_later : (at : ℕ) → RunsNow m walk at → HasRun m (next_walk walk fs u) at
+  -- which sites have run, and which roots are reached
+  abbrev Runs : ℕ → Type 0
+  Runs at = HasRun m walk at
+
+  abbrev Reached : ℕ → Type 0
+  Reached id = IsReached m walk id
+
+  runs_later : (at : ℕ) → RunsNow m walk.state Runs at → HasRun m (next_walk walk fs u) at
   runs_later at (inl h) = (0, walk.state, omega arith, refl, h)
   runs_later at (inr h) = (suc h.0, h.1, omega (arith, h.2), h.3, h.4)
 
-  now_later : (id : ℕ) → ReachesNow m walk id → IsReached m (next_walk walk fs u) id
+  now_later : (id : ℕ) → ReachesNow m walk.state Reached id → IsReached m (next_walk walk fs u) id
   now_later id (inl (inl h)) = inl (AsOperand h)
   now_later id (inl (inr h)) = inl (AsItself h)
   now_later id (inr h) = inr h
 
-  next_later : (id : ℕ) → ReachesNext m walk fs u id → IsReached m (next_walk walk fs u) id
+  next_later : (id : ℕ) → ReachesNext m walk.state Reached fs u id → IsReached m (next_walk walk fs u) id
   next_later id (inl h) = now_later id h
   next_later id (inr h) = inl (AsEdge h)
 
@@ -49,10 +64,10 @@ module _ (m : Module) (walk : Walk) (fs : List (Frame Poisoned)) (u : World) whe
   told_later id (inl h) = inr h
   told_later id (inr h) = inl (AsOperand h)
 
-  leads_later : MovedLeads m walk (On fs u) → Leads m (next_walk walk fs u) (IsReached m (next_walk walk fs u))
+  leads_later : MovedLeads m walk.state Runs Reached (On fs u) → WalkLeads m (next_walk walk fs u) (IsReached m (next_walk walk fs u))
   leads_later h = record {
-    frames = frames_back (RunsNow m walk) (ReachesNext m walk fs u) (HasRun m (next_walk walk fs u)) (IsReached m (next_walk walk fs u)) runs_later next_later (count_roots m) u.pairs fs h.0;
-    world = backed_weaker (RunsNow m walk) (ReachesNow m walk) (IsTold m walk) (HasRun m (next_walk walk fs u)) (IsReached m (next_walk walk fs u)) (IsReached m (next_walk walk fs u)) runs_later now_later told_later (count_roots m) u h.1;
+    frames = frames_back (RunsNow m walk.state Runs) (ReachesNext m walk.state Reached fs u) (HasRun m (next_walk walk fs u)) (IsReached m (next_walk walk fs u)) runs_later next_later (count_roots m) u.pairs fs h.0;
+    world = backed_weaker (RunsNow m walk.state Runs) (ReachesNow m walk.state Reached) (IsTold m walk) (HasRun m (next_walk walk fs u)) (IsReached m (next_walk walk fs u)) (IsReached m (next_walk walk fs u)) runs_later now_later told_later (count_roots m) u h.1;
   }
 
 -- ---- the end
@@ -97,7 +112,7 @@ module _ (m : Module) (walk : Walk) (world : World) where
   told_still id (inl h) = inl (reached_still id h)
   told_still id (inr h) = inr (operand_still id h)
 
-  leads_still : Leads m walk (IsTold m walk) → (world.pairs ≡ walk.state.world.pairs) × Backed (HasRun m walk) (IsReached m walk) (IsTold m walk) (count_roots m) NoneFree world → Leads m (ended walk world) (IsTold m (ended walk world))
+  leads_still : WalkLeads m walk (IsTold m walk) → (world.pairs ≡ walk.state.world.pairs) × Backed (HasRun m walk) (IsReached m walk) (IsTold m walk) (count_roots m) NoneFree world → WalkLeads m (ended walk world) (IsTold m (ended walk world))
   leads_still leads h = record {
     frames = subst (λ ps. FramesHold (Back (HasRun m walk) (IsReached m (ended walk world)) (count_roots m) ps) walk.state.frames) (sym h.0)
         (frames_back (HasRun m walk) (IsReached m walk) (HasRun m walk) (IsReached m (ended walk world)) (λ k e. e) reached_still (count_roots m) walk.state.world.pairs walk.state.frames leads.frames);
@@ -107,7 +122,7 @@ module _ (m : Module) (walk : Walk) (world : World) where
 -- ---- runs
 
 -- what every state of a run has is what is promised
-shown : (m : Module) (setup : Setup) (walk : Walk) (told : ℕ → Type 0) → Leads m walk told → HasReachedOrigins m setup walk × ShowsTrails m setup walk told
+shown : (m : Module) (setup : Setup) (walk : Walk) (told : ℕ → Type 0) → WalkLeads m walk told → HasReachedOrigins m setup walk × ShowsTrails m setup walk told
 shown m setup walk told leads = (
   record {
     words = λ frame within x ne. each_holds (Back (HasRun m walk) (IsReached m walk) (count_roots m) walk.state.world.pairs) walk.state.frames leads.frames frame within x ne;
@@ -118,32 +133,44 @@ shown m setup walk told leads = (
 
 -- origins lead back after a step
 abbrev SteppedLeads : Module → Walk → Stepped ShadowState → Type 0
-SteppedLeads m walk (More next) = Leads m (next_walk walk next.frames next.world) (IsReached m (next_walk walk next.frames next.world))
-SteppedLeads m walk (Stop e world) = Leads m (ended walk world) (IsTold m (ended walk world))
+SteppedLeads m walk (More next) = WalkLeads m (next_walk walk next.frames next.world) (IsReached m (next_walk walk next.frames next.world))
+SteppedLeads m walk (Stop e world) = WalkLeads m (ended walk world) (IsTold m (ended walk world))
 
 -- in a step an undefined operand of the instruction that is due counts as reached
-telling : (m : Module) (walk : Walk) → Leads m walk (IsReached m walk) → Leads m walk (IsTold m walk)
+telling : (m : Module) (walk : Walk) → WalkLeads m walk (IsReached m walk) → WalkLeads m walk (IsTold m walk)
 telling m walk leads = record {
   frames = leads.frames;
   world = backed_weaker (HasRun m walk) (IsReached m walk) (IsReached m walk) (HasRun m walk) (IsReached m walk) (IsTold m walk) (λ k e. e) (λ k e. e) (λ k e. inl e) (count_roots m) walk.state.world leads.world;
 }
 
 module _ (d : Rules) (keep : KeepClean d) (widths : KeepWidths d) (m : Module) (formed : Formed m) (valid : Valid m) (calm : is_threaded m ≡ false) (bare : NoMarks m) (setup : Setup) (bytes : GivesBytes setup) where
-  step_leads : (walk : Walk) → SoundShadow m walk.state → Leads m walk (IsReached m walk) → SteppedLeads m walk (shadow_step d (setting_of m setup) m walk.state)
-  step_leads walk sound leads = by_moved (shadow_frames d (setting_of m setup) m walk.state.frames walk.state.world) (frames_lead m formed valid calm bare setup d keep walk walk.state.frames refl sound.frames (telling m walk leads) sound.world.shadow leads.frames)
+  -- nothing that is due is a thread call
+  calm_top : (walk : Walk) (fs : List (Frame Poisoned)) → GoodFrames PoisonedBelow m fs → CalmTop m formed valid bare setup d keep walk.state (HasRun m walk) (IsReached m walk) fs
+  calm_top walk [] good = tt
+  calm_top walk (frame ∷ below) good = by_list (rest_of m frame) refl
     where
-      by_moved : (moved : Outcome Poisoned) → MovedLeads m walk moved → SteppedLeads m walk (shadow_moved moved)
+      by_list : (l : List Inst) → rest_of m frame ≡ l → CalmFirst m formed valid bare setup d keep walk.state (HasRun m walk) (IsReached m walk) l
+      by_list [] e = tt
+      by_list (i ∷ is) e =
+          let top = top_good PoisonedBelow m frame below good in
+          no_thread_called m calm frame.func frame.block frame.place top.func i top.stands (due_first PoisonedBelow m frame top i is e)
+
+  step_leads : (walk : Walk) → SoundShadow m walk.state → WalkLeads m walk (IsReached m walk) → SteppedLeads m walk (shadow_step d (setting_of m setup) m walk.state)
+  step_leads walk sound leads = by_moved (shadow_frames d (setting_of m setup) m walk.state.frames walk.state.world) (frames_lead m formed valid bare setup d keep walk.state (HasRun m walk) (IsReached m walk) walk.state.frames refl sound.frames (telling m walk leads) sound.world.shadow leads.frames
+      (calm_top walk walk.state.frames sound.frames))
+    where
+      by_moved : (moved : Outcome Poisoned) → MovedLeads m walk.state (HasRun m walk) (IsReached m walk) moved → SteppedLeads m walk (shadow_moved moved)
       by_moved (On fs u) h = leads_later m walk fs u h
       by_moved (Over e u) h = leads_still m walk u (telling m walk leads) h
 
-  start_leads : Leads m (walk_start m setup) (IsReached m (walk_start m setup))
+  start_leads : WalkLeads m (walk_start m setup) (IsReached m (walk_start m setup))
   start_leads = record {
     frames = ((λ x ne. absurd (ne refl)), tt);
     world = start_backed (HasRun m (walk_start m setup)) (IsReached m (walk_start m setup)) (IsReached m (walk_start m setup)) (count_roots m) m valid setup;
   }
 
-  walks_lead : (n : ℕ) (walk : Walk) → walked d m setup n ≡ Some walk → Leads m walk (IsReached m walk)
-  walks_lead = walks_keep d m setup (λ walk. Leads m walk (IsReached m walk)) start_leads
+  walks_lead : (n : ℕ) (walk : Walk) → walked d m setup n ≡ Some walk → WalkLeads m walk (IsReached m walk)
+  walks_lead = walks_keep d m setup (λ walk. WalkLeads m walk (IsReached m walk)) start_leads
       (λ n walk next at h is. subst (SteppedLeads m walk) is (step_leads walk (walks_sound d widths m formed valid setup bytes n walk at) h))
 
   -- poisoned bits come from what a run has reached, by any rules that poison nothing of their own

@@ -29,13 +29,13 @@ use Rattle.ms_runs_fills_laws.proofs.Runs.{KeptOutcome, GrownOutcome, after_grow
 use Rattle.ms_runs_fills_laws.proofs.FirstReport.{Found, CheckedFirst, effect_world, first_only, uses_first, read_free, act_same, outcome_world, MovedFirst, frames_first}
 
 -- a run has ended with one report, which is the first of a world that counts no fewer blind uses
-record Reports (w v : World) : Type 0 where
-  report : Report
-  alone : w.reports ≡ report ∷ []
-  leads : FirstIs report v
-  more : w.blind ≤ v.blind
+pub record Reports (w v : World) : Type 0 where
+  pub report : Report
+  pub alone : w.reports ≡ report ∷ []
+  pub leads : FirstIs report v
+  pub more : w.blind ≤ v.blind
 
-abbrev Before : End → World → World → Type 0
+abbrev pub Before : End → World → World → Type 0
 Before e w v = (e ≡ «end».Reported) × Reports w v
 
 reports_of : (w u z : World) → Found w u z → Reports u z
@@ -51,7 +51,7 @@ module _ (s : Setting) (m : Module) where
   abbrev right : Meaning (List (Frame Poisoned)) World
   right = shadow_fiber by_formulas s m
 
-  abbrev relation : Relation (shadow_fiber by_formulas (first_only s) m) (shadow_fiber by_formulas s m)
+  abbrev pub relation : Relation (shadow_fiber by_formulas (first_only s) m) (shadow_fiber by_formulas s m)
   relation = record {
     Go = λ f w g v. (f ≡ g) × (w ≡ v) × (w.reports ≡ []);
     At = λ f g. f ≡ g;
@@ -188,7 +188,7 @@ module _ (s : Setting) (m : Module) where
   from_same : (P : List (Frame Poisoned) → World → Type 0) (f g : List (Frame Poisoned)) (w v : World) → f ≡ g → w ≡ v → P f w → P g v
   from_same P f g w v e d h = subst (λ x. P x v) e (subst (P f) d h)
 
-  laws : Laws left right relation
+  pub laws : Laws left right relation
   laws = record {
     due = λ f w g v h. due_free f ∙ ap (frames_due s m) h.0;
     turn = λ f w g v h. ap (λ (u : World). u.turn) h.1;
@@ -258,7 +258,7 @@ module _ (s : Setting) (m : Module) where
   ended_later e w g v h =
       (h.0, further w v (with_answer (shadow_answer s m g v) (frames_left g v)) (omega (arith, left_blind g v)) (λ r k. (k.0, left_reports g v ∙ k.1)) h.1)
 
-  late : LateLaws left right relation
+  pub late : LateLaws left right relation
   late = record {
     step = λ e w g v h. later_moved e w v h (shadow_frames by_formulas s m g v) (frames_grown s m g v);
     reach = reach_later;
@@ -273,7 +273,7 @@ module _ (s : Setting) (m : Module) where
   none_counted world (More a) = omega arith
   none_counted world (Stop e w) = omega arith
 
-  counts : Counts left right relation
+  pub counts : Counts left right relation
   counts = record {
     step = λ f w. none_counted (of_going left right relation) (left.step f w);
     reach = λ f w. none_counted (of_going left right relation) (left.reach f w);

@@ -34,7 +34,7 @@ same_perform {d} {e} same s m (f ∷ below) w = by_list (rest_of m f)
     by_list [] = refl
     by_list (i ∷ is) = ap shadow_moved (same_after same s m i (here s m f) f below (Does w))
 
-same_fiber : {d e : Rules} → SameRules d e → (s : Setting) (m : Module) → shadow_fiber d s m ≡ shadow_fiber e s m
+pub same_fiber : {d e : Rules} → SameRules d e → (s : Setting) (m : Module) → shadow_fiber d s m ≡ shadow_fiber e s m
 same_fiber {d} {e} same s m = λ i. record (shadow_fiber d s m) {
   step = λ f w. shadow_going (same_step same s m (shadow_state f w) i);
   perform = λ f w. shadow_going (same_perform same s m f w i);

@@ -100,7 +100,7 @@ module _ (types : Types) (address : Name → ℕ) where
         let at = a + (if packed then so_far.size else round_up so_far.size (align_in types t)) in
         fields_fibers rest packed a (place_field packed so_far (extent (size_in types t) (align_in types t))) (write_init types address at t i w) ∙ init_fibers i t at w
 
-  globals_fibers : (gs : List GlobalVar) (w : World) → fibers_of (make_globals types address gs w) ≡ fibers_of w
+  pub globals_fibers : (gs : List GlobalVar) (w : World) → fibers_of (make_globals types address gs w) ≡ fibers_of w
   globals_fibers [] w = refl
   globals_fibers (g ∷ rest) w =
       by_name (is_reserved g.name) _ _ (globals_fibers rest w)

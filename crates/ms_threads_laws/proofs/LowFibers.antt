@@ -122,24 +122,24 @@ module _ (m : Module) (formed : Formed m) (valid : Valid m) (can : CanInstrument
   kept_too = run_kept m formed valid (refilled setup fill) bytes_too (numbering m) (module_known m formed valid can (refilled setup fill)) none_clean
 
   -- the frames of a fiber, and what all fibers share
-  abbrev GoodFiber : List (Frame Poisoned) → Type 0
+  abbrev pub GoodFiber : List (Frame Poisoned) → Type 0
   GoodFiber fs = GoodFrames PoisonedBelow m fs × ((x : Frame Poisoned) → Contains fs x → HasCleanValues m x)
 
-  abbrev GoodShared : World → Type 0
+  abbrev pub GoodShared : World → Type 0
   GoodShared w = (GoodWorld AnyOrigin w × AllStart m w.threads) × HeapPlaced w
 
   fit : (w : World) → GoodShared w → FitWorld w
   fit w g = record { bytes = g.0.0.bytes; shadow = g.0.0.shadow; sizes = g.0.0.sizes; placed = g.1 }
 
   -- a fiber stands at a thread call, whose checks passed
-  record Stands (f : Frame Poisoned) : Type 0 where
-    inst : Inst
-    after : List Inst
-    rest : rest_of m f ≡ inst ∷ after
-    call : ThreadCall (func_index m.funcs) inst.op
-    words : CallClean (func_index m.funcs) inst.op (words_at (setting_of m setup) f.values (here (setting_of m setup) m f) inst)
+  pub record Stands (f : Frame Poisoned) : Type 0 where
+    pub inst : Inst
+    pub after : List Inst
+    pub rest : rest_of m f ≡ inst ∷ after
+    pub call : ThreadCall (func_index m.funcs) inst.op
+    pub words : CallClean (func_index m.funcs) inst.op (words_at (setting_of m setup) f.values (here (setting_of m setup) m f) inst)
 
-  abbrev AllStand : List (Frame Poisoned) → Type 0
+  abbrev pub AllStand : List (Frame Poisoned) → Type 0
   AllStand [] = ⊥
   AllStand (f ∷ fs) = Stands f
 
@@ -149,7 +149,7 @@ module _ (m : Module) (formed : Formed m) (valid : Valid m) (can : CanInstrument
   abbrev right : Meaning (List (Frame Poisoned)) World
   right = shadow_fiber by_formulas (refill (setting_of m setup) fill) m
 
-  abbrev relation : Relation (shadow_fiber by_formulas (setting_of m setup) m) (shadow_fiber by_formulas (refill (setting_of m setup) fill) m)
+  abbrev pub relation : Relation (shadow_fiber by_formulas (setting_of m setup) m) (shadow_fiber by_formulas (refill (setting_of m setup) fill) m)
   relation = record {
     Go = λ f w g v. LowFrames f g × LowWorld w v × GoodFiber f × GoodFiber g × GoodShared w × GoodShared v;
     At = λ f g. LowFrames f g × AllStand f × GoodFiber f × GoodFiber g;
@@ -491,7 +491,7 @@ module _ (m : Module) (formed : Formed m) (valid : Valid m) (can : CanInstrument
       (call_words f fs gs h.0.1 u k i st.after st.rest) i.op st.call st.words
       ∙ sym (ap (λ l. inst_joins (func_index m.funcs) l (map (λ p. p.value) (words_due shadow_reading (refill (setting_of m setup) fill) m (revalued f u) l))) is_due)) g h.0.0
 
-  laws : Laws left right relation
+  pub laws : Laws left right relation
   laws = record {
     due = λ f w g v h. due_low f g h.0;
     turn = λ f w g v h. h.1.turn;
@@ -509,7 +509,7 @@ module _ (m : Module) (formed : Formed m) (valid : Valid m) (can : CanInstrument
     spent = λ f w g v h. (refl, h.1);
   }
 
-  late : LateLaws left right relation
+  pub late : LateLaws left right relation
   late = record {
     step = λ e w g v h. absurd h;
     reach = λ e w g v h. absurd h;
@@ -569,7 +569,7 @@ module _ (m : Module) (formed : Formed m) (valid : Valid m) (can : CanInstrument
   left_counted [] w = refl
   left_counted (f ∷ fs) w = (given_back_kept f w).blind
 
-  counts : Counts left right relation
+  pub counts : Counts left right relation
   counts = record {
     step = λ f w.
         let x = shadow_step by_formulas (setting_of m setup) m (shadow_state f w) in
@@ -583,7 +583,7 @@ module _ (m : Module) (formed : Formed m) (valid : Valid m) (can : CanInstrument
 
   -- ---- the run
 
-  start_shared : GoodShared (start_world m setup)
+  pub start_shared : GoodShared (start_world m setup)
   start_shared = (
     ((shadow_sound m formed valid setup bytes).world, start_begun m formed valid setup bytes (numbering m) (module_known m formed valid can setup) none_clean),
     (globals_kept m.types (address_of m) m.globals _).placed (λ k d l. absurd (omega (arith, l))),

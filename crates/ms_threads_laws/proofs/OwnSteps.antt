@@ -173,7 +173,7 @@ calm_external : (s : Setting) (site : ℕ) (o : Option External) (ts : List Ty) 
 calm_external s site None ts vs w calm = record { kept = refl }
 calm_external s site (Some e) ts vs w calm = external_keeps s site e ts vs w calm
 
-calm_keeps : (s : Setting) (h : Here) (o : Op) (vs : List ℕ) (w : World) → CallsNoThread s.func o → Kept w (act s h o vs w)
+pub calm_keeps : (s : Setting) (h : Here) (o : Op) (vs : List ℕ) (w : World) → CallsNoThread s.func o → Kept w (act s h o vs w)
 calm_keeps s h (op.Load t a) vs w calm = by_if w (is_good w (word 0 vs) (stored_size t)) (record { kept = refl }) (record { kept = refl })
 calm_keeps s h (op.Store t v a) vs w calm = by_if w (is_good w (word 1 vs) (stored_size t)) (record { kept = refl }) (record { kept = refl })
 calm_keeps s h (op.Call ret callee args) vs w calm = by_own (s.func callee)
@@ -229,21 +229,24 @@ module _ (d : Rules) (s : Setting) (m : Module) (unmarked : (f : Frame Poisoned)
   checked_same i h ps frame below w (Leaves z) calm q = q
   checked_same i h ps frame below w (Ends x z) calm q = q
 
-  -- a step of its own leaves what the world has of fibers
-  pub own_keeps : (f : List (Frame Poisoned)) (w : World) (c : ShadowState) → frames_due s m f ≡ Own → shadow_step d s m (shadow_state f w) ≡ More c → fibers_of c.world ≡ fibers_of w
-  own_keeps [] w c own e = absurd (grind arith)
-  own_keeps (frame ∷ below) w c own e = by_moved (shadow_frames d s m (frame ∷ below) w) (by_list (rest_of m frame) refl own) e
-    where
-      by_list : (l : List Inst) → rest_of m frame ≡ l → due_at s.func (here s m frame).main (eqb (length below) 0) (due_inst l) ≡ Own
-          → MovedTo (λ u. fibers_of u ≡ fibers_of w) (shadow_first d s m l frame below w)
-      by_list [] r q = refl
-      by_list (i ∷ is) r q =
-          let h = here s m frame in
-          let ps = read_all (read_poisoned s frame.values) (operands i.op) h.root in
-          checked_same i h ps frame below w (check_uses s h.site (operands i.op) ps (uses s.func h.main i.op) w)
-          (calm_due s.func h.main (eqb (length below) 0) i.op (ap (due_at s.func h.main (eqb (length below) 0)) (sym (due_head i is (unmarked frame i is r))) ∙ q))
-          (checks_keep s h.site (operands i.op) ps (uses s.func h.main i.op) w).kept
+  own_first : (frame : Frame Poisoned) (below : List (Frame Poisoned)) (w : World) (l : List Inst) → rest_of m frame ≡ l → due_at s.func (here s m frame).main (eqb (length below) 0) (due_inst l) ≡ Own
+      → MovedTo (λ u. fibers_of u ≡ fibers_of w) (shadow_first d s m l frame below w)
+  own_first frame below w [] r q = refl
+  own_first frame below w (i ∷ is) r q =
+      let h = here s m frame in
+      let ps = read_all (read_poisoned s frame.values) (operands i.op) h.root in
+      checked_same i h ps frame below w (check_uses s h.site (operands i.op) ps (uses s.func h.main i.op) w)
+      (calm_due s.func h.main (eqb (length below) 0) i.op (ap (due_at s.func h.main (eqb (length below) 0)) (sym (due_head i is (unmarked frame i is r))) ∙ q))
+      (checks_keep s h.site (operands i.op) ps (uses s.func h.main i.op) w).kept
 
+  -- a step of its own leaves what the world has of fibers, also where it ends the run
+  pub own_moved : (f : List (Frame Poisoned)) (w : World) → frames_due s m f ≡ Own → MovedTo (λ u. fibers_of u ≡ fibers_of w) (shadow_frames d s m f w)
+  own_moved [] w own = refl
+  own_moved (frame ∷ below) w own = own_first frame below w (rest_of m frame) refl own
+
+  pub own_keeps : (f : List (Frame Poisoned)) (w : World) (c : ShadowState) → frames_due s m f ≡ Own → shadow_step d s m (shadow_state f w) ≡ More c → fibers_of c.world ≡ fibers_of w
+  own_keeps f w c own e = by_moved (shadow_frames d s m f w) (own_moved f w own) e
+    where
       by_moved : (o : Outcome Poisoned) → MovedTo (λ u. fibers_of u ≡ fibers_of w) o → shadow_moved o ≡ More c → fibers_of c.world ≡ fibers_of w
       by_moved (On fs z) g q = subst (λ (x : ShadowState). fibers_of x.world ≡ fibers_of w) (more_is (record { frames = fs; world = z }) c q) g
       by_moved (Over x z) g q = absurd (grind arith)

@@ -32,10 +32,10 @@ use Rattle.ms_runs_threads.proofs.Follow.{runs_alike}
 -- ---- the relation
 
 -- the left run ended as reported, with a beginning of the output
-abbrev Early : End → World → World → Type 0
+abbrev pub Early : End → World → World → Type 0
 Early e w v = (e ≡ «end».Reported) × Prefix w.output v.output
 
-abbrev EndsSo : End → World → End → World → Type 0
+abbrev pub EndsSo : End → World → End → World → Type 0
 EndsSo e w x v = Early e w v ⊎ ((x ≡ e) × (bare v ≡ bare w))
 
 module _ (d : Rules) (s : Setting) (m : Module) (unmarked : NoMarks m) where
@@ -45,7 +45,7 @@ module _ (d : Rules) (s : Setting) (m : Module) (unmarked : NoMarks m) where
   abbrev right : Meaning (List (Frame ℕ)) Shared
   right = plain_fiber s m
 
-  abbrev relation : Relation (shadow_fiber d s m) (plain_fiber s m)
+  abbrev pub relation : Relation (shadow_fiber d s m) (plain_fiber s m)
   relation = record {
     Go = λ f w g t. (g ≡ map bare_frame f) × (bare t.world ≡ bare w);
     At = λ f g. g ≡ map bare_frame f;
@@ -185,7 +185,7 @@ module _ (d : Rules) (s : Setting) (m : Module) (unmarked : NoMarks m) where
       ap (λ u. entered plain_reading m n (a ∷ []) u ∷ []) e
       ∙ ap (λ g. record { func = n; block = 0; place = 0; values = g; mark = (entered plain_reading m n [] (bare w)).mark; heap = [] } ∷ []) (sym (bind_shown _ (record { value = a; mask = 0; origin = 0 } ∷ [])))
 
-  laws : Laws left right relation
+  pub laws : Laws left right relation
   laws = record {
     due = λ f w g t h. due_same f ∙ ap (frames_due s m) (sym h.0);
     turn = λ f w g t h. sym (ap (λ u. u.turn) h.1);
@@ -226,7 +226,7 @@ module _ (d : Rules) (s : Setting) (m : Module) (unmarked : NoMarks m) where
   left_output [] v = refl
   left_output (f ∷ below) v = given_output f v
 
-  late : LateLaws left right relation
+  pub late : LateLaws left right relation
   late = record {
     step = step_later;
     reach = reach_later;
@@ -241,7 +241,7 @@ module _ (d : Rules) (s : Setting) (m : Module) (unmarked : NoMarks m) where
   none_counted world (More a) = omega arith
   none_counted world (Stop e w) = omega arith
 
-  counts : Counts left right relation
+  pub counts : Counts left right relation
   counts = record {
     step = λ f w. none_counted (of_going left right relation) (left.step f w);
     reach = λ f w. none_counted (of_going left right relation) (left.reach f w);

@@ -49,7 +49,7 @@ module _ (m : Module) (formed : Formed m) (valid : Valid m) (can : CanInstrument
   as_one : (one : List ℕ) → shadow_picks m setup schedule ≡ shadow_picks m setup one → verdict_of (shadow_threads m setup one) ≡ Clean → ShowsCleanly m (refilled setup fill) schedule (shadow_threads m setup one)
   as_one one e clean =
       let same : shadow_threads m setup schedule ≡ shadow_threads m setup one =
-          ap (λ (x : End × World). result x.0 x.1) (same_end (shadow_fiber by_completions (setting_of m setup) m) one schedule setup.steps (shadow_threads_start m setup) e) in
+      ap (λ (x : End × World). result x.0 x.1) (same_end (shadow_fiber by_completions (setting_of m setup) m) one schedule setup.steps (shadow_threads_start m setup) e) in
       subst (ShowsCleanly m (refilled setup fill) schedule) same (refilled_clean (ap verdict_of same ∙ clean))
 
   as_some : (schedules : List (List ℕ)) → Somewhere (λ (ps : List Pick). shadow_picks m setup schedule ≡ ps) (map (shadow_picks m setup) schedules) → AllClean m setup schedules

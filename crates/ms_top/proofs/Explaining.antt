@@ -17,11 +17,13 @@ use Rattle.ms_runs_fills_laws.proofs.Whole.{first_of}
 use Rattle.ms_trail_moves.specs.declared.moves.Source.{Source}
 use Rattle.ms_trail_moves.specs.declared.moves.Move.{Move}
 use Rattle.ms_trail_moves.specs.declared.moves.Hop.{Hop}
+use Rattle.ms_trail_moves.specs.Leads.{Leads}
 use Rattle.ms_trail_moves.specs.Scanned.{trail_of}
 use Rattle.ms_trail_moves.specs.Traces as moves_of
 use Rattle.ms_trail_moves.proofs.Chains.{more_roots}
 use Rattle.ms_trail_moves.proofs.Scans.{leads_trail}
 use Rattle.ms_trail_laws.specs.FromReached.{FromReached}
+use Rattle.ms_trail_laws.specs.Staying.{ReadsToReport}
 use Rattle.ms_trail_laws.proofs.Found.{where_reported}
 use Rattle.ms_trail_laws.proofs.Whole.{ordered, some_way}
 use Rattle.ms_trail.specs.declared.found.Trace.{Trace}
@@ -98,7 +100,13 @@ way_found m alone s moves at traced way =
     leads_trail moves (ordered m alone s moves at traced) at way.hops
     (more_roots (λ id. IsReached m way.walk id ⊎ IsOperand m way.walk.state id) (λ n. Unit {0}) (λ n root. tt) moves at (reverse way.hops) way.leads)
 
-module _ (under : Lines) (m : Module) (s : Setup) where
+-- what is read on a way stays as it was written (a law of moves)
+abbrev pub WaysStay : Type 0
+WaysStay =
+    (m : Module) → is_threaded m ≡ false → (setup : Setup) (moves : List Move) (at : Source) → moves_of.trace m setup ≡ moves_of.Found moves at
+    → (hops : List Hop) → Leads moves at hops → ReadsToReport m (to_first_report setup) moves at hops
+
+module _ (stay : WaysStay) (under : Lines) (m : Module) (s : Setup) where
   abbrev reports : List ℕ
   reports = reports_with under m 1 (shadow m s).reports
 
@@ -107,8 +115,8 @@ module _ (under : Lines) (m : Module) (s : Setup) where
       → (text : List ℕ) → text ≡ reports ++ trace_with under m (if few then Found moves at else TooLong (length moves)) → ShowsWay under m s text
   text_shown alone moves at traced true few text is =
       let way = some_way m alone s moves at traced in
-      record { moves = moves; at = at; traced = traced; shown = inr (few_kept moves few, way, is ∙ ap (λ (found : Option (List Hop)). reports ++ way_with under m moves at found) (way_found m alone s moves at traced way)) }
-  text_shown alone moves at traced false many text is = record { moves = moves; at = at; traced = traced; shown = inl (many_moves moves many, is) }
+      record { moves = moves; at = at; traced = traced; shown = inr (few_kept moves few, way, is ∙ ap (λ (found : Option (List Hop)). reports ++ way_with under m moves at found) (way_found m alone s moves at traced way)); stays = stay m alone s moves at traced }
+  text_shown alone moves at traced false many text is = record { moves = moves; at = at; traced = traced; shown = inl (many_moves moves many, is); stays = stay m alone s moves at traced }
 
   -- what is said of a run with a report shows the way of its bits
   pub shows_way : is_threaded m ≡ false → (text : List ℕ) → text ≡ explained_with under m s (shadow m s) → (shadow m s).reports ≢ [] → ShowsWay under m s text
@@ -118,10 +126,10 @@ module _ (under : Lines) (m : Module) (s : Setup) where
       (is ∙ ap (λ (none : Bool). if none then no_report else reports ++ trace_with under m (followed m s)) (none_counted (shadow m s).reports some)
       ∙ ap (λ (t : Trace). reports ++ trace_with under m t) (followed_is m s found.0 found.1 found.2))
 
-  -- and of one without a report that there is none
-  pub shows_none : (text : List ℕ) → text ≡ explained_with under m s (shadow m s) → (shadow m s).reports ≡ [] → text ≡ no_report
-  shows_none text is none =
-      is ∙ ap (λ (rs : List Report). if eqb (length rs) 0 then no_report else reports ++ trace_with under m (followed m s)) none
+-- and of one without a report that there is none
+pub shows_none : (under : Lines) (m : Module) (s : Setup) (text : List ℕ) → text ≡ explained_with under m s (shadow m s) → (shadow m s).reports ≡ [] → text ≡ no_report
+shows_none under m s text is none =
+    is ∙ ap (λ (rs : List Report). if eqb (length rs) 0 then no_report else reports_with under m 1 (shadow m s).reports ++ trace_with under m (followed m s)) none
 
 -- ---- where the pass gives faithful modules
 
@@ -139,10 +147,10 @@ explained_shadow under file inputs o m a alone fair is =
     let h = alone_says m a (IsExplanation IsInstrumented under s m a) alone is in
     h.2 ∙ ap (answer_of_explained under m s) (runs_alone m h.0 h.1 alone s fair)
 
-pub explained_way : (under : Lines) (file : List ℕ) (inputs : List (List ℕ)) (o : Options) (m : Module) (a : Output) → is_threaded m ≡ false → let s = setup_of o (only_input inputs) in Fair s
+pub explained_way : WaysStay → (under : Lines) (file : List ℕ) (inputs : List (List ℕ)) (o : Options) (m : Module) (a : Output) → is_threaded m ≡ false → let s = setup_of o (only_input inputs) in Fair s
     → IsAnswerToValid IsInstrumented under (Explain file o) inputs m a → (shadow m s).reports ≢ [] → ShowsWay under m s a.out
-explained_way under file inputs o m a alone fair answers some =
-    shows_way under m (setup_of o (only_input inputs)) alone a.out (ap (λ x. x.out) (explained_shadow under file inputs o m a alone fair answers)) some
+explained_way stay under file inputs o m a alone fair answers some =
+    shows_way stay under m (setup_of o (only_input inputs)) alone a.out (ap (λ x. x.out) (explained_shadow under file inputs o m a alone fair answers)) some
 
 pub explained_none : (under : Lines) (file : List ℕ) (inputs : List (List ℕ)) (o : Options) (m : Module) (a : Output) → is_threaded m ≡ false → let s = setup_of o (only_input inputs) in Fair s
     → IsAnswerToValid IsInstrumented under (Explain file o) inputs m a → (shadow m s).reports ≡ [] → a.out ≡ no_report

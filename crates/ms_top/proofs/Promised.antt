@@ -12,17 +12,17 @@ use Rattle.ms_read_body.specs.declared.errors.ReadError.{ReadError}
 use Rattle.ms_read_body.specs.declared.errors.ReadError.TheVariants as e
 use Rattle.ms_read_top.specs.Reading.{IsReading}
 use Rattle.ms_words.specs.Limits.{RunsWithinLimits}
-use Rattle.ms_words.specs.declared.commands.Command.TheVariants.{Check, Explain}
+use Rattle.ms_words.specs.declared.commands.Command.TheVariants.{Check, Corpus, Explain}
 use Rattle.ms_words.specs.declared.commands.Command.{Command}
 use Rattle.ms_words.specs.declared.commands.Options.{Options}
 use Rattle.ms_top.specs.declared.output.Output.{Output}
 use Rattle.ms_top.specs.Command.{files_of, form_of, input_files, input_limit, only_input, setup_of}
 use Rattle.ms_top.specs.Files.{Counted, FilesRead, Whole, Fault, Long, CanRead}
 use Rattle.ms_top.specs.Instrumented.{IsInstrumented}
-use Rattle.ms_top.specs.Promised.{NothingRan, ShadowShown, ThreadsRefused, WayShown}
+use Rattle.ms_top.specs.Promised.{CorpusShown, HoldsUnderChanges, InputHolds, NothingRan, ShadowShown, ThreadsRefused, WayShown}
 use Rattle.ms_top.specs.Lines.{AreLines}
 use Rattle.ms_top.specs.Runs.{plain_under, HoldsUnder}
-use Rattle.ms_top.specs.Said.{answer_of_result, says, IsExplanation, IsAnswerToValid, IsAnswerWithoutFile, IsAnswerToModule, IsAnswerToReading, IsAnswerToFiles, IsAnswerToCommand, IsAnswerFor, IsAnswer}
+use Rattle.ms_top.specs.Said.{answer_of_result, says, IsExplanation, IsAnswerToValid, IsAnswerWithoutFile, IsAnswerToModule, IsAnswerToReading, IsAnswerToFiles, IsAnswerToCommand, IsAnswerFor, IsAnswer, AreSections}
 use Rattle.ms_report.specs.WithLines.{Lines}
 use Rattle.ms_check_valid.specs.Valid.{Valid}
 use Rattle.ms_check_valid.proofs.Refused.{invalid}
@@ -31,12 +31,16 @@ use Rattle.ms_words.proofs.WithinLimits.{command_within}
 use Rattle.ms_text_grammar.specs.Texts.{Reads, max_bytes}
 use Rattle.ms_ir.specs.declared.forms.Form.TheVariants.{Plain}
 use Rattle.ms_text_laws.proofs.FormedModules.{read_formed}
+use Rattle.ms_runs.specs.declared.runs.Setup.{Setup}
+use Rattle.ms_ir.specs.Instructions.{NoMarks}
+use Rattle.ms_check_valid.specs.Formed.{Formed}
 use Rattle.ms_runs_fills_laws.specs.Chosen.{HoldsUnderChoices}
+use Rattle.ms_runs_fills_laws.proofs.ChangingMemory.{clean_changing}
 use Rattle.ms_check_valid.specs.FormedNames.{are_bytes}
-use Rattle.ms_top.proofs.Answered.{text_read, explain_refused}
+use Rattle.ms_top.proofs.Answered.{text_read, corpus_refused, explain_refused}
 use Rattle.ms_top.proofs.Answering.{scheduled}
-use Rattle.ms_top.proofs.Explaining.{explained_shadow, explained_way, explained_none}
-use Rattle.ms_top.proofs.Faithful.{fair_options, alone_says, runs_alone}
+use Rattle.ms_top.proofs.Explaining.{WaysStay, explained_shadow, explained_way, explained_none}
+use Rattle.ms_top.proofs.Faithful.{corpus_shown, fair_options, alone_says, holds_alone, runs_alone}
 use Rattle.ms_text_grammar.proofs.Readings.{one_reading}
 
 abbrev IsByte : ℕ → Type 0
@@ -175,6 +179,10 @@ module _ (c : Counted) (command : Command) (a : Output) (is_plain : form_of comm
 
 -- ---- checks and explanations
 
+-- what a clean verdict says holds where uninitialised bits change
+under_changes : (m : Module) → Formed m → Valid m → is_threaded m ≡ false → NoMarks m → (s : Setup) → Fair s → HoldsUnderChanges m s
+under_changes m formed valid alone unmarked s fair = clean_changing m formed valid alone unmarked s (record { input = fair.bytes; fill = fair.fill })
+
 -- what `check` says of a text that is read as a valid module
 shadow_is_shown : (c : Counted) (file : List ℕ) (o : Options) (a : Output) → RunsWithinLimits o → Answered c (Check file o) a → ShadowShown c file o a
 shadow_is_shown c file o a fit h =
@@ -184,21 +192,24 @@ shadow_is_shown c file o a fit h =
     let fair = check_is_fair c file o h.text h.inputs fit h.read in
     let some = scheduled o o.schedule fit refl in
     let bytes = texts_are_bytes c (files_of (Check file o)) (h.text ∷ h.inputs) h.read in
+    let formed = read_formed Plain h.text h.module_read (tested h.text (All-head (λ text. All IsByte text) h.text h.inputs bytes)) h.reads in
+    let unmarked = no_marks j h.module_read made.strips in
     record {
       text = h.text;
       inputs = h.inputs;
       read = h.read;
       module_read = h.module_read;
       reads = h.reads;
-      formed = read_formed Plain h.text h.module_read (tested h.text (All-head (λ text. All IsByte text) h.text h.inputs bytes)) h.reads;
+      formed = formed;
       valid = h.valid;
-      unmarked = no_marks j h.module_read made.strips;
+      unmarked = unmarked;
       under = h.under;
       lines = h.lines;
       fair = fair;
       shown = h.answer.2 ∙ ap (answer_of_result h.under true h.module_read) (made.runs s fair o.schedule some);
       fills = subst (HoldsUnder (is_threaded h.module_read) h.module_read s o.schedule) (made.runs s fair o.schedule some) (made.holds s fair o.schedule some);
       choices = λ alone. subst (HoldsUnderChoices h.module_read s) (runs_alone h.module_read j made alone s fair) (made.choices alone s fair);
+      changes = λ alone. under_changes h.module_read formed h.valid alone unmarked s fair;
     }
 
 pub check_promises : (c : Counted) (file : List ℕ) (o : Options) (a : Output) → RunsWithinLimits o → IsAnswerToCommand IsInstrumented c (Check file o) a
@@ -230,9 +241,9 @@ checked_too c file o a h x = record {
   answer = (x.0, x.1, refl);
 }
 
-way_shown : (c : Counted) (file : List ℕ) (o : Options) (a : Output) → RunsWithinLimits o → (h : Answered c (Explain file o) a) → is_threaded h.module_read ≡ false → WayShown c file o a
+way_shown : WaysStay → (c : Counted) (file : List ℕ) (o : Options) (a : Output) → RunsWithinLimits o → (h : Answered c (Explain file o) a) → is_threaded h.module_read ≡ false → WayShown c file o a
 unfolding shadow_is_shown
-way_shown c file o a fit h alone =
+way_shown stay c file o a fit h alone =
     let fair = check_is_fair c file o h.text h.inputs fit h.read in
     let x = alone_says h.module_read a (explanation_of c file o a h) alone h.answer in
     record {
@@ -240,14 +251,14 @@ way_shown c file o a fit h alone =
       shadow_shown = shadow_is_shown c file o (check_of o h.module_read x.0 h.under h.inputs) fit (checked_too c file o a h x);
       alone = alone;
       explained = explained_shadow h.under file h.inputs o h.module_read a alone fair h.answer;
-      way = explained_way h.under file h.inputs o h.module_read a alone fair h.answer;
+      way = explained_way stay h.under file h.inputs o h.module_read a alone fair h.answer;
       none = explained_none h.under file h.inputs o h.module_read a alone fair h.answer;
     }
 
 -- a module with threads is refused
-refused_or_shown : (c : Counted) (file : List ℕ) (o : Options) (a : Output) → RunsWithinLimits o → (h : Answered c (Explain file o) a) (t : Bool) → is_threaded h.module_read ≡ t
-    → ThreadsRefused c file o a ⊎ WayShown c file o a
-refused_or_shown c file o a fit h true threads = inl (record {
+refused_or_shown : WaysStay → (c : Counted) (file : List ℕ) (o : Options) (a : Output) → RunsWithinLimits o → (h : Answered c (Explain file o) a) (t : Bool) → is_threaded h.module_read ≡ t
+    → ThreadsRefused c (Explain file o) a ⊎ WayShown c file o a
+refused_or_shown stay c file o a fit h true threads = inl (record {
   text = h.text;
   inputs = h.inputs;
   read = h.read;
@@ -257,17 +268,100 @@ refused_or_shown c file o a fit h true threads = inl (record {
   threads = threads;
   refused = explain_refused h.under file o h.inputs h.module_read a threads h.answer;
 })
-refused_or_shown c file o a fit h false alone = inr (way_shown c file o a fit h alone)
+refused_or_shown stay c file o a fit h false alone = inr (way_shown stay c file o a fit h alone)
 
-pub explain_promises : (c : Counted) (file : List ℕ) (o : Options) (a : Output) → RunsWithinLimits o → IsAnswerToCommand IsInstrumented c (Explain file o) a
-    → NothingRan c (files_of (Explain file o)) a ⊎ (ThreadsRefused c file o a ⊎ WayShown c file o a)
-explain_promises c file o a fit answer =
+pub explain_promises : WaysStay → (c : Counted) (file : List ℕ) (o : Options) (a : Output) → RunsWithinLimits o → IsAnswerToCommand IsInstrumented c (Explain file o) a
+    → NothingRan c (files_of (Explain file o)) a ⊎ (ThreadsRefused c (Explain file o) a ⊎ WayShown c file o a)
+explain_promises stay c file o a fit answer =
     elim (promises c (Explain file o) a refl (λ h. h) answer) [
       | inl nothing ↦ inl nothing
-      | inr answered ↦ inr (refused_or_shown c file o a fit answered (is_threaded answered.module_read) refl)
+      | inr answered ↦ inr (refused_or_shown stay c file o a fit answered (is_threaded answered.module_read) refl)
     ]
 
-pub explaining_words_promise : (c : Counted) (words : List (List ℕ)) (file : List ℕ) (o : Options) (a : Output) → command_of words ≡ Ok (Explain file o) → IsAnswer IsInstrumented c words a
-    → NothingRan c (files_of (Explain file o)) a ⊎ (ThreadsRefused c file o a ⊎ WayShown c file o a)
-explaining_words_promise c words file o a is answer =
-    explain_promises c file o a (command_within words (Explain file o) is).runs (subst (λ r. IsAnswerFor IsInstrumented c r a) is answer)
+pub explaining_words_promise : WaysStay → (c : Counted) (words : List (List ℕ)) (file : List ℕ) (o : Options) (a : Output) → command_of words ≡ Ok (Explain file o) → IsAnswer IsInstrumented c words a
+    → NothingRan c (files_of (Explain file o)) a ⊎ (ThreadsRefused c (Explain file o) a ⊎ WayShown c file o a)
+explaining_words_promise stay c words file o a is answer =
+    explain_promises stay c file o a (command_within words (Explain file o) is).runs (subst (λ r. IsAnswerFor IsInstrumented c r a) is answer)
+
+-- ---- many inputs
+
+-- inputs that are read from files are bytes within their limit
+inputs_are_fair : (c : Counted) (o : Options) → RunsWithinLimits o → (names : List (List ℕ)) (inputs : List (List ℕ)) → CanRead c (input_files names) (Whole inputs) → All (λ input. Fair (setup_of o input)) inputs
+inputs_are_fair c o fit [] inputs can = subst (All (λ input. Fair (setup_of o input))) (sym (none_read c inputs can)) (All-nil (λ input. Fair (setup_of o input)))
+inputs_are_fair c o fit (name ∷ names) inputs can =
+    let f = first_read c name input_limit (input_files names) inputs can in
+    subst (All (λ input. Fair (setup_of o input))) (sym f.is)
+    (All-cons (λ input. Fair (setup_of o input)) f.text f.more
+    (fair_options o f.text fit (whole_short c.told name input_limit f.text f.whole) (whole_bytes c.told name input_limit f.text f.whole))
+    (inputs_are_fair c o fit names f.more f.others))
+
+corpus_is_fair : (c : Counted) (file : List ℕ) (names : List (List ℕ)) (o : Options) (workers : ℕ) (text : List ℕ) (inputs : List (List ℕ)) → RunsWithinLimits o
+    → CanRead c (files_of (Corpus file names o workers)) (Whole (text ∷ inputs)) → All (λ input. Fair (setup_of o input)) inputs
+corpus_is_fair c file names o workers text inputs fit can =
+    let f = first_read c file (max_bytes Plain) (input_files names) (text ∷ inputs) can in
+    subst (All (λ input. Fair (setup_of o input))) (sym (tail_same text f.text inputs f.more f.is)) (inputs_are_fair c o fit names f.more f.others)
+
+all_hold : (m j : Module) → IsInstrumented m j → Formed m → Valid m → is_threaded m ≡ false → NoMarks m → (o : Options) (inputs : List (List ℕ)) → All (λ input. Fair (setup_of o input)) inputs
+    → All (λ input. InputHolds m (setup_of o input)) inputs
+all_hold m j made formed valid alone unmarked o [] fair = All-nil (λ input. InputHolds m (setup_of o input))
+all_hold m j made formed valid alone unmarked o (input ∷ rest) fair =
+    let s = setup_of o input in
+    let here : Fair s = All-head (λ input. Fair (setup_of o input)) input rest fair in
+    All-cons (λ input. InputHolds m (setup_of o input)) input rest
+    (record {
+      fair = here;
+      fills = holds_alone m j made alone s here;
+      choices = subst (HoldsUnderChoices m s) (runs_alone m j made alone s here) (made.choices alone s here);
+      changes = under_changes m formed valid alone unmarked s here;
+    })
+    (all_hold m j made formed valid alone unmarked o rest (All-tail (λ input. Fair (setup_of o input)) input rest fair))
+
+module _ (c : Counted) (file : List ℕ) (names : List (List ℕ)) (o : Options) (workers : ℕ) (a : Output) (fit : RunsWithinLimits o) (h : Answered c (Corpus file names o workers) a) where
+  corpus_is_shown : is_threaded h.module_read ≡ false → CorpusShown c file names o workers a
+  corpus_is_shown alone =
+      let x = alone_says h.module_read a (AreSections IsInstrumented h.under names o h.inputs h.module_read a) alone h.answer in
+      let fair = corpus_is_fair c file names o workers h.text h.inputs fit h.read in
+      let bytes = texts_are_bytes c (files_of (Corpus file names o workers)) (h.text ∷ h.inputs) h.read in
+      let formed = read_formed Plain h.text h.module_read (tested h.text (All-head (λ text. All IsByte text) h.text h.inputs bytes)) h.reads in
+      let unmarked = no_marks x.0 h.module_read x.1.strips in
+      record {
+        text = h.text;
+        inputs = h.inputs;
+        read = h.read;
+        module_read = h.module_read;
+        reads = h.reads;
+        formed = formed;
+        valid = h.valid;
+        unmarked = unmarked;
+        alone = alone;
+        under = h.under;
+        lines = h.lines;
+        shown = corpus_shown h.under file names h.inputs o workers h.module_read a alone fair h.answer;
+        holds = all_hold h.module_read x.0 x.1 formed h.valid alone unmarked o h.inputs fair;
+      }
+
+  refused_or_sections : (t : Bool) → is_threaded h.module_read ≡ t → ThreadsRefused c (Corpus file names o workers) a ⊎ CorpusShown c file names o workers a
+  refused_or_sections true threads = inl (record {
+    text = h.text;
+    inputs = h.inputs;
+    read = h.read;
+    module_read = h.module_read;
+    reads = h.reads;
+    valid = h.valid;
+    threads = threads;
+    refused = corpus_refused h.under file names o workers h.inputs h.module_read a threads h.answer;
+  })
+  refused_or_sections false alone = inr (corpus_is_shown alone)
+
+pub corpus_promises : (c : Counted) (file : List ℕ) (names : List (List ℕ)) (o : Options) (workers : ℕ) (a : Output) → RunsWithinLimits o → IsAnswerToCommand IsInstrumented c (Corpus file names o workers) a
+    → NothingRan c (files_of (Corpus file names o workers)) a ⊎ (ThreadsRefused c (Corpus file names o workers) a ⊎ CorpusShown c file names o workers a)
+corpus_promises c file names o workers a fit answer =
+    elim (promises c (Corpus file names o workers) a refl (λ h. h) answer) [
+      | inl nothing ↦ inl nothing
+      | inr answered ↦ inr (refused_or_sections c file names o workers a fit answered (is_threaded answered.module_read) refl)
+    ]
+
+pub corpus_words_promise : (c : Counted) (words : List (List ℕ)) (file : List ℕ) (names : List (List ℕ)) (o : Options) (workers : ℕ) (a : Output) → command_of words ≡ Ok (Corpus file names o workers) → IsAnswer IsInstrumented c words a
+    → NothingRan c (files_of (Corpus file names o workers)) a ⊎ (ThreadsRefused c (Corpus file names o workers) a ⊎ CorpusShown c file names o workers a)
+corpus_words_promise c words file names o workers a is answer =
+    corpus_promises c file names o workers a (command_within words (Corpus file names o workers) is).runs (subst (λ r. IsAnswerFor IsInstrumented c r a) is answer)

@@ -1,26 +1,35 @@
 -- What `check` and `explain` promise of the program, from what they are to say alone.
-use Rattle.std.specs.Prelude.{◌≡◌, ◌≢◌, ◌<◌, ◌≤◌, ◌⊎◌, ℕ, true, false, List, [], ◌∷◌, ◌++◌, length, codes}
+use Rattle.std.specs.Prelude.{◌≡◌, ◌≢◌, ◌<◌, ◌≤◌, ◌⊎◌, ℕ, true, false, All, List, [], ◌∷◌, ◌++◌, length, map, codes}
 use Rattle.ms_ir.specs.declared.forms.Form.TheVariants.{Plain}
 use Rattle.ms_ir.specs.declared.syntax.Module.{Module}
 use Rattle.ms_ir.specs.Instructions.{NoMarks}
 use Rattle.ms_ir.specs.ThreadCalls.{is_threaded}
 use Rattle.ms_runs.specs.Faithful.{Fair}
-use Rattle.ms_runs.specs.Shadow.{shadow}
+use Rattle.ms_runs.specs.Masks.{by_completions}
+use Rattle.ms_runs.specs.Plain.{PlainState, Stepped, plain_start, setting_of}
+use Rattle.ms_runs.specs.Shadow.{shadow, shadow_start, shadow_step}
+use Rattle.ms_runs.specs.Verdict.{Clean, verdict_of}
 use Rattle.ms_runs.specs.declared.runs.Setup.{Setup}
 use Rattle.ms_text_grammar.specs.Texts.{Reads}
 use Rattle.ms_check_valid.specs.Formed.{Formed}
 use Rattle.ms_check_valid.specs.Valid.{Valid}
+use Rattle.ms_runs_fills_laws.specs.Changing.{ComesTo, shown_by}
+use Rattle.ms_runs_fills_laws.specs.Checked.{HoldsUnderFills}
 use Rattle.ms_runs_fills_laws.specs.Chosen.{HoldsUnderChoices}
-use Rattle.ms_runs_good_laws.specs.Fills.{to_first_report}
+use Rattle.ms_runs_good_laws.specs.Fills.{SameShown, to_first_report}
 use Rattle.ms_trail_moves.specs.declared.moves.Source.{Source}
 use Rattle.ms_trail_moves.specs.declared.moves.Move.{Move}
+use Rattle.ms_trail_moves.specs.declared.moves.Hop.{Hop}
+use Rattle.ms_trail_moves.specs.Leads.{Leads}
 use Rattle.ms_trail_moves.specs.Traces.{trace, Found}
 use Rattle.ms_trail_laws.specs.FromReached.{FromReached}
+use Rattle.ms_trail_laws.specs.Staying.{ReadsToReport}
 use Rattle.ms_report.specs.RunTexts.{line}
 use Rattle.ms_report.specs.TrailTexts.{trail_with}
 use Rattle.ms_report.specs.WithLines.{Lines, reports_with}
 use Rattle.ms_report.specs.RefusalTexts.{threads_text}
-use Rattle.ms_words.specs.declared.commands.Command.TheVariants.{Check, Explain}
+use Rattle.ms_words.specs.declared.commands.Command.{Command}
+use Rattle.ms_words.specs.declared.commands.Command.TheVariants.{Check, Corpus, Explain}
 use Rattle.ms_words.specs.declared.commands.Options.{Options}
 use Rattle.ms_top.specs.declared.output.Output.{Output}
 use Rattle.ms_top.specs.Command.{files_of, only_input, setup_of}
@@ -28,7 +37,7 @@ use Rattle.ms_top.specs.Files.{Counted, CanRead, Whole, Fault, Long}
 use Rattle.ms_top.specs.Lines.{AreLines}
 use Rattle.ms_top.specs.Explained.{too_long, no_report}
 use Rattle.ms_top.specs.Runs.{shadow_under, HoldsUnder}
-use Rattle.ms_top.specs.Said.{answer_of_result, answer_of_explained, says}
+use Rattle.ms_top.specs.Said.{answer_of_result, answer_of_results, answer_of_explained, says}
 use Rattle.ms_top.specs.Statuses as statuses
 
 -- the answer that a file can't be read: the first of these files that isn't read whole is at fault, and the answer names it
@@ -50,9 +59,17 @@ pub record NothingRan (c : Counted) (files : List (List ℕ × ℕ)) (a : Output
   pub out : a.out ≡ []
   pub why : IsFileFault c files a ⊎ (IsFileTooLong c files a ⊎ IsTextRefused c files a)
 
+-- where the verdict of a shadow run is clean, the program itself prints the same and ends in the same way, also where uninitialised
+-- bits change before each step
+abbrev pub HoldsUnderChanges : Module → Setup → Type 0
+HoldsUnderChanges m s =
+    verdict_of (shadow m s) ≡ Clean → (z : Stepped PlainState) → ComesTo (shadow_step by_completions (setting_of m s) m) m s s.steps (shadow_start m s) (plain_start m s) z
+    → SameShown (shown_by z) (shadow m s)
+
 -- A text was read as a valid module, and the answer a says what the module's shadow run with a fair setup is, with the lines that
 -- are asked for; where it has threads, under the schedule that is asked for. A clean verdict and a first report hold under every
--- fill, a clean verdict without threads also where each step has a fill of its own
+-- fill, a clean verdict without threads also where each step has a fill of its own, and where uninitialised bits change between
+-- steps
 pub record ShadowShown (c : Counted) (file : List ℕ) (o : Options) (a : Output) : Type 0 where
   pub text : List ℕ
   pub inputs : List (List ℕ)
@@ -69,12 +86,13 @@ pub record ShadowShown (c : Counted) (file : List ℕ) (o : Options) (a : Output
   pub fills : HoldsUnder (is_threaded module_read) module_read (setup_of o (only_input inputs)) o.schedule
       (shadow_under (is_threaded module_read) module_read (setup_of o (only_input inputs)) o.schedule)
   pub choices : is_threaded module_read ≡ false → HoldsUnderChoices module_read (setup_of o (only_input inputs)) (shadow module_read (setup_of o (only_input inputs)))
+  pub changes : is_threaded module_read ≡ false → HoldsUnderChanges module_read (setup_of o (only_input inputs))
 
 -- A text was read as a valid module with threads, which a command refuses
-pub record ThreadsRefused (c : Counted) (file : List ℕ) (o : Options) (a : Output) : Type 0 where
+pub record ThreadsRefused (c : Counted) (command : Command) (a : Output) : Type 0 where
   pub text : List ℕ
   pub inputs : List (List ℕ)
-  pub read : CanRead c (files_of (Explain file o)) (Whole (text ∷ inputs))
+  pub read : CanRead c (files_of command) (Whole (text ∷ inputs))
   pub module_read : Module
   pub reads : Reads Plain text module_read
   pub valid : Valid module_read
@@ -82,13 +100,15 @@ pub record ThreadsRefused (c : Counted) (file : List ℕ) (o : Options) (a : Out
   pub refused : a ≡ says statuses.refused threads_text
 
 -- The text that explains a run with a report: the moves before it are too many, or it shows a way over them. That begins at a root
--- which the run had reached, each hop's target is what the next hop reads, and the last is what the report's use reads
+-- which the run had reached, each hop's target is what the next hop reads, and the last is what the report's use reads. Each place
+-- keeps the bits that were written there until the next hop, or the use, reads it
 pub record ShowsWay (under : Lines) (m : Module) (setup : Setup) (text : List ℕ) : Type 0 where
   pub moves : List Move
   pub at : Source
   pub traced : trace m setup ≡ Found moves at
   pub shown : ((4194304 < length moves) × (text ≡ reports_with under m 1 (shadow m setup).reports ++ too_long))
       ⊎ ((length moves ≤ 4194304) × (way : FromReached m (to_first_report setup) moves at) × (text ≡ reports_with under m 1 (shadow m setup).reports ++ trail_with under m moves at way.hops))
+  pub stays : (hops : List Hop) → Leads moves at hops → ReadsToReport m (to_first_report setup) moves at hops
 
 -- The answer a explains what `check` says of the same files with the same options, and shows the way of a report's bits where there
 -- is one
@@ -99,3 +119,27 @@ pub record WayShown (c : Counted) (file : List ℕ) (o : Options) (a : Output) :
   pub explained : a ≡ answer_of_explained shadow_shown.under shadow_shown.module_read (setup_of o (only_input shadow_shown.inputs)) (shadow shadow_shown.module_read (setup_of o (only_input shadow_shown.inputs)))
   pub way : (shadow shadow_shown.module_read (setup_of o (only_input shadow_shown.inputs))).reports ≢ [] → ShowsWay shadow_shown.under shadow_shown.module_read (setup_of o (only_input shadow_shown.inputs)) a.out
   pub none : (shadow shadow_shown.module_read (setup_of o (only_input shadow_shown.inputs))).reports ≡ [] → a.out ≡ no_report
+
+-- what is said of one of the inputs of a corpus holds: under every fill, also where each step has one of its own, and where
+-- uninitialised bits change between steps
+pub record InputHolds (m : Module) (setup : Setup) : Type 0 where
+  pub fair : Fair setup
+  pub fills : HoldsUnderFills m setup (shadow m setup)
+  pub choices : HoldsUnderChoices m setup (shadow m setup)
+  pub changes : HoldsUnderChanges m setup
+
+-- A text was read as a valid module, and the answer a has a section for the module's shadow run on each input, with a fair setup
+pub record CorpusShown (c : Counted) (file : List ℕ) (names : List (List ℕ)) (o : Options) (workers : ℕ) (a : Output) : Type 0 where
+  pub text : List ℕ
+  pub inputs : List (List ℕ)
+  pub read : CanRead c (files_of (Corpus file names o workers)) (Whole (text ∷ inputs))
+  pub module_read : Module
+  pub reads : Reads Plain text module_read
+  pub formed : Formed module_read
+  pub valid : Valid module_read
+  pub unmarked : NoMarks module_read
+  pub alone : is_threaded module_read ≡ false
+  pub under : Lines
+  pub lines : AreLines (Corpus file names o workers) text module_read under
+  pub shown : a ≡ answer_of_results under module_read names (map (λ input. shadow module_read (setup_of o input)) inputs)
+  pub holds : All (λ input. InputHolds module_read (setup_of o input)) inputs

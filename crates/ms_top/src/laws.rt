@@ -14,7 +14,7 @@ ghost use Rattle.ms_top.specs.{declared.output.Output.{Output}, Answered.{AreHel
 ghost use Rattle.ms_top.specs.Added.{with_locations, without_lines, without_any_lines, CorpusAdds};
 ghost use Rattle.ms_top.specs.{Command.{files_of, form_of, input_limit, only_input, setup_of}, Explained.{no_report}};
 ghost use Rattle.ms_top.specs.Files.{Counted, CanRead, Whole};
-ghost use Rattle.ms_top.specs.Promised.{NothingRan, ShadowShown, ThreadsRefused, ShowsWay, WayShown};
+ghost use Rattle.ms_top.specs.Promised.{CorpusShown, NothingRan, ShadowShown, ThreadsRefused, ShowsWay, WayShown};
 ghost use Rattle.ms_top.specs.{Runs.{shadow_under, HoldsUnder}, Instrumented.{IsInstrumented}};
 ghost use Rattle.ms_top.specs.Lines.{AreLines, fault_text_with};
 ghost use Rattle.ms_top.specs.Said.{IsAnswer, IsAnswerToCommand, IsAnswerOfGen, IsAnswerToText, IsAnswerToValid, DifferInPath, answer_of, answer_of_result, answer_of_explained, answer_of_results, run_text, says, status_of};
@@ -34,6 +34,7 @@ ghost use Rattle.ms_threads.specs.Faithful.{IsSchedule};
 ghost use Rattle.ms_top.specs.Statuses as statuses;
 
 use crate::passes::Pass;
+use ms_trail_laws::ways::moves_read_poison;
 
 /// What is to be said is one answer, but where memory runs out, and for the path that shows that a use of a value isn't
 /// defined: of a module's text, and of commands and of words where the files are told and no fault of theirs was counted.
@@ -80,8 +81,9 @@ pub fn law_checks_show_the_shadow_run()
 
 /// What `explain` says of a checked module is the first report of its shadow run, where the setup is fair, with the way of that
 /// report's bits over the moves of that run, or that there is none; the closing lines are those of `check`. The way begins at a root
-/// that the run had reached, each place on it is what the next move reads, and the last is what the report's use reads. A module with
-/// threads is refused.
+/// that the run had reached, each place on it is what the next move reads, and the last is what the report's use reads. From the state
+/// after a move up to the one in which the next one reads it, a place keeps the bits that were written, some of them poisoned. A module
+/// with threads is refused.
 pub fn law_explanations_show_the_way()
     ensures shadow { (under : Lines) (file : List ℕ) (inputs : List (List ℕ)) (o : Options) (m : Module) (a : Output) → is_threaded m ≡ false → let s = setup_of o (only_input inputs) in Fair s
         → IsAnswerToValid IsInstrumented under (Explain file o) inputs m a → a ≡ answer_of_explained under m s (shadow m s) }
@@ -91,7 +93,9 @@ pub fn law_explanations_show_the_way()
         → IsAnswerToValid IsInstrumented under (Explain file o) inputs m a → (shadow m s).reports ≡ [] → a.out ≡ no_report }
     ensures threads { (under : Lines) (file : List ℕ) (o : Options) (inputs : List (List ℕ)) (m : Module) (a : Output) → is_threaded m ≡ true
         → IsAnswerToValid IsInstrumented under (Explain file o) inputs m a → a ≡ says statuses.refused threads_text }
-{}
+{
+    moves_read_poison();
+}
 
 /// What `explain` says holds of every pass whose modules are faithful.
 pub fn law_faithful_passes_explain<P: Pass>()
@@ -166,7 +170,8 @@ pub fn law_checks_begin_runs()
 /// their limits. So of any words that ask for a check what is to be said is this, with no premise on files: nothing was run, since a
 /// file couldn't be read or was too long, or since the text that was read isn't a valid module's; or a text was read as a valid
 /// module, and the answer is its shadow run with a fair setup. Then a clean verdict and a first report hold under every fill, with
-/// threads under the same schedule, and without threads a clean verdict also where each step has a fill of its own.
+/// threads under the same schedule, and without threads a clean verdict also where each step has a fill of its own, and where
+/// uninitialised bits of memory and words change between steps.
 pub fn law_checks_hold()
     ensures words { (c : Counted) (words : List (List ℕ)) (file : List ℕ) (o : Options) (a : Output) → command_of words ≡ Ok (Check file o)
         → IsAnswer IsInstrumented c words a → NothingRan c (files_of (Check file o)) a ⊎ ShadowShown c file o a }
@@ -183,7 +188,21 @@ pub fn law_checks_hold()
 /// the way of the bits of a report.
 pub fn law_explanations_hold()
     ensures words { (c : Counted) (words : List (List ℕ)) (file : List ℕ) (o : Options) (a : Output) → command_of words ≡ Ok (Explain file o)
-        → IsAnswer IsInstrumented c words a → NothingRan c (files_of (Explain file o)) a ⊎ (ThreadsRefused c file o a ⊎ WayShown c file o a) }
+        → IsAnswer IsInstrumented c words a → NothingRan c (files_of (Explain file o)) a ⊎ (ThreadsRefused c (Explain file o) a ⊎ WayShown c file o a) }
     ensures commands { (c : Counted) (file : List ℕ) (o : Options) (a : Output) → RunsWithinLimits o
-        → IsAnswerToCommand IsInstrumented c (Explain file o) a → NothingRan c (files_of (Explain file o)) a ⊎ (ThreadsRefused c file o a ⊎ WayShown c file o a) }
+        → IsAnswerToCommand IsInstrumented c (Explain file o) a → NothingRan c (files_of (Explain file o)) a ⊎ (ThreadsRefused c (Explain file o) a ⊎ WayShown c file o a) }
+{
+    moves_read_poison();
+}
+
+/// Of any words that ask for a corpus what is to be said is this, with no premise on files: nothing was run, as of a check, or since a
+/// valid module with threads was read; or a text was read as a valid module, and for each input there is a section of its shadow run
+/// with a fair setup. A clean verdict and a first report of a section hold as those of a check do.
+pub fn law_corpora_hold()
+    ensures words { (c : Counted) (words : List (List ℕ)) (file : List ℕ) (names : List (List ℕ)) (o : Options) (workers : ℕ) (a : Output) → command_of words ≡ Ok (Corpus file names o workers)
+        → IsAnswer IsInstrumented c words a
+        → NothingRan c (files_of (Corpus file names o workers)) a ⊎ (ThreadsRefused c (Corpus file names o workers) a ⊎ CorpusShown c file names o workers a) }
+    ensures commands { (c : Counted) (file : List ℕ) (names : List (List ℕ)) (o : Options) (workers : ℕ) (a : Output) → RunsWithinLimits o
+        → IsAnswerToCommand IsInstrumented c (Corpus file names o workers) a
+        → NothingRan c (files_of (Corpus file names o workers)) a ⊎ (ThreadsRefused c (Corpus file names o workers) a ⊎ CorpusShown c file names o workers a) }
 {}

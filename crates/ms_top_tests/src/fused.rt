@@ -86,7 +86,7 @@ static CASES: [Case; 2] = [
     ),
 ];
 
-fn fused(form: &ShortOp) -> Option<Fused> {
+fn kind_of(form: &ShortOp) -> Option<Fused> {
     match form {
         ShortOp::Ordered { .. } => Some(Fused::Ordered),
         ShortOp::Equal { .. } => Some(Fused::Equal),
@@ -103,7 +103,7 @@ fn fused(form: &ShortOp) -> Option<Fused> {
 fn count(shorts: &[ShortInst], kind: Fused) -> usize {
     let mut found: usize = 0;
     for short in shorts {
-        if fused(&short.form) == Some(kind) {
+        if kind_of(&short.form) == Some(kind) {
             found = found.saturating_add(1);
         }
     }
@@ -153,20 +153,24 @@ fn is_checked<R: Threads + Sync + Eprint>(
 }
 
 #[tactic(auto, unfolding(ms_text_grammar::specs::Texts::max_bytes))]
-fn agrees<R: Threads + Sync + Eprint>(rt: &R, alloc: Global, case: &Case) -> bool {
-    let text = case.0.as_bytes();
+fn agrees<R: Threads + Sync + Eprint>(
+    rt: &R,
+    alloc: Global,
+    text: &[u8],
+    wanted: &[(Fused, usize)],
+) -> bool {
     if text.len() > 1 << 20 {
         return false;
     }
     match read(alloc, text, Form::Plain) {
-        Ok(m) => is_checked(rt, alloc, m, case.1),
+        Ok(m) => is_checked(rt, alloc, m, wanted),
         Err(_) => false,
     }
 }
 
 fn all_agree<R: Threads + Sync + Eprint>(rt: &R, alloc: Global, cases: &[Case]) -> bool {
     for (number, case) in cases.iter().enumerate() {
-        if !agrees(rt, alloc, case) {
+        if !agrees(rt, alloc, case.0.as_bytes(), case.1) {
             return fails(rt, "row", number);
         }
     }

@@ -6,7 +6,7 @@ pub returns-clause-shadow : goal.returns-clause-shadow
 returns-clause-shadow c = explained_shadow
 
 pub returns-clause-way : goal.returns-clause-way
-returns-clause-way c = explained_way
+returns-clause-way c = explained_way c.moves_read_poison.ensures.ways
 
 pub returns-clause-none : goal.returns-clause-none
 returns-clause-none c = explained_none

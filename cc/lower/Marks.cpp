@@ -1,5 +1,7 @@
-// What is for the linker, what nothing reaches, and LLVM's own passes.
+// Marks that say nothing to msan: for the linker, for the order of accesses,
+// for threads and exceptions; and what nothing reaches.
 #include "Lowerings.h"
+#include "llvm/IR/IntrinsicInst.h"
 #include "llvm/Passes/PassBuilder.h"
 #include "llvm/Transforms/IPO/GlobalDCE.h"
 #include "llvm/Transforms/Scalar/LowerAtomicPass.h"
@@ -76,6 +78,18 @@ void lowerThreadLocals(Program &P) {
       P.Errors.at(Global, "thread_local, in a program with threads");
     Global.setThreadLocal(false);
   }
+}
+
+// A volatile access stays as it is, once and in its place, since nothing here
+// removes or moves one; only the mark goes.
+void lowerVolatile(Program &P, Function &F) {
+  for (Instruction &I : instructions(F))
+    if (auto *Load = dyn_cast<LoadInst>(&I))
+      Load->setVolatile(false);
+    else if (auto *Store = dyn_cast<StoreInst>(&I))
+      Store->setVolatile(false);
+    else if (auto *Memory = dyn_cast<MemIntrinsic>(&I))
+      Memory->setVolatile(ConstantInt::getFalse(P.Context));
 }
 
 // Atomic accesses become plain ones, each once and in its place: threads of

@@ -1,0 +1,12 @@
+pub mod Halves
+pub mod Walked
+pub mod ThreadActs
+pub mod PlainStates
+pub mod PlainThreads
+pub mod ShadowCalls
+pub mod ShadowThreads
+pub mod ThreadOrigins
+pub mod ThreadTrails
+pub mod Grown
+pub mod CertainRuns
+pub mod ChangingRuns

@@ -1,0 +1,5 @@
+pub mod Halves
+pub mod ThreadStates
+pub mod ThreadWalks
+pub mod CertainThreads
+pub mod ChangingThreads
