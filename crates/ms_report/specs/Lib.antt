@@ -4,5 +4,7 @@ pub mod FaultTexts
 pub mod RefusalTexts
 pub mod WordsTexts
 pub mod WithLines
+pub mod CallTexts
+pub mod BriefTexts
 pub mod TrailTexts
 pub mod SummaryTexts

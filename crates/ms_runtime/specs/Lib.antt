@@ -1,3 +1,4 @@
 pub mod Served
 pub mod Answering
 pub mod Going
+pub mod Recorded
