@@ -18,3 +18,5 @@ pub mod LowFibers
 pub mod FirstFibers
 pub mod ToldFibers
 pub mod UnderFills
+pub mod OneEach
+pub mod FirstCalls
