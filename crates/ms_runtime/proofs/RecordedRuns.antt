@@ -88,12 +88,12 @@ module _ (m : Module) (u : Setup) where
     runs_there a x = (r.running.world, (u, b.paused.asking.beside, b.paused.asking.within, fiber_runs a x))
 
     -- what is noted there is of the state at which it waited
-    noted_there : (a : Answer) → AnsweredFor m u call b.paused.asking.within a r.running r' → (new : List Calls) → Noted m r'.fiber (length r'.told.reports) r.calls.items new
+    noted_there : (a : Answer) → AnsweredFor m u call b.paused.asking.within a r.running r' → (new : List Calls) → Noted m r'.fiber 0 (length r'.told.reports) r.calls.items new
         → new ≡ tell (main_calls m b.paused.asking.within.frames) r'.told.reports r.calls.items
     noted_there a x new noted = noted u b.paused.asking.beside r.running.world b.paused.asking.within (fiber_runs a x)
 
     pub answer_ended : (e : End) → AnsweredFor m u call b.paused.asking.within (answer.Ended e) r.running r' → (after : Recorded) → after.running ≡ r' → after.wanted ≡ r.wanted
-        → (r.wanted ≡ true → Noted m r'.fiber (length r'.told.reports) r.calls.items after.calls.items) → (far : ℕ) → TurnedTold m u far (Some e) after
+        → (r.wanted ≡ true → Noted m r'.fiber 0 (length r'.told.reports) r.calls.items after.calls.items) → (far : ℕ) → TurnedTold m u far (Some e) after
     answer_ended e x after is same noted far = (
       subst (λ (y : Running). Over m u e y) (sym is) (asked_ends m u p compiled formed valid r.running call b.paused r' e x),
       λ wanted.
@@ -107,7 +107,7 @@ module _ (m : Module) (u : Setup) where
     grown (asked.Runtime f) next h = h.reports
 
     pub answer_goes : (value : Option ℕ) → AnsweredFor m u call b.paused.asking.within (answer.Resumed value) r.running r' → (after : Recorded) → after.wanted ≡ r.wanted
-        → (r.wanted ≡ true → Noted m r'.fiber (length r'.told.reports) r.calls.items after.calls.items)
+        → (r.wanted ≡ true → Noted m r'.fiber 0 (length r'.told.reports) r.calls.items after.calls.items)
         → after.running.world ≡ r'.world → after.running.depot ≡ r'.depot → after.running.told ≡ r'.told → after.running.budget ≡ r'.budget → after.running.fiber.frame.at ≡ r'.fiber.frame.at + 1 → KeepsOwn r'.fiber after.running.fiber
         → ((frame : Frame ℕ) (below : List (Frame ℕ)) → AllStandFor m (frames_of r'.fiber) (frame ∷ below) → Waits m u frame call → AllStandFor m (frames_of after.running.fiber) (answered m value frame ∷ below))
         → TurnedTold m u (ahead m r.running) None after

@@ -4,8 +4,9 @@ use Rattle.ms_ir.specs.declared.syntax.Module.{Module}
 use Rattle.ms_runs.specs.declared.runs.Calls.{Calls}
 use Rattle.ms_runs.specs.declared.runs.End.{End}
 use Rattle.ms_runs.specs.declared.runs.Setup.{Setup}
+use Rattle.ms_runs.specs.Control.{Frame}
 use Rattle.ms_runs.specs.Plain.{PlainState}
-use Rattle.ms_runs.specs.Calls.{main_calls, told_in, told_after, plain_calls}
+use Rattle.ms_runs.specs.Calls.{call_sites, main_calls, told_in, told_after, plain_calls}
 use Rattle.ms_host.specs.declared.calls.HostCall.{HostCall}
 use Rattle.ms_host.specs.State.{WorldState, Beside}
 use Rattle.ms_machine_frames.specs.declared.fibers.Fiber.{Fiber}
@@ -51,7 +52,11 @@ IsGoing m limit r = (u : Setup) × ((u.reports ≡ limit) × GoingTold m u r)
 abbrev pub IsPaused : Module → ℕ → HostCall → Recorded → Type 0
 IsPaused m limit call r = (u : Setup) × ((u.reports ≡ limit) × PausedTold m u call r)
 
+-- the calls of frames of a fiber that the call at a site made
+abbrev pub calls_from : Module → (started : ℕ) → List (Frame ℕ) → Calls
+calls_from m started frames = record { sites = call_sites m frames; started = started }
+
 -- calls were recorded until there were so many: those at which a fiber stands
-abbrev pub Noted : Module → Fiber → (count : ℕ) → (old new : List Calls) → Type 0
-Noted m fiber count old new =
-    (u : Setup) (beside : Beside) (w : WorldState) (state : PlainState) → IsRunning m u beside fiber w state → new ≡ old ++ replicate (count - length old) (main_calls m state.frames)
+abbrev pub Noted : Module → Fiber → (started count : ℕ) → (old new : List Calls) → Type 0
+Noted m fiber started count old new =
+    (u : Setup) (beside : Beside) (w : WorldState) (state : PlainState) → IsRunning m u beside fiber w state → new ≡ old ++ replicate (count - length old) (calls_from m started state.frames)

@@ -121,40 +121,44 @@ pub fn start_run(alloc: Global, m: &CheckedModule, setup: &Setup) -> Result<Runn
     })
 }
 
-/// Records the calls at which the innermost function of `main`'s thread stands, until so many are recorded.
+/// Records the calls at which the innermost function of a thread stands, until so many are recorded. `started` is the site of the
+/// call that made the thread; 0 for that of `main`.
 fn record_calls(
     alloc: Global,
     m: &CheckedModule,
     fiber: &Fiber,
+    started: u32,
     recorded: &mut Vec<Calls>,
     count: usize,
 ) -> Result<(), NoMemory>
     requires { RunsSomewhere m.now fiber.now }
-    ensures { OnOk result (Noted m.now fiber.now count recorded.old.items recorded.new.items) }
+    ensures { OnOk result (Noted m.now fiber.now started count recorded.old.items recorded.new.items) }
 {
     while recorded.len() < count {
         let sites = calls(alloc, m, fiber)?;
-        recorded.push(Calls { sites, started: 0 })?;
+        recorded.push(Calls { sites, started })?;
     }
     Ok(())
 }
 
-/// Records the calls that stand at a pause, if they are wanted: once for each report that was made there.
-fn note_calls(
+/// Records the calls that stand at a pause, if they are wanted: once for each report that was made there. `started` is the site of
+/// the call that made the thread; 0 for that of `main`.
+pub fn note_calls(
     alloc: Global,
     m: &CheckedModule,
     running: &Running,
+    started: u32,
     wanted: bool,
     recorded: &mut Vec<Calls>,
 ) -> Result<(), NoMemory>
     requires { RunsSomewhere m.now running.now.fiber }
-    ensures { wanted ≡ true → OnOk result (Noted m.now running.now.fiber (length running.now.told.reports) recorded.old.items recorded.new.items) }
+    ensures { wanted ≡ true → OnOk result (Noted m.now running.now.fiber started (length running.now.told.reports) recorded.old.items recorded.new.items) }
 {
     if !wanted {
         return Ok(());
     }
     let count = running.told.reports.as_slice().len();
-    record_calls(alloc, m, &running.fiber, recorded, count)
+    record_calls(alloc, m, &running.fiber, started, recorded, count)
 }
 
 impl Recorded {
@@ -173,7 +177,7 @@ impl Recorded {
         m.law_valid();
         let _code = m.program();
         let answer = self.running.answer_of(alloc, m, &call, reports)?;
-        note_calls(alloc, m, &self.running, self.wanted, &mut self.calls)?;
+        note_calls(alloc, m, &self.running, 0, self.wanted, &mut self.calls)?;
         match answer {
             Answer::Ended(end) => Ok(Some(end)),
             Answer::Resumed(value) => {

@@ -19,4 +19,5 @@ pub mod FirstFibers
 pub mod ToldFibers
 pub mod UnderFills
 pub mod OneEach
+pub mod Unmade
 pub mod FirstCalls

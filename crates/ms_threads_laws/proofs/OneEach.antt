@@ -24,7 +24,7 @@ use Rattle.ms_runs_fills_laws.proofs.Kept.{given_back_kept, globals_kept}
 
 module _ {F S : Type 0} (means : Meaning F S) (sites : F → List ℕ) where
   -- reports are counted alone: no two states are alike
-  abbrev counting : Relation means means
+  abbrev pub counting : Relation means means
   counting = record {
     Go = λ f s g t. ⊥;
     At = λ f g. ⊥;
@@ -34,7 +34,7 @@ module _ {F S : Type 0} (means : Meaning F S) (sites : F → List ℕ) where
     count = λ w. length w.reports;
   }
 
-  none_alike : Laws means means counting
+  pub none_alike : Laws means means counting
   none_alike = record {
     due = λ f s g t h. absurd h;
     turn = λ f s g t h. absurd h;
@@ -52,7 +52,7 @@ module _ {F S : Type 0} (means : Meaning F S) (sites : F → List ℕ) where
     spent = λ f s g t h. absurd h;
   }
 
-  none_late : LateLaws means means counting
+  pub none_late : LateLaws means means counting
   none_late = record {
     step = λ e w g t h. absurd h;
     reach = λ e w g t h. absurd h;
@@ -108,7 +108,7 @@ module _ (s : Setting) (m : Module) where
   left_same [] w = refl
   left_same (f ∷ below) w = (given_back_kept f w).reports
 
-  grows : Counts (plain_fiber s m) (plain_fiber s m) (counting (plain_fiber s m) (call_sites m))
+  pub grows : Counts (plain_fiber s m) (plain_fiber s m) (counting (plain_fiber s m) (call_sites m))
   grows = record {
     step = λ frames shared. going_grows shared.world (plain_step s m (state_of frames shared)) (step_grows s m (state_of frames shared));
     reach = λ frames shared. going_grows shared.world (plain_reach s m frames shared) (reach_grows frames shared);

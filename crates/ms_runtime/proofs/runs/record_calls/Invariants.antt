@@ -8,7 +8,7 @@ use Rattle.ms_runtime.proofs.NotedCalls.{Noting}
 use Rattle.ms_runtime.proofs.runs.record_calls.Given as goal
 
 abbrev pub invariant-loop-recorded : goal.invariant-loop-recorded
-invariant-loop-recorded l = Noting l.m l.fiber l.count l.fn.recorded.items l.recorded.items
+invariant-loop-recorded l = Noting l.m l.fiber l.started l.count l.fn.recorded.items l.recorded.items
 
 abbrev pub decreases-loop-recorded : goal.decreases-loop-recorded
 decreases-loop-recorded l = l.count - length l.recorded.items
