@@ -19,8 +19,9 @@ use Rattle.ms_report.specs.RunTexts.{line, end_text, verdict_text, verdict_line,
 use Rattle.ms_report.specs.ReportTexts.{origin_line, origin_text, earlier, chain_text, origins_text, report_line, reports_text}
 use Rattle.ms_report.specs.FaultTexts.{refused_line, fault_text, fault_line}
 use Rattle.ms_report.specs.RefusalTexts.{lexer_text, reader_text, refusal_text, threads_text}
+use Rattle.ms_report.specs.SchedulesTexts.{tried_line, schedule_line, schedules_text}
 use Rattle.ms_report.specs.WithLines.{Lines, under_line, origin_site, end_site, refusal_site, chain_with, origins_with, reports_with, closing_text_with, refusal_text_with}
-use Rattle.ms_report.proofs.Singles.{Single, literal, joined, of_number, of_end, of_verdict, of_origin, of_use, of_bits, of_signed, of_place, of_path, of_cause, of_what, of_token}
+use Rattle.ms_report.proofs.Singles.{Single, literal, joined, of_number, of_hex, of_extent, of_end, of_verdict, of_origin, of_use, of_bits, of_signed, of_place, of_path, of_cause, of_what, of_token}
 use Rattle.ms_report.proofs.Indents.{IsLine, newline, line_after, Leaves, nothing, whole, both, without, stays, goes, goes_under}
 
 module _ (under : Lines) (all : (site : ℕ) → IsIndented (under site)) where
@@ -69,10 +70,29 @@ module _ (under : Lines) (all : (site : ℕ) → IsIndented (under site)) where
   pub blind_stays : (n : ℕ) → Leaves (line (codes "blind") (decimal n)) (line (codes "blind") (decimal n))
   blind_stays n = stays (line (codes "blind") (decimal n)) (value_line (codes "blind") _ (literal _ refl) (of_number n)) refl
 
+  closing_leaves : (m : Module) (r : RunResult) (verdict : Bool) → Leaves (closing_text_with under m r verdict) (closing_of m r verdict)
+  closing_leaves m r verdict =
+      both (both (both (without (end_stays m r) (goes_under under (end_site r.«end») all)) (reports_stay (length r.reports))) (blind_stays r.blind)) (verdict_leaves verdict r)
+
   pub closing_left : (m : Module) (r : RunResult) (verdict : Bool) → unindented (closing_text_with under m r verdict) ≡ closing_of m r verdict
-  closing_left m r verdict =
-      whole (closing_text_with under m r verdict) (closing_of m r verdict)
-      (both (both (both (without (end_stays m r) (goes_under under (end_site r.«end») all)) (reports_stay (length r.reports))) (blind_stays r.blind)) (verdict_leaves verdict r))
+  closing_left m r verdict = whole (closing_text_with under m r verdict) (closing_of m r verdict) (closing_leaves m r verdict)
+
+  -- ---- schedules
+
+  tried_stays : (tried : ℕ) (all_tried : Bool) → Leaves (tried_line tried all_tried) (tried_line tried all_tried)
+  tried_stays tried all_tried =
+      stays (tried_line tried all_tried) (value_line (codes "schedules") _ (literal _ refl) (joined (of_number tried) (of_extent all_tried))) refl
+
+  outcomes_stay : (n : ℕ) → Leaves (line (codes "outcomes") (decimal n)) (line (codes "outcomes") (decimal n))
+  outcomes_stay n = stays (line (codes "outcomes") (decimal n)) (value_line (codes "outcomes") _ (literal _ refl) (of_number n)) refl
+
+  schedule_stays : (shown : Bool) (schedule : List ℕ) → Leaves (schedule_line shown schedule) (schedule_line shown schedule)
+  schedule_stays false schedule = nothing
+  schedule_stays true schedule = stays (schedule_line true schedule) (value_line (codes "schedule") _ (literal _ refl) (of_hex schedule)) refl
+
+  schedules_stay : (tried : ℕ) (all_tried : Bool) (outcomes : ℕ) (shown : Bool) (schedule : List ℕ)
+      → Leaves (schedules_text tried all_tried outcomes shown schedule) (schedules_text tried all_tried outcomes shown schedule)
+  schedules_stay tried all_tried outcomes shown schedule = both (both (tried_stays tried all_tried) (outcomes_stay outcomes)) (schedule_stays shown schedule)
 
   -- ---- refusals
 
@@ -118,6 +138,14 @@ module _ (under : Lines) (all : (site : ℕ) → IsIndented (under site)) where
   threads_left = whole threads_text threads_text (refused_stays 18 (codes "threads") (literal _ refl))
 
   -- ---- for texts in front of others, and for faults alone
+
+  pub closing_before : (m : Module) (r : RunResult) (verdict : Bool) (tried : ℕ) (all_tried : Bool) (outcomes : ℕ) (shown : Bool) (schedule : List ℕ)
+      → unindented (closing_text_with under m r verdict ++ schedules_text tried all_tried outcomes shown schedule)
+      ≡ closing_of m r verdict ++ schedules_text tried all_tried outcomes shown schedule
+  closing_before m r verdict tried all_tried outcomes shown schedule =
+      let lines = schedules_text tried all_tried outcomes shown schedule in
+      whole (closing_text_with under m r verdict ++ lines) (closing_of m r verdict ++ lines)
+      (both (closing_leaves m r verdict) (schedules_stay tried all_tried outcomes shown schedule))
 
   pub reports_before : (m : Module) (n : ℕ) (rs : List Report) (rest : List ℕ) → unindented (reports_with under m n rs ++ rest) ≡ reports_text m n rs ++ unindented rest
   reports_before m n rs rest = (reports_leave m n rs).with rest

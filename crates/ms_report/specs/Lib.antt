@@ -8,3 +8,4 @@ pub mod CallTexts
 pub mod BriefTexts
 pub mod TrailTexts
 pub mod SummaryTexts
+pub mod SchedulesTexts

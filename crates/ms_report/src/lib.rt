@@ -1,4 +1,4 @@
-//! What is printed: the reports of a run, the way to one of them, how the run ended and its summary, and why a module or a command is refused. Every line ends with
+//! What is printed: the reports of a run, the way to one of them, how the run ended and its summary, which schedules were tried, and why a module or a command is refused. Every line ends with
 //! a newline.
 #![tactic(auto)]
 
@@ -10,6 +10,7 @@ mod lines;
 mod names;
 mod refusals;
 mod reports;
+mod schedules;
 mod site_lines;
 mod sites;
 mod summaries;
@@ -20,6 +21,7 @@ pub use endings::{closing, closing_calling, closing_with};
 pub use laws::{law_functions_are_named, law_lines_are_added};
 pub use refusals::{Refusal, refusal_line, refusal_line_with, threads_line};
 pub use reports::{report_text, report_text_calling, report_text_with};
+pub use schedules::schedules_text;
 pub use site_lines::{NoLines, SiteLines};
 pub use summaries::summary_text;
 pub use trails::trail_text_with;

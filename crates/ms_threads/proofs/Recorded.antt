@@ -4,7 +4,7 @@ use Rattle.std.specs.Prelude.{ltb}
 use Rattle.std.proofs.lemmas.List.{length-map, length-append}
 use Rattle.std.proofs.lemmas.Bool.{lt-ltb, le-ltb}
 use Rattle.ms_threads_schedules_laws.specs.Picks.{Pick}
-use Rattle.ms_threads.specs.declared.recorder.Pick.{Pick as Kept}
+use Rattle.ms_threads.specs.declared.recorder.Choice.{Choice as Kept}
 use Rattle.ms_threads.specs.declared.recorder.Recorder.{Recorder}
 use Rattle.ms_threads.specs.Recording.{pick_of, kept_picks, Records, RecordsNext}
 

@@ -1,7 +1,7 @@
 -- What a recorder holds of the picks that a run made (own).
 use Rattle.std.specs.Prelude.{◌≡◌, ℕ, List, [], ◌∷◌, ◌++◌, length, map, take, ltb}
 use Rattle.ms_threads_schedules_laws.specs.Picks.{Pick}
-use Rattle.ms_threads.specs.declared.recorder.Pick.{Pick as Kept}
+use Rattle.ms_threads.specs.declared.recorder.Choice.{Choice as Kept}
 use Rattle.ms_threads.specs.declared.recorder.Recorder.{Recorder}
 
 -- a pick, as the definitions have it

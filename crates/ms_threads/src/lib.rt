@@ -10,6 +10,6 @@ mod searching;
 mod thread_table;
 
 pub use instruments::instrument_threads;
-pub use recorder::{Pick, Recorder};
-pub use runs::{RecordedRun, record_threads, run_threads, run_threads_with_calls};
+pub use recorder::{Choice, Recorder};
+pub use runs::{RecordedRun, record_threads, run_threads, run_threads_told};
 pub use searching::threaded;

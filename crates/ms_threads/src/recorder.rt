@@ -7,7 +7,7 @@ use std::alloc::Global;
 
 /// A pick of a run: which thread went on, counted from 0 in order of number, of how many that could.
 #[derive(Clone, Copy, Debug, PartialEq, Eq)]
-pub struct Pick {
+pub struct Choice {
     pub chosen: u8,
     pub among: u8,
 }
@@ -18,7 +18,7 @@ const LIMIT: usize = 2048;
 /// The first picks of a run, in order; forced ones, among 1, too.
 #[derive(Drop)]
 pub struct Recorder {
-    pub picks: Vec<Pick>,
+    pub picks: Vec<Choice>,
     /// Whether more were made.
     pub more: bool,
 }
@@ -35,7 +35,7 @@ impl Recorder {
     }
 
     /// One more pick was made. Takes memory where it is kept.
-    pub fn record(&mut self, pick: Pick) -> Result<(), NoMemory>
+    pub fn record(&mut self, pick: Choice) -> Result<(), NoMemory>
         ensures { OnOk result (RecordsNext (pick_of pick) self.old self.new) }
     {
         if self.picks.len() >= LIMIT {

@@ -4,7 +4,7 @@ ghost use Rattle.ms_runs.specs.Threads.{fiber_limit, thread_at, join_answer as j
 ghost use Rattle.ms_runs_threads.specs.{Fibers.{waits as waits_of, is_runnable as is_runnable_of}, Calls.{start_of}};
 ghost use Rattle.ms_threads.specs.ThreadTables.{guest_at, asked_creates, call_joins, standing_of, standing_joins, threads_of, starts_of, stand_of, stands_of, runnable_in, joined_guest, ended_guest, Counted, IsNew, Added, Changed, SameCalls, Stands, Picked, part_at, site_of};
 
-use crate::recorder::{Pick, Recorder};
+use crate::recorder::{Choice, Recorder};
 use ms_bits::NoMemory;
 use ms_host::{Asked, HostCall};
 use ms_ir::External;
@@ -337,7 +337,7 @@ impl ThreadTable {
             return Ok(false);
         }
         let chosen = schedule[self.next_pick] as usize % count;
-        self.recorder.record(Pick {
+        self.recorder.record(Choice {
             chosen: chosen as u8,
             among: count as u8,
         })?;

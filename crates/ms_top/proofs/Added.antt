@@ -1,5 +1,6 @@
 -- What is said with the lines under each site is what is said without them, once these lines are taken out.
-use Rattle.std.proofs.Common.{◌≡◌, inl, inr, ℕ, Bool, true, false, List, ◌++◌, length, map, eqb, if◌then◌else◌, Option, Some, None, Result, Ok, Err, refl, sym, ap, ◌∙◌, append-nil, subst}
+use Rattle.std.proofs.Common.{◌≡◌, inl, inr, ℕ, Bool, true, false, List, ◌++◌, length, map, eqb, if◌then◌else◌, Option, Some, None, Result, Ok, Err, refl, sym, ap, ◌∙◌, append-nil, append_assoc, subst}
+use Rattle.std.specs.Prelude.{not}
 use Rattle.std.proofs.Math.Path.{ap₂}
 use Rattle.ms_ir.specs.declared.syntax.Module.{Module}
 use Rattle.ms_ir.specs.ThreadCalls.{is_threaded}
@@ -9,6 +10,7 @@ use Rattle.ms_runs.specs.declared.runs.RunResult.{RunResult}
 use Rattle.ms_runs.specs.declared.runs.Report.{Report}
 use Rattle.ms_runs.specs.declared.runs.Setup.{Setup}
 use Rattle.ms_runs.specs.Plain.{plain}
+use Rattle.ms_runs.specs.Verdict.{verdict_of}
 use Rattle.ms_trail_moves.specs.declared.moves.Source.{Source}
 use Rattle.ms_trail_moves.specs.declared.moves.Move.{Move}
 use Rattle.ms_trail_moves.specs.declared.moves.Hop.{Hop}
@@ -28,18 +30,20 @@ use Rattle.ms_report.specs.ReportTexts.{report_text_of}
 use Rattle.ms_report.specs.RunTexts.{closing_of}
 use Rattle.ms_report.specs.WithLines.{Lines, no_lines, fault_site, reports_with, closing_text_with}
 use Rattle.ms_report.proofs.WithoutLines.{none_under, reports_alone, closing_alone}
-use Rattle.ms_report.proofs.Unindented.{reports_before, closing_left, fault_left, refusal_left, threads_left}
+use Rattle.ms_report.proofs.Unindented.{reports_before, closing_before, closing_left, fault_left, refusal_left, threads_left}
 use Rattle.ms_report.proofs.TrailLines.{trail_left}
 use Rattle.ms_words.specs.declared.commands.Command.{Command}
-use Rattle.ms_words.specs.declared.commands.Command.TheVariants.{Run, Check, Explain, Corpus}
+use Rattle.ms_words.specs.declared.commands.Command.TheVariants.{Run, Check, CheckSchedules, Explain, Corpus}
 use Rattle.ms_words.specs.declared.commands.Options.{Options}
+use Rattle.ms_threads_schedules_laws.specs.Promise.{is_clean}
+use Rattle.ms_threads_explore.specs.declared.explorer.Explored.{Explored}
 use Rattle.ms_top.specs.declared.output.Output.{Output}
 use Rattle.ms_top.specs.Added.{with_locations, without_lines, without_any_lines, CorpusAdds}
 use Rattle.ms_top.specs.Command.{form_of, located_file, only_input, setup_of}
 use Rattle.ms_top.specs.Explained.{way_with, trace_with, followed, no_report, explained_with}
 use Rattle.ms_top.specs.Lines.{AreLinesIn, AreLines, fault_text_with}
 use Rattle.ms_top.specs.Runs.{plain_under}
-use Rattle.ms_top.specs.Said.{answer_of, answer_of_results, run_text, says, status_of, UnlessThreaded, IsExplanation, AreSections, IsAnswerToModule, IsAnswerToReading, IsAnswerToText}
+use Rattle.ms_top.specs.Said.{answer_of, answer_of_explored, answer_of_results, run_text, says, status_of, tried_text, UnlessThreaded, IsExplanation, AreSections, IsAnswerToModule, IsAnswerToReading, IsAnswerToText}
 
 -- ---- lines
 
@@ -83,6 +87,17 @@ module _ (under : Lines) (all : (site : ℕ) → IsIndented (under site)) (m : M
   explained_left : (s : Setup) (r : RunResult) → unindented (explained_with under m s r) ≡ explained_with no_lines m s r
   explained_left s r = report_left r.reports (followed m s) (eqb (length r.reports) 0)
 
+tried_left : (under : Lines) → ((site : ℕ) → IsIndented (under site)) → (m : Module) (e : Explored)
+    → unindented (run_text under true m e.result ++ tried_text e) ≡ run_text no_lines true m e.result ++ tried_text e
+tried_left under all m e =
+    let r = e.result in
+    let lines = tried_text e in
+    ap unindented (append_assoc (reports_with under m 1 r.reports) (closing_text_with under m r true) lines)
+    ∙ reports_before under all m 1 r.reports (closing_text_with under m r true ++ lines)
+    ∙ ap (λ (t : List ℕ). report_text_of m r ++ t) (closing_before under all m r true e.tried e.all e.outcomes (not (is_clean (verdict_of r))) e.schedule)
+    ∙ sym (append_assoc (report_text_of m r) (closing_of m r true) lines)
+    ∙ ap (λ (t : List ℕ). t ++ lines) (sym (run_alone true m r))
+
 pub run_taken_out : (command : Command) (text : List ℕ) (m : Module) (under : Lines) (verdict : Bool) (r : RunResult) → AreLines command text m under
     → unindented (run_text under verdict m r) ≡ report_text_of m r ++ closing_of m r verdict
 run_taken_out command text m under verdict r are = run_left under (all_indented (located_file command) (form_of command) text m under are) verdict m r
@@ -109,6 +124,12 @@ module _ (Gives : Module → Module → Type 0) where
       → a ≡ answer_of (status_of r) r.output (run_text under verdict m r) → without_lines a ≡ answer_of (status_of r) r.output (run_text no_lines verdict m r)
   run_said command text m under verdict r a are is =
       ap without_lines is ∙ ap (answer_of (status_of r) r.output) (run_taken_out command text m under verdict r are ∙ sym (run_alone verdict m r))
+
+  explored_said : (command : Command) (text : List ℕ) (m : Module) (under : Lines) (e : Explored) (a : Output) → AreLines command text m under
+      → a ≡ answer_of_explored under m e → without_lines a ≡ answer_of_explored no_lines m e
+  explored_said command text m under e a are is =
+      ap without_lines is
+      ∙ ap (answer_of (status_of e.result) e.result.output) (tried_left under (all_indented (located_file command) (form_of command) text m under are) m e)
 
   reading_said : (cause : ReadError) (a : Output) → a ≡ says 5 (refusal_text (Read cause)) → without_lines a ≡ says 5 (refusal_text (Read cause))
   reading_said cause a is = ap without_lines is ∙ ap (says 5) (reading_left cause)
@@ -166,6 +187,22 @@ module _ (Gives : Module → Module → Type 0) where
     explain_reading (Err (e.Refused number w token place)) a is = ap (λ (x : Output). record x { out = unindented x.out }) (reading_said (e.Refused number w token place) a is)
     explain_reading (Err e.NoMemory) a is = is
 
+  module _ (file : List ℕ) (o : Options) (runs workers : ℕ) (inputs : List (List ℕ)) (text : List ℕ) where
+    abbrev asking : Bool → Command
+    asking asked = CheckSchedules file (with_locations asked o) runs workers
+
+    schedules_module : (m : Module) (under : Lines) (a : Output) → AreLines (asking true) text m under → IsAnswerToModule Gives under (asking true) inputs m a
+        → IsAnswerToModule Gives no_lines (asking false) inputs m (without_lines a)
+    schedules_module m under a are (inl (f, refused, is)) = inl (f, refused, fault_said (asking true) text m under f a are is)
+    schedules_module m under a are (inr (valid, (j, gives, e, explored, is))) = inr (valid, (j, gives, e, explored, explored_said (asking true) text m under e a are is))
+
+    schedules_reading : (r : Result Module ReadError) (a : Output) → IsAnswerToReading Gives (asking true) inputs text r a
+        → IsAnswerToReading Gives (asking false) inputs text r (without_lines a)
+    schedules_reading (Ok m) a (under, are, is) = (no_lines, refl, schedules_module m under a are is)
+    schedules_reading (Err (e.Lex cause)) a is = reading_said (e.Lex cause) a is
+    schedules_reading (Err (e.Refused number w token place)) a is = reading_said (e.Refused number w token place) a is
+    schedules_reading (Err e.NoMemory) a is = is
+
   module _ (file : List ℕ) (names : List (List ℕ)) (o : Options) (workers : ℕ) (inputs : List (List ℕ)) (text : List ℕ) where
     corpus_module : (m : Module) (under : Lines) (a : Output) → IsReading Plain text (Ok m) → AreLines (Corpus file names (with_locations true o) workers) text m under
         → IsAnswerToModule Gives under (Corpus file names (with_locations true o) workers) inputs m a → CorpusAdds Gives file names o workers inputs text a
@@ -218,6 +255,11 @@ run_added Gives file o inputs text a (r, reading, answers) = (r, reading, run_re
 pub check_added : (Gives : Module → Module → Type 0) (file : List ℕ) (o : Options) (inputs : List (List ℕ)) (text : List ℕ) (a : Output)
     → IsAnswerToText Gives (Check file (with_locations true o)) inputs text a → IsAnswerToText Gives (Check file (with_locations false o)) inputs text (without_lines a)
 check_added Gives file o inputs text a (r, reading, answers) = (r, reading, check_reading Gives file o inputs text r a answers)
+
+pub schedules_added : (Gives : Module → Module → Type 0) (file : List ℕ) (o : Options) (runs workers : ℕ) (inputs : List (List ℕ)) (text : List ℕ) (a : Output)
+    → IsAnswerToText Gives (CheckSchedules file (with_locations true o) runs workers) inputs text a
+    → IsAnswerToText Gives (CheckSchedules file (with_locations false o) runs workers) inputs text (without_lines a)
+schedules_added Gives file o runs workers inputs text a (r, reading, answers) = (r, reading, schedules_reading Gives file o runs workers inputs text r a answers)
 
 pub explain_added : (Gives : Module → Module → Type 0) (file : List ℕ) (o : Options) (inputs : List (List ℕ)) (text : List ℕ) (a : Output)
     → IsAnswerToText Gives (Explain file (with_locations true o)) inputs text a → IsAnswerToText Gives (Explain file (with_locations false o)) inputs text (without_any_lines a)

@@ -18,7 +18,7 @@ use Rattle.ms_gen.specs.Generator.{generated}
 use Rattle.ms_check_valid.specs.Valid.{Valid}
 use Rattle.ms_check_valid.proofs.Refused.{invalid}
 use Rattle.ms_words.specs.declared.commands.Command.{Command}
-use Rattle.ms_words.specs.declared.commands.Command.TheVariants.{Instrument, Run, Check, Explain, Corpus, Gen, Help, Version}
+use Rattle.ms_words.specs.declared.commands.Command.TheVariants.{Instrument, Run, Check, CheckSchedules, Explain, Corpus, Gen, Help, Version}
 use Rattle.ms_words.specs.declared.commands.Options.{Options}
 use Rattle.ms_words.specs.Words.{command_of}
 use Rattle.ms_top.specs.declared.output.Output.{Output}
@@ -117,6 +117,7 @@ pub valid_done : (under : Lines) (command : Command) (inputs : List (List ℕ)) 
 valid_done under (Instrument file) inputs m a taken (j, gives, is) = done a 0 _ _ is (inl refl)
 valid_done under (Run file o) inputs m a taken is = done a _ _ _ is (run_done _ _)
 valid_done under (Check file o) inputs m a taken (j, gives, is) = done a _ _ _ is (run_done _ _)
+valid_done under (CheckSchedules file o runs workers) inputs m a taken (j, gives, e, explored, is) = done a _ _ _ is (run_done _ _)
 valid_done under (Explain file o) inputs m a alone is =
     taken_done (is_threaded m) a (IsExplanation IsInstrumented under (setup_of o (only_input inputs)) m a) alone (λ h. done a _ _ _ h.2 (run_done _ _)) is
 valid_done under (Corpus file names o workers) inputs m a alone is =

@@ -33,7 +33,7 @@ use Rattle.ms_text_laws.proofs.FormedModules.{read_formed}
 use Rattle.ms_text_laws.proofs.SmallLimits.{can_instrument}
 use Rattle.ms_top.specs.declared.output.Output.{Output}
 use Rattle.ms_words.specs.declared.commands.Command.{Command}
-use Rattle.ms_words.specs.declared.commands.Command.TheVariants.{Instrument, Run, Check, Explain, Corpus, Gen, Help, Version}
+use Rattle.ms_words.specs.declared.commands.Command.TheVariants.{Instrument, Run, Check, CheckSchedules, Explain, Corpus, Gen, Help, Version}
 use Rattle.ms_words.specs.declared.commands.Options.{Options}
 use Rattle.ms_report.specs.declared.refusals.Refusal.TheVariants.{Read as Of, Check as OfCheck}
 use Rattle.ms_words.specs.Limits.{RunsWithinLimits}
@@ -43,15 +43,17 @@ use Rattle.ms_where.specs.Lines.{lines_of_site}
 use Rattle.ms_top.specs.Command.{form_of, located_file, input_limit, only_input, setup_of}
 use Rattle.ms_top.specs.Lines.{AreLinesIn, AreLines}
 use Rattle.ms_corpus.specs.Jobs.{with_input}
-use Rattle.ms_top.specs.Parts.{AreShort, AreWithinLimits, IsReady, IsRunOfGiven, AreRunsOfGiven}
+use Rattle.ms_threads_explore.specs.declared.explorer.Explored.{Explored}
+use Rattle.ms_threads_explore.specs.Explorations.{IsExplored}
+use Rattle.ms_top.specs.Parts.{AreShort, AreWithinLimits, IsExploredOfGiven, IsReady, IsRunOfGiven, AreRunsOfGiven}
 use Rattle.ms_report.specs.FaultTexts.{fault_line}
 use Rattle.ms_report.specs.WithLines.{Lines, no_lines, under_line, fault_site, refusal_text_with}
 use Rattle.ms_report.specs.RefusalTexts.{IsNumbered, IsReadRefusal, refusal_text, threads_text, wants_memory}
 use Rattle.ms_words.specs.Words.{defaults}
 use Rattle.ms_threads.specs.Faithful.{IsSchedule}
-use Rattle.ms_top.specs.Runs.{plain_under}
+use Rattle.ms_top.specs.Runs.{plain_under, plain_picks_under}
 use Rattle.ms_report.specs.SummaryTexts.{summary_of}
-use Rattle.ms_top.specs.Said.{says, answer_of, answer_of_result, answer_of_results, status_of, UnlessThreaded, IsAnswerOfCheck, AreSections, IsAnswerOfGen, IsAnswerToValid, IsAnswerToModule, IsAnswerToReading, IsAnswerToText}
+use Rattle.ms_top.specs.Said.{says, answer_of, answer_of_explored, answer_of_result, answer_of_results, status_of, UnlessThreaded, IsAnswerOfCheck, IsAnswerOfSchedules, AreSections, IsAnswerOfGen, IsAnswerToValid, IsAnswerToModule, IsAnswerToReading, IsAnswerToText}
 
 -- ---- runs
 
@@ -102,6 +104,17 @@ pub check_answer : (Gives : Module → Module → Type 0) (under : Lines) (m n :
     → IsRunOfGiven Gives m s schedule r → a ≡ answer_of_result under true n r → IsAnswerOfCheck Gives under t picks m a
 check_answer Gives under m n s t schedule picks r a same given alike q is =
     (q.0, q.1, is ∙ ap (λ k. answer_of_result under true k r) same ∙ ap (answer_of_result under true m) (q.2 ∙ ap₂ (plain_under (is_threaded m) q.0) given alike))
+
+-- what exploring tells
+pub schedules_answer : (Gives : Module → Module → Type 0) (under : Lines) (m n : Module) (s t : Setup) (runs : ℕ) (e : Explored) (a : Output) → n ≡ m → s ≡ t
+    → IsExploredOfGiven Gives m s runs e → a ≡ answer_of_explored under n e → IsAnswerOfSchedules Gives under t runs m a
+schedules_answer Gives under m n s t runs e a same given q is = (
+  q.0,
+  q.1,
+  e,
+  subst (λ (setup : Setup). IsExplored (plain_picks_under (is_threaded m) q.0 setup) (plain_under (is_threaded m) q.0 setup) runs e) given q.2,
+  is ∙ ap (λ (k : Module). answer_of_explored under k e) same,
+)
 
 -- the runs on many inputs
 pub corpus_answer : (Gives : Module → Module → Type 0) (under : Lines) (m n : Module) (names : List (List ℕ)) (o : Options) (s : Setup) (inputs : List (List ℕ)) (rs : List RunResult) (a : Output) → n ≡ m → s ≡ setup_of o []
@@ -157,6 +170,7 @@ pub ready : (command : Command) (form : Form) (text : List ℕ) (r : Result Modu
 ready (Instrument file) form text r m same read is = read_plain form text r m same read is
 ready (Run file o) form text r m same read is = tt
 ready (Check file o) form text r m same read is = read_plain form text r m same read is
+ready (CheckSchedules file o runs workers) form text r m same read is = read_plain form text r m same read is
 ready (Explain file o) form text r m same read is = read_plain form text r m same read is
 ready (Corpus file inputs o workers) form text r m same read is = read_plain form text r m same read is
 ready (Gen seed functions run) form text r m same read is = read_plain form text r m same read is

@@ -3,6 +3,7 @@ pub mod Answered
 pub mod Appending
 pub mod Answering
 pub mod Explaining
+pub mod Exploring
 pub mod Faithful
 pub mod GeneratedRuns
 pub mod Making

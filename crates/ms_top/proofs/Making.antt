@@ -15,7 +15,7 @@ use Rattle.ms_pass.specs.Passed.{IsMadeOf}
 use Rattle.ms_threads.proofs.FaithfulRuns.{faithful_threads, threads_hold}
 use Rattle.ms_threads.proofs.Stripped.{same_threads as inserted_same}
 use Rattle.ms_top.specs.Instrumented.{IsInstrumented}
-use Rattle.ms_top.specs.Runs.{plain_under, shadow_under, HoldsUnder}
+use Rattle.ms_top.specs.Runs.{plain_under, plain_picks_under, shadow_under, shadow_picks_under, HoldsUnder}
 
 -- what the pass makes of m is j
 pub record IsMade (m j : Module) : Type 0 where
@@ -35,6 +35,7 @@ module _ (m : Module) (formed : Formed m) (valid : Valid m) (can : CanInstrument
     elided = is.elided;
     made = is.made;
     runs = λ s fair schedule some. subst (λ t. plain_under t j s schedule ≡ shadow_under t m s schedule) (sym none) (is.faithful.runs s fair);
+    picks = λ s fair schedule some. subst (λ t. plain_picks_under t j s schedule ≡ shadow_picks_under t m s schedule) (sym none) refl;
     holds = λ s fair schedule some.
         subst (λ t. HoldsUnder t m s schedule (plain_under t j s schedule)) (sym none) (checked_holds m formed valid none can.plain.unmarked j is.faithful s fair);
     undisturbed = λ s fair schedule some.
@@ -53,6 +54,7 @@ module _ (m : Module) (formed : Formed m) (valid : Valid m) (can : CanInstrument
         elided = is.elided;
         made = is.made;
         runs = λ s fair schedule some. subst (λ t. plain_under t j s schedule ≡ shadow_under t m s schedule) (sym some_are) (threads.runs s fair schedule some);
+        picks = λ s fair schedule some. subst (λ t. plain_picks_under t j s schedule ≡ shadow_picks_under t m s schedule) (sym some_are) (threads.picks s fair schedule some);
         holds = λ s fair schedule some.
             subst (λ t. HoldsUnder t m s schedule (plain_under t j s schedule)) (sym some_are) (threads_hold m formed valid can j is.elided s fair schedule);
         undisturbed = λ s fair schedule some.

@@ -25,7 +25,7 @@ use Rattle.ms_where.specs.Lines.{lines_of_site}
 use Rattle.ms_report.specs.WithLines.{Lines}
 use Rattle.ms_top.specs.declared.output.Output.{Output}
 use Rattle.ms_words.specs.declared.commands.Command.{Command}
-use Rattle.ms_words.specs.declared.commands.Command.TheVariants.{Instrument, Run, Check, Explain, Corpus, Gen, Help, Version}
+use Rattle.ms_words.specs.declared.commands.Command.TheVariants.{Instrument, Run, Check, CheckSchedules, Explain, Corpus, Gen, Help, Version}
 use Rattle.ms_words.specs.declared.commands.WordsError.{WordsError}
 use Rattle.ms_words.specs.declared.commands.Options.{Options}
 use Rattle.ms_words.specs.Words.{command_of, defaults}
@@ -34,9 +34,11 @@ use Rattle.ms_top.specs.Command.{form_of, files_of, located_file, only_input, se
 use Rattle.ms_top.specs.Files.{Counted, FilesRead, Whole, Fault, Long, after, IsAtFault, IsLong, CanRead}
 use Rattle.ms_top.specs.Instrumented.{IsInstrumented}
 use Rattle.ms_top.specs.Lines.{AreLinesIn, AreLines, fault_text_with}
-use Rattle.ms_top.specs.Runs.{plain_under}
+use Rattle.ms_threads_explore.specs.Explorations.{IsExplored}
+use Rattle.ms_top.specs.Runs.{plain_under, plain_picks_under}
 use Rattle.ms_report.specs.SummaryTexts.{summary_of}
-use Rattle.ms_top.specs.Said.{answer_of, answer_of_result, answer_of_explained, answer_of_results, status_of, says, DifferInPath, UnlessThreaded, IsExplanation, AreSections, IsAnswerOfGen, IsAnswerWithoutFile, IsAnswerToValid, IsAnswerToModule, IsAnswerToReading, IsAnswerToText, IsAnswerToTexts, IsAnswerToFiles, IsAnswerToCommand, IsAnswerFor, IsAnswer}
+use Rattle.ms_top.specs.Said.{answer_of, answer_of_result, answer_of_explained, answer_of_explored, answer_of_results, status_of, says, DifferInPath, UnlessThreaded, IsExplanation, AreSections, IsAnswerOfGen, IsAnswerOfSchedules, IsAnswerWithoutFile, IsAnswerToValid, IsAnswerToModule, IsAnswerToReading, IsAnswerToText, IsAnswerToTexts, IsAnswerToFiles, IsAnswerToCommand, IsAnswerFor, IsAnswer}
+use Rattle.ms_top.proofs.Exploring.{explored_once}
 
 -- ---- texts
 
@@ -91,10 +93,18 @@ of_sections under names o inputs m a b (j, p, is) (k, q, same) =
 of_explanation : (under : Lines) (s : Setup) (m : Module) (a b : Output) → IsExplanation IsInstrumented under s m a → IsExplanation IsInstrumented under s m b → a ≡ b
 of_explanation under s m a b (j, p, is) (k, q, same) = is ∙ ap (λ n. answer_of_explained under m s (plain n s)) (made_once m j k p q) ∙ sym same
 
+of_schedules : (under : Lines) (s : Setup) (runs : ℕ) (m : Module) (a b : Output) → IsAnswerOfSchedules IsInstrumented under s runs m a
+    → IsAnswerOfSchedules IsInstrumented under s runs m b → a ≡ b
+of_schedules under s runs m a b (j, p, e, explored, is) (k, q, f, again, same) =
+    let t = is_threaded m in
+    let back = subst (λ (n : Module). IsExplored (plain_picks_under t n s) (plain_under t n s) runs f) (made_once m k j q p) again in
+    is ∙ ap (answer_of_explored under m) (explored_once (plain_picks_under t j s) (plain_under t j s) runs e f explored back) ∙ sym same
+
 of_valid : (under : Lines) (command : Command) (inputs : List (List ℕ)) (m : Module) (a b : Output) → IsAnswerToValid IsInstrumented under command inputs m a
     → IsAnswerToValid IsInstrumented under command inputs m b → a ≡ b
 of_valid under (Instrument file) inputs m a b (j, p, is) (k, q, same) = is ∙ ap (λ n. answer_of 0 (written n) []) (made_once m j k p q) ∙ sym same
 of_valid under (Run file o) inputs m a b p q = p ∙ sym q
+of_valid under (CheckSchedules file o runs workers) inputs m a b p q = of_schedules under (setup_of o (only_input inputs)) runs m a b p q
 of_valid under (Corpus file names o workers) inputs m a b p q = by_threads (is_threaded m) a b _ _ (of_sections under names o inputs m a b) p q
 of_valid under (Explain file o) inputs m a b p q = by_threads (is_threaded m) a b _ _ (of_explanation under (setup_of o (only_input inputs)) m a b) p q
 of_valid under (Gen seed functions run) inputs m a b p q = of_gen run m a b p q
@@ -172,6 +182,7 @@ module _ (c : Counted) (files : Holdings) (told : c.told ≡ Some files) (steady
   without_file (Instrument file) a b p q = absurd p
   without_file (Run file o) a b p q = absurd p
   without_file (Check file o) a b p q = absurd p
+  without_file (CheckSchedules file o runs workers) a b p q = absurd p
   without_file (Explain file o) a b p q = absurd p
   without_file (Corpus file names o workers) a b p q = absurd p
   without_file (Gen seed functions run) a b p q = of_gen run (generated seed functions) a b p q

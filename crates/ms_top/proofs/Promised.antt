@@ -11,17 +11,17 @@ use Rattle.ms_runs_laws.proofs.Numbering.{no_marks}
 use Rattle.ms_read_body.specs.declared.errors.ReadError.{ReadError}
 use Rattle.ms_read_body.specs.declared.errors.ReadError.TheVariants as e
 use Rattle.ms_read_top.specs.Reading.{IsReading}
-use Rattle.ms_words.specs.Limits.{RunsWithinLimits}
-use Rattle.ms_words.specs.declared.commands.Command.TheVariants.{Check, Corpus, Explain}
+use Rattle.ms_words.specs.Limits.{RunsWithinLimits, SchedulesWithinLimits}
+use Rattle.ms_words.specs.declared.commands.Command.TheVariants.{Check, CheckSchedules, Corpus, Explain}
 use Rattle.ms_words.specs.declared.commands.Command.{Command}
 use Rattle.ms_words.specs.declared.commands.Options.{Options}
 use Rattle.ms_top.specs.declared.output.Output.{Output}
 use Rattle.ms_top.specs.Command.{files_of, form_of, input_files, input_limit, only_input, setup_of}
 use Rattle.ms_top.specs.Files.{Counted, FilesRead, Whole, Fault, Long, CanRead}
 use Rattle.ms_top.specs.Instrumented.{IsInstrumented}
-use Rattle.ms_top.specs.Promised.{CorpusShown, HoldsUnderChanges, InputHolds, NothingRan, ShadowShown, ThreadsRefused, WayShown}
+use Rattle.ms_top.specs.Promised.{CorpusShown, HoldsUnderChanges, InputHolds, NothingRan, SchedulesShown, ShadowShown, ThreadsRefused, WayShown}
 use Rattle.ms_top.specs.Lines.{AreLines}
-use Rattle.ms_top.specs.Runs.{plain_under, HoldsUnder}
+use Rattle.ms_top.specs.Runs.{plain_under, shadow_under, shadow_picks_under, HoldsUnder}
 use Rattle.ms_top.specs.Said.{answer_of_result, says, IsExplanation, IsAnswerToValid, IsAnswerWithoutFile, IsAnswerToModule, IsAnswerToReading, IsAnswerToFiles, IsAnswerToCommand, IsAnswerFor, IsAnswer, AreSections}
 use Rattle.ms_report.specs.WithLines.{Lines}
 use Rattle.ms_check_valid.specs.Valid.{Valid}
@@ -42,6 +42,10 @@ use Rattle.ms_top.proofs.Answering.{scheduled}
 use Rattle.ms_top.proofs.Explaining.{WaysStay, explained_shadow, explained_way, explained_none}
 use Rattle.ms_top.proofs.Faithful.{corpus_shown, fair_options, alone_says, holds_alone, runs_alone}
 use Rattle.ms_text_grammar.proofs.Readings.{one_reading}
+use Rattle.ms_text_laws.proofs.SmallLimits.{can_instrument}
+use Rattle.ms_threads_explore.specs.Explorations.{IsExplored}
+use Rattle.ms_threads_explore.proofs.Holding.{all_hold as all_schedules_hold, told_some}
+use Rattle.ms_top.proofs.Exploring.{shadow_explored, repeats_under}
 
 abbrev IsByte : ℕ → Type 0
 IsByte b = b < 2 ^ 8
@@ -177,7 +181,7 @@ module _ (c : Counted) (command : Command) (a : Output) (is_plain : form_of comm
   pub promises : IsAnswerToCommand IsInstrumented c command a → Promise
   promises (r, can, answers) = by_files r can answers
 
--- ---- checks and explanations
+-- ---- checks
 
 -- what a clean verdict says holds where uninitialised bits change
 under_changes : (m : Module) → Formed m → Valid m → is_threaded m ≡ false → NoMarks m → (s : Setup) → Fair s → HoldsUnderChanges m s
@@ -219,6 +223,60 @@ check_promises c file o a fit answer = elim (promises c (Check file o) a refl (�
 pub words_promise : (c : Counted) (words : List (List ℕ)) (file : List ℕ) (o : Options) (a : Output) → command_of words ≡ Ok (Check file o) → IsAnswer IsInstrumented c words a
     → NothingRan c (files_of (Check file o)) a ⊎ ShadowShown c file o a
 words_promise c words file o a is answer = check_promises c file o a (command_within words (Check file o) is) (subst (λ r. IsAnswerFor IsInstrumented c r a) is answer)
+
+-- ---- several schedules
+
+-- what `check` says of a text that is read as a valid module
+schedules_are_shown : (c : Counted) (file : List ℕ) (o : Options) (runs workers : ℕ) (a : Output) → SchedulesWithinLimits o runs workers → Answered c (CheckSchedules file o runs workers) a
+    → SchedulesShown c file o runs workers a
+schedules_are_shown c file o runs workers a fit h =
+    let m = h.module_read in
+    let t = is_threaded m in
+    let s = setup_of o (only_input h.inputs) in
+    let j = h.answer.0 in
+    let made = h.answer.1 in
+    let e = h.answer.2 in
+    let explored = h.answer.3 in
+    let fair = check_is_fair c file o h.text h.inputs fit.options h.read in
+    let some = told_some _ _ runs e fit.some_runs explored in
+    let again = repeats_under t j s runs e fit.some_runs explored in
+    let bytes = texts_are_bytes c (files_of (CheckSchedules file o runs workers)) (h.text ∷ h.inputs) h.read in
+    let formed = read_formed Plain h.text m (tested h.text (All-head (λ text. All IsByte text) h.text h.inputs bytes)) h.reads in
+    let of_shadow = shadow_explored m j made s fair runs e explored in
+    record {
+      text = h.text;
+      inputs = h.inputs;
+      read = h.read;
+      module_read = m;
+      reads = h.reads;
+      formed = formed;
+      valid = h.valid;
+      unmarked = no_marks j m made.strips;
+      under = h.under;
+      lines = h.lines;
+      fair = fair;
+      explored = e;
+      explores = of_shadow;
+      shown = h.answer.4;
+      repeats = sym (made.runs s fair e.schedule some) ∙ again;
+      fills = subst (HoldsUnder t m s e.schedule) again (made.holds s fair e.schedule some);
+      all = λ threads all clean.
+          all_schedules_hold m formed h.valid (can_instrument h.text m h.reads) s (record { input = fair.bytes; fill = fair.fill }) runs e
+          (subst (λ (t : Bool). IsExplored (shadow_picks_under t m s) (shadow_under t m s) runs e) threads of_shadow) all clean;
+    }
+
+pub schedules_promise : (c : Counted) (file : List ℕ) (o : Options) (runs workers : ℕ) (a : Output) → SchedulesWithinLimits o runs workers
+    → IsAnswerToCommand IsInstrumented c (CheckSchedules file o runs workers) a
+    → NothingRan c (files_of (CheckSchedules file o runs workers)) a ⊎ SchedulesShown c file o runs workers a
+schedules_promise c file o runs workers a fit answer =
+    elim (promises c (CheckSchedules file o runs workers) a refl (λ h. h) answer) [ inl nothing ↦ inl nothing | inr answered ↦ inr (schedules_are_shown c file o runs workers a fit answered) ]
+
+pub schedules_words_promise : (c : Counted) (words : List (List ℕ)) (file : List ℕ) (o : Options) (runs workers : ℕ) (a : Output) → command_of words ≡ Ok (CheckSchedules file o runs workers)
+    → IsAnswer IsInstrumented c words a → NothingRan c (files_of (CheckSchedules file o runs workers)) a ⊎ SchedulesShown c file o runs workers a
+schedules_words_promise c words file o runs workers a is answer =
+    schedules_promise c file o runs workers a (command_within words (CheckSchedules file o runs workers) is) (subst (λ r. IsAnswerFor IsInstrumented c r a) is answer)
+
+-- ---- explanations
 
 -- what `check` says of the text of which this is what `explain` says
 abbrev check_of : (o : Options) (m j : Module) (under : Lines) (inputs : List (List ℕ)) → Output

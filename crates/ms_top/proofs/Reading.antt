@@ -59,6 +59,7 @@ pub named : (file : List ℕ) (action : Action) → module_file (command_with fi
 named file actions.Instrument = refl
 named file (actions.Run options) = refl
 named file (actions.Check options) = refl
+named file (actions.CheckSchedules options runs workers) = refl
 named file (actions.Explain options) = refl
 named file (actions.Corpus inputs options workers) = refl
 

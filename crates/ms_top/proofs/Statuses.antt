@@ -8,7 +8,7 @@ use Rattle.ms_read_body.specs.declared.errors.ReadError.{ReadError}
 use Rattle.ms_read_body.specs.declared.errors.ReadError.TheVariants as e
 use Rattle.ms_top.specs.declared.output.Output.{Output}
 use Rattle.ms_words.specs.declared.commands.Command.{Command}
-use Rattle.ms_words.specs.declared.commands.Command.TheVariants.{Instrument, Run, Check, Explain, Corpus, Gen, Help, Version}
+use Rattle.ms_words.specs.declared.commands.Command.TheVariants.{Instrument, Run, Check, CheckSchedules, Explain, Corpus, Gen, Help, Version}
 use Rattle.ms_words.specs.declared.commands.WordsError.{WordsError}
 use Rattle.ms_words.specs.Words.{command_of}
 use Rattle.ms_report.specs.WithLines.{Lines}
@@ -49,6 +49,7 @@ module _ (Gives : Module → Module → Type 0) where
   to_valid-not_seven under (Instrument file) inputs m a (j, gives, is) = with-status a 0 _ _ is (λ h. omega arith)
   to_valid-not_seven under (Run file o) inputs m a is = with-status a _ _ _ is (chosen-not_seven _ _)
   to_valid-not_seven under (Check file o) inputs m a (j, gives, is) = with-status a _ _ _ is (chosen-not_seven _ _)
+  to_valid-not_seven under (CheckSchedules file o runs workers) inputs m a (j, gives, e, explored, is) = with-status a _ _ _ is (chosen-not_seven _ _)
   to_valid-not_seven under (Explain file o) inputs m a is =
       by_threads-not_seven (is_threaded m) a (IsExplanation Gives under (setup_of o (only_input inputs)) m a) (λ h. with-status a _ _ _ h.2 (chosen-not_seven _ _)) is
   to_valid-not_seven under (Corpus file names o workers) inputs m a is =
@@ -74,6 +75,7 @@ module _ (Gives : Module → Module → Type 0) where
   without_file-not_seven (Instrument file) a is = absurd is
   without_file-not_seven (Run file o) a is = absurd is
   without_file-not_seven (Check file o) a is = absurd is
+  without_file-not_seven (CheckSchedules file o runs workers) a is = absurd is
   without_file-not_seven (Explain file o) a is = absurd is
   without_file-not_seven (Corpus file names o workers) a is = absurd is
   without_file-not_seven (Gen seed functions run) a is = of_gen-not_seven run (generated seed functions) a is

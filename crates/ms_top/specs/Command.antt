@@ -5,7 +5,7 @@ use Rattle.ms_ir.specs.declared.forms.Form.{Form}
 use Rattle.ms_ir.specs.declared.forms.Form.TheVariants.{Plain, Instrumented}
 use Rattle.ms_text_grammar.specs.Texts.{max_bytes}
 use Rattle.ms_words.specs.declared.commands.Command.{Command}
-use Rattle.ms_words.specs.declared.commands.Command.TheVariants.{Instrument, Run, Check, Explain, Corpus, Gen, Help, Version}
+use Rattle.ms_words.specs.declared.commands.Command.TheVariants.{Instrument, Run, Check, CheckSchedules, Explain, Corpus, Gen, Help, Version}
 use Rattle.ms_words.specs.declared.commands.Options.{Options}
 
 -- ---- parts of a command
@@ -15,6 +15,7 @@ abbrev pub module_file : Command → Option (List ℕ)
 module_file (Instrument file) = Some file
 module_file (Run file options) = Some file
 module_file (Check file options) = Some file
+module_file (CheckSchedules file options runs workers) = Some file
 module_file (Explain file options) = Some file
 module_file (Corpus file inputs options workers) = Some file
 module_file (Gen seed functions run) = None
@@ -26,6 +27,7 @@ abbrev pub form_of : Command → Form
 form_of (Instrument file) = Plain
 form_of (Run file options) = Instrumented
 form_of (Check file options) = Plain
+form_of (CheckSchedules file options runs workers) = Plain
 form_of (Explain file options) = Plain
 form_of (Corpus file inputs options workers) = Plain
 form_of (Gen seed functions run) = Plain
@@ -41,6 +43,7 @@ abbrev pub input_names : Command → List (List ℕ)
 input_names (Instrument file) = []
 input_names (Run file options) = option_to_list options.input
 input_names (Check file options) = option_to_list options.input
+input_names (CheckSchedules file options runs workers) = option_to_list options.input
 input_names (Explain file options) = option_to_list options.input
 input_names (Corpus file inputs options workers) = inputs
 input_names (Gen seed functions run) = []
@@ -51,6 +54,7 @@ input_names Version = []
 abbrev pub located_file : Command → Option (List ℕ)
 located_file (Run file options) = if options.locations then Some file else None
 located_file (Check file options) = if options.locations then Some file else None
+located_file (CheckSchedules file options runs workers) = if options.locations then Some file else None
 located_file (Explain file options) = if options.locations then Some file else None
 located_file (Corpus file inputs options workers) = if options.locations then Some file else None
 located_file command = None

@@ -1,5 +1,5 @@
 -- What the parts of the code say of files and modules. What `msan` promises does not name them.
-use Rattle.std.specs.Prelude.{◌≡◌, ◌≤◌, ℕ, Bool, true, false, List, All, length, map, codes}
+use Rattle.std.specs.Prelude.{◌≡◌, ◌≤◌, ℕ, Bool, true, false, List, [], ◌∷◌, All, length, map, codes}
 use Rattle.ms_io.specs.declared.traits.FileError.{FileError}
 use Rattle.ms_io.specs.declared.traits.FileError.TheVariants.{Failed, Absent, TooLong, NoMemory}
 use Rattle.ms_ir.specs.declared.syntax.Module.{Module}
@@ -13,14 +13,16 @@ use Rattle.ms_check_valid.specs.Uninstrumented.{CanInstrument}
 use Rattle.ms_report.specs.RunTexts.{line}
 use Rattle.ms_top.specs.declared.output.Output.{Output}
 use Rattle.ms_words.specs.declared.commands.Command.{Command}
-use Rattle.ms_words.specs.declared.commands.Command.TheVariants.{Instrument, Run, Check, Explain, Corpus, Gen, Help, Version}
+use Rattle.ms_words.specs.declared.commands.Command.TheVariants.{Instrument, Run, Check, CheckSchedules, Explain, Corpus, Gen, Help, Version}
 use Rattle.ms_words.specs.declared.commands.WordsError.{WordsError}
 use Rattle.ms_words.specs.declared.commands.WordsError.TheVariants.{NoMemory as WantsMemory}
 use Rattle.ms_runs.specs.Limits.{WithinLimits}
 use Rattle.ms_corpus.specs.Jobs.{with_input}
 use Rattle.ms_top.specs.Command.{input_names, input_files, input_limit}
 use Rattle.ms_top.specs.Files.{Counted, CanRead, FilesRead, after}
-use Rattle.ms_top.specs.Runs.{plain_under}
+use Rattle.ms_threads_explore.specs.declared.explorer.Explored.{Explored}
+use Rattle.ms_threads_explore.specs.Explorations.{IsExplored}
+use Rattle.ms_top.specs.Runs.{plain_under, plain_picks_under}
 use Rattle.ms_top.specs.Said.{says, IsAnswerToFiles}
 use Rattle.ms_top.specs.Statuses as statuses
 
@@ -45,6 +47,7 @@ abbrev pub IsReady : Command → Module → Type 0
 IsReady (Instrument file) m = CanInstrument m
 IsReady (Run file options) m = Unit {0}
 IsReady (Check file options) m = CanInstrument m
+IsReady (CheckSchedules file options runs workers) m = CanInstrument m
 IsReady (Explain file options) m = CanInstrument m
 IsReady (Corpus file inputs options workers) m = CanInstrument m
 IsReady (Gen seed functions run) m = CanInstrument m
@@ -59,6 +62,14 @@ is_want_of_memory fault = false
 -- the plain run of a module that a pass gives; where the module has threads, under a schedule
 abbrev pub IsRunOfGiven : (Module → Module → Type 0) → Module → Setup → (schedule : List ℕ) → RunResult → Type 0
 IsRunOfGiven Gives m s schedule r = (j : Module) × Gives m j × (r ≡ plain_under (is_threaded m) j s schedule)
+
+-- what exploring its schedules tells
+abbrev pub IsExploredOfGiven : (Module → Module → Type 0) → Module → Setup → (runs : ℕ) → Explored → Type 0
+IsExploredOfGiven Gives m s runs e = (j : Module) × Gives m j × IsExplored (plain_picks_under (is_threaded m) j s) (plain_under (is_threaded m) j s) runs e
+
+-- the only run of a module without threads, as exploring would tell it
+abbrev pub only_run : Module → Setup → Explored
+only_run m s = record { result = plain m s; schedule = 0 ∷ []; tried = 1; outcomes = 1; all = true }
 
 -- the runs of such a module on inputs
 abbrev pub AreRunsOfGiven : (Module → Module → Type 0) → Module → Setup → List (List ℕ) → List RunResult → Type 0

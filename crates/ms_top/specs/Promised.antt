@@ -24,20 +24,23 @@ use Rattle.ms_trail_moves.specs.Leads.{Leads}
 use Rattle.ms_trail_moves.specs.Traces.{trace, Found}
 use Rattle.ms_trail_laws.specs.FromReached.{FromReached}
 use Rattle.ms_trail_laws.specs.Staying.{ReadsToReport}
+use Rattle.ms_threads_schedules_laws.specs.Promise.{RunsAsOne, schedules_tried}
+use Rattle.ms_threads_explore.specs.declared.explorer.Explored.{Explored}
+use Rattle.ms_threads_explore.specs.Explorations.{IsExplored}
 use Rattle.ms_report.specs.RunTexts.{line}
 use Rattle.ms_report.specs.TrailTexts.{trail_with}
 use Rattle.ms_report.specs.WithLines.{Lines, reports_with}
 use Rattle.ms_report.specs.RefusalTexts.{threads_text}
 use Rattle.ms_words.specs.declared.commands.Command.{Command}
-use Rattle.ms_words.specs.declared.commands.Command.TheVariants.{Check, Corpus, Explain}
+use Rattle.ms_words.specs.declared.commands.Command.TheVariants.{Check, CheckSchedules, Corpus, Explain}
 use Rattle.ms_words.specs.declared.commands.Options.{Options}
 use Rattle.ms_top.specs.declared.output.Output.{Output}
 use Rattle.ms_top.specs.Command.{files_of, only_input, setup_of}
 use Rattle.ms_top.specs.Files.{Counted, CanRead, Whole, Fault, Long}
 use Rattle.ms_top.specs.Lines.{AreLines}
 use Rattle.ms_top.specs.Explained.{too_long, no_report}
-use Rattle.ms_top.specs.Runs.{shadow_under, HoldsUnder}
-use Rattle.ms_top.specs.Said.{answer_of_result, answer_of_results, answer_of_explained, says}
+use Rattle.ms_top.specs.Runs.{shadow_under, shadow_picks_under, HoldsUnder}
+use Rattle.ms_top.specs.Said.{answer_of_result, answer_of_results, answer_of_explained, answer_of_explored, says}
 use Rattle.ms_top.specs.Statuses as statuses
 
 -- the answer that a file can't be read: the first of these files that isn't read whole is at fault, and the answer names it
@@ -87,6 +90,32 @@ pub record ShadowShown (c : Counted) (file : List ℕ) (o : Options) (a : Output
       (shadow_under (is_threaded module_read) module_read (setup_of o (only_input inputs)) o.schedule)
   pub choices : is_threaded module_read ≡ false → HoldsUnderChoices module_read (setup_of o (only_input inputs)) (shadow module_read (setup_of o (only_input inputs)))
   pub changes : is_threaded module_read ≡ false → HoldsUnderChanges module_read (setup_of o (only_input inputs))
+
+-- A text was read as a valid module, and the answer a says what exploring the schedules of its shadow runs with a fair setup tells, with
+-- the lines that are asked for: at most so many runs were made, up to the first that isn't clean. The run that is told is the one under
+-- the schedule that is told, and what its verdict and its first report say holds under every fill. Where these are all schedules that
+-- there are and that run is clean, the program runs under each schedule and under every fill as one of those runs does, with no report
+-- and no blind use
+pub record SchedulesShown (c : Counted) (file : List ℕ) (o : Options) (runs workers : ℕ) (a : Output) : Type 0 where
+  pub text : List ℕ
+  pub inputs : List (List ℕ)
+  pub read : CanRead c (files_of (CheckSchedules file o runs workers)) (Whole (text ∷ inputs))
+  pub module_read : Module
+  pub reads : Reads Plain text module_read
+  pub formed : Formed module_read
+  pub valid : Valid module_read
+  pub unmarked : NoMarks module_read
+  pub under : Lines
+  pub lines : AreLines (CheckSchedules file o runs workers) text module_read under
+  pub fair : Fair (setup_of o (only_input inputs))
+  pub explored : Explored
+  pub explores : IsExplored (shadow_picks_under (is_threaded module_read) module_read (setup_of o (only_input inputs)))
+      (shadow_under (is_threaded module_read) module_read (setup_of o (only_input inputs))) runs explored
+  pub shown : a ≡ answer_of_explored under module_read explored
+  pub repeats : shadow_under (is_threaded module_read) module_read (setup_of o (only_input inputs)) explored.schedule ≡ explored.result
+  pub fills : HoldsUnder (is_threaded module_read) module_read (setup_of o (only_input inputs)) explored.schedule explored.result
+  pub all : is_threaded module_read ≡ true → explored.all ≡ true → verdict_of explored.result ≡ Clean
+      → RunsAsOne module_read (setup_of o (only_input inputs)) (schedules_tried module_read (setup_of o (only_input inputs)) runs)
 
 -- A text was read as a valid module with threads, which a command refuses
 pub record ThreadsRefused (c : Counted) (command : Command) (a : Output) : Type 0 where

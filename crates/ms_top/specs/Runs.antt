@@ -1,5 +1,5 @@
 -- Runs of a module, and of one with threads under a schedule.
-use Rattle.std.specs.Prelude.{ℕ, Bool, true, false, List}
+use Rattle.std.specs.Prelude.{ℕ, Bool, true, false, List, []}
 use Rattle.ms_ir.specs.declared.syntax.Module.{Module}
 use Rattle.ms_runs.specs.declared.runs.Setup.{Setup}
 use Rattle.ms_runs.specs.declared.runs.RunResult.{RunResult}
@@ -7,6 +7,7 @@ use Rattle.ms_runs.specs.Plain.{plain}
 use Rattle.ms_runs.specs.Shadow.{shadow}
 use Rattle.ms_runs_threads.specs.PlainFibers.{plain_threads}
 use Rattle.ms_runs_threads.specs.ShadowFibers.{shadow_threads}
+use Rattle.ms_threads_schedules_laws.specs.Picks.{Pick, plain_picks, shadow_picks}
 use Rattle.ms_threads.specs.Fills.{ThreadsHoldUnderFills}
 use Rattle.ms_runs_fills_laws.specs.Checked.{HoldsUnderFills}
 
@@ -19,6 +20,15 @@ plain_under true m setup schedule = plain_threads m setup schedule
 abbrev pub shadow_under : (threads : Bool) → Module → Setup → (schedule : List ℕ) → RunResult
 shadow_under false m setup schedule = shadow m setup
 shadow_under true m setup schedule = shadow_threads m setup schedule
+
+-- which threads these runs pick to go on: where there are none, none
+abbrev pub plain_picks_under : (threads : Bool) → Module → Setup → (schedule : List ℕ) → List Pick
+plain_picks_under false m setup schedule = []
+plain_picks_under true m setup schedule = plain_picks m setup schedule
+
+abbrev pub shadow_picks_under : (threads : Bool) → Module → Setup → (schedule : List ℕ) → List Pick
+shadow_picks_under false m setup schedule = []
+shadow_picks_under true m setup schedule = shadow_picks m setup schedule
 
 -- what the result of a checked run promises of runs with other fills, and where there are threads under the same schedule
 abbrev pub HoldsUnder : (threads : Bool) → Module → Setup → (schedule : List ℕ) → RunResult → Type 0

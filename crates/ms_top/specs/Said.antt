@@ -1,6 +1,6 @@
 -- What a call is to say: its status and its two texts, for the words and the files that it was given. `Gives m j` is what
 -- is known of the module j that the pass makes of m.
-use Rattle.std.specs.Prelude.{◌≡◌, ℕ, suc, Bool, true, false, List, [], ◌∷◌, ◌++◌, length, map, Option, Result, Ok, Err, eqb, if◌then◌else◌, codes, decimal, ◌⊎◌}
+use Rattle.std.specs.Prelude.{◌≡◌, ℕ, suc, Bool, true, false, not, List, [], ◌∷◌, ◌++◌, length, map, Option, Result, Ok, Err, eqb, if◌then◌else◌, codes, decimal, ◌⊎◌}
 use Rattle.std.specs.List.{list_any}
 use Rattle.ms_io.specs.Writing.{with_appended, AppendsPrefix}
 use Rattle.ms_ir.specs.declared.syntax.Module.{Module}
@@ -10,6 +10,7 @@ use Rattle.ms_runs.specs.declared.runs.End.TheVariants as ends
 use Rattle.ms_runs.specs.declared.runs.RunResult.{RunResult}
 use Rattle.ms_runs.specs.declared.runs.Setup.{Setup}
 use Rattle.ms_runs.specs.Plain.{plain}
+use Rattle.ms_runs.specs.Verdict.{verdict_of}
 use Rattle.ms_read_body.specs.declared.errors.ReadError.{ReadError}
 use Rattle.ms_read_body.specs.declared.errors.ReadError.TheVariants as e
 use Rattle.ms_read_top.specs.Reading.{IsReading}
@@ -18,14 +19,18 @@ use Rattle.ms_check_valid.specs.Refusals.{Fault as ModuleFault, Undefined, IsRef
 use Rattle.ms_text_grammar.specs.LayoutModules.{written}
 use Rattle.ms_report.specs.declared.refusals.Refusal.TheVariants.{Read}
 use Rattle.ms_report.specs.RunTexts.{line}
+use Rattle.ms_report.specs.SchedulesTexts.{schedules_text}
 use Rattle.ms_report.specs.SummaryTexts.{summary_of}
 use Rattle.ms_report.specs.WithLines.{Lines, reports_with, closing_text_with}
 use Rattle.ms_report.specs.RefusalTexts.{refusal_text, threads_text}
 use Rattle.ms_report.specs.WordsTexts.{words_text}
+use Rattle.ms_threads_schedules_laws.specs.Promise.{is_clean}
+use Rattle.ms_threads_explore.specs.declared.explorer.Explored.{Explored}
+use Rattle.ms_threads_explore.specs.Explorations.{IsExplored}
 use Rattle.ms_top.specs.declared.output.Output.{Output}
 use Rattle.ms_gen.specs.Generator.{generated}
 use Rattle.ms_words.specs.declared.commands.Command.{Command}
-use Rattle.ms_words.specs.declared.commands.Command.TheVariants.{Instrument, Run, Check, Explain, Corpus, Gen, Help, Version}
+use Rattle.ms_words.specs.declared.commands.Command.TheVariants.{Instrument, Run, Check, CheckSchedules, Explain, Corpus, Gen, Help, Version}
 use Rattle.ms_words.specs.declared.commands.WordsError.{WordsError}
 use Rattle.ms_words.specs.Usage.{usage, version_line}
 use Rattle.ms_words.specs.Words.{command_of, defaults, name_of, place_of}
@@ -34,7 +39,7 @@ use Rattle.ms_top.specs.Command.{form_of, files_of, only_input, setup_of}
 use Rattle.ms_top.specs.Explained.{explained_with}
 use Rattle.ms_top.specs.Files.{Counted, CanRead, FilesRead, Whole, Fault, Long}
 use Rattle.ms_top.specs.Lines.{AreLines, fault_text_with}
-use Rattle.ms_top.specs.Runs.{plain_under}
+use Rattle.ms_top.specs.Runs.{plain_under, plain_picks_under}
 use Rattle.ms_top.specs.Statuses as statuses
 
 abbrev pub answer_of : ℕ → List ℕ → List ℕ → Output
@@ -86,6 +91,16 @@ answer_of_result under verdict m r = answer_of (status_of r) r.output (run_text 
 abbrev pub answer_of_explained : Lines → Module → Setup → RunResult → Output
 answer_of_explained under m s r = answer_of (status_of r) (explained_with under m s r) (closing_text_with under m r true)
 
+-- ---- many schedules
+
+-- the lines on the schedules that were tried; that of the run that is told is shown where the run isn't clean
+abbrev pub tried_text : Explored → List ℕ
+tried_text e = schedules_text e.tried e.all e.outcomes (not (is_clean (verdict_of e.result))) e.schedule
+
+-- the answer for what exploring schedules tells: that for the result of one run, with those lines
+abbrev pub answer_of_explored : Lines → Module → Explored → Output
+answer_of_explored under m e = answer_of (status_of e.result) e.result.output (run_text under true m e.result ++ tried_text e)
+
 -- ---- many runs
 
 -- the first line of the section of a run: its number, how many bytes were output, and the name of its input
@@ -133,6 +148,12 @@ module _ (Gives : Module → Module → Type 0) where
   abbrev pub IsAnswerOfCheck : Lines → Setup → (schedule : List ℕ) → Module → Output → Type 0
   IsAnswerOfCheck under s schedule m a = (j : Module) × Gives m j × (a ≡ answer_of_result under true m (plain_under (is_threaded m) j s schedule))
 
+  -- the answer of `check` under several schedules: of what exploring tells of the runs of a module that the pass gives; where there are
+  -- no threads there is one run
+  abbrev pub IsAnswerOfSchedules : Lines → Setup → (runs : ℕ) → Module → Output → Type 0
+  IsAnswerOfSchedules under s runs m a =
+      (j : Module) × Gives m j × (e : Explored) × IsExplored (plain_picks_under (is_threaded m) j s) (plain_under (is_threaded m) j s) runs e × (a ≡ answer_of_explored under m e)
+
   -- what explains a run of a module that the pass gives, and the moves of the shadow run of the module itself
   abbrev pub IsExplanation : Lines → Setup → Module → Output → Type 0
   IsExplanation under s m a = (j : Module) × Gives m j × (a ≡ answer_of_explained under m s (plain j s))
@@ -163,6 +184,7 @@ module _ (Gives : Module → Module → Type 0) where
   IsAnswerToValid under (Run file options) inputs m a =
       a ≡ answer_of_result under false m (plain_under (is_threaded m) m (setup_of options (only_input inputs)) options.schedule)
   IsAnswerToValid under (Check file options) inputs m a = IsAnswerOfCheck under (setup_of options (only_input inputs)) options.schedule m a
+  IsAnswerToValid under (CheckSchedules file options runs workers) inputs m a = IsAnswerOfSchedules under (setup_of options (only_input inputs)) runs m a
   IsAnswerToValid under (Explain file options) inputs m a = IsAnswerOfExplain under (setup_of options (only_input inputs)) m a
   IsAnswerToValid under (Corpus file names options workers) inputs m a = IsAnswerOfCorpus under names options inputs m a
   IsAnswerToValid under (Gen seed functions run) inputs m a = IsAnswerOfGen run m a

@@ -28,6 +28,12 @@ pub enum Action<'a> {
     Run(&'a Options),
     /// Its instrumented form is run.
     Check(&'a Options),
+    /// Its instrumented form is run under at most so many schedules, by at most so many threads.
+    CheckSchedules {
+        options: &'a Options,
+        runs: u32,
+        workers: u8,
+    },
     /// That run's first report is explained.
     Explain(&'a Options),
     /// Its instrumented form is run on each of the inputs in these files, by at most so many threads.
@@ -54,6 +60,7 @@ impl FileCommand<'_> {
             Action::Instrument => &[],
             Action::Run(options) => options.input.as_slice(),
             Action::Check(options) => options.input.as_slice(),
+            Action::CheckSchedules { options, .. } => options.input.as_slice(),
             Action::Explain(options) => options.input.as_slice(),
             Action::Corpus { inputs, .. } => inputs.as_slice(),
         }
@@ -67,6 +74,7 @@ impl FileCommand<'_> {
             Action::Run(_) => Form::Instrumented,
             Action::Instrument => Form::Plain,
             Action::Check(_) => Form::Plain,
+            Action::CheckSchedules { .. } => Form::Plain,
             Action::Explain(_) => Form::Plain,
             Action::Corpus { .. } => Form::Plain,
         }
@@ -91,6 +99,7 @@ impl FileCommand<'_> {
             Action::Instrument => None,
             Action::Run(options)
             | Action::Check(options)
+            | Action::CheckSchedules { options, .. }
             | Action::Explain(options)
             | Action::Corpus { options, .. } => {
                 options.locations.then_some(self.file.as_str().as_bytes())

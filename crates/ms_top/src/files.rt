@@ -69,6 +69,19 @@ impl<R: Threads + Sync, P: Pass, G: Gate + Sync> Job<'_, R, P, G> {
             Command::Instrument { file } => self.run_file(file, &Action::Instrument, files),
             Command::Run { file, options } => self.run_file(file, &Action::Run(options), files),
             Command::Check { file, options } => self.run_file(file, &Action::Check(options), files),
+            Command::CheckSchedules {
+                file,
+                options,
+                runs,
+                workers,
+            } => {
+                let action = Action::CheckSchedules {
+                    options,
+                    runs: *runs,
+                    workers: *workers,
+                };
+                self.run_file(file, &action, files)
+            }
             Command::Explain { file, options } => {
                 self.run_file(file, &Action::Explain(options), files)
             }

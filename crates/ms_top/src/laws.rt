@@ -14,14 +14,14 @@ ghost use Rattle.ms_top.specs.{declared.output.Output.{Output}, Answered.{AreHel
 ghost use Rattle.ms_top.specs.Added.{with_locations, without_lines, without_any_lines, CorpusAdds};
 ghost use Rattle.ms_top.specs.{Command.{files_of, form_of, input_limit, only_input, setup_of}, Explained.{no_report}};
 ghost use Rattle.ms_top.specs.Files.{Counted, CanRead, Whole};
-ghost use Rattle.ms_top.specs.Promised.{CorpusShown, NothingRan, ShadowShown, ThreadsRefused, ShowsWay, WayShown};
+ghost use Rattle.ms_top.specs.Promised.{CorpusShown, NothingRan, SchedulesShown, ShadowShown, ThreadsRefused, ShowsWay, WayShown};
 ghost use Rattle.ms_top.specs.{Runs.{shadow_under, HoldsUnder}, Instrumented.{IsInstrumented}};
 ghost use Rattle.ms_top.specs.Lines.{AreLines, fault_text_with};
 ghost use Rattle.ms_top.specs.Said.{IsAnswer, IsAnswerToCommand, IsAnswerOfGen, IsAnswerToText, IsAnswerToValid, DifferInPath, answer_of, answer_of_result, answer_of_explained, answer_of_results, run_text, says, status_of};
 ghost use Rattle.ms_top.specs.Written.{IsLimitRefusal, RunsAlike};
 ghost use Rattle.ms_words.specs.declared.commands.Command.{Command};
-ghost use Rattle.ms_words.specs.declared.commands.Command.TheVariants.{Instrument, Run, Check, Explain, Corpus, Gen, Help, Version};
-ghost use Rattle.ms_words.specs.{declared.commands.Options.{Options}, Limits.{RunsWithinLimits, IsWithinLimits}};
+ghost use Rattle.ms_words.specs.declared.commands.Command.TheVariants.{Instrument, Run, Check, CheckSchedules, Explain, Corpus, Gen, Help, Version};
+ghost use Rattle.ms_words.specs.{declared.commands.Options.{Options}, Limits.{RunsWithinLimits, SchedulesWithinLimits, IsWithinLimits}};
 ghost use Rattle.ms_words.specs.{Reading.{same}, Table.{commands, command_word, topics}, Usage.{usage, version_line}};
 ghost use Rattle.ms_words.specs.Words.{asks, command_of, defaults};
 ghost use Rattle.ms_where_places.specs.Indented.{unindented};
@@ -126,6 +126,9 @@ pub fn law_lines_are_added()
         → IsAnswerToText IsInstrumented (Run file (with_locations false o)) inputs text (without_lines a) }
     ensures check { (file : List ℕ) (inputs : List (List ℕ)) (o : Options) (text : List ℕ) (a : Output) → IsAnswerToText IsInstrumented (Check file (with_locations true o)) inputs text a
         → IsAnswerToText IsInstrumented (Check file (with_locations false o)) inputs text (without_lines a) }
+    ensures schedules { (file : List ℕ) (inputs : List (List ℕ)) (o : Options) (runs workers : ℕ) (text : List ℕ) (a : Output)
+        → IsAnswerToText IsInstrumented (CheckSchedules file (with_locations true o) runs workers) inputs text a
+        → IsAnswerToText IsInstrumented (CheckSchedules file (with_locations false o) runs workers) inputs text (without_lines a) }
     ensures explain { (file : List ℕ) (inputs : List (List ℕ)) (o : Options) (text : List ℕ) (a : Output) → IsAnswerToText IsInstrumented (Explain file (with_locations true o)) inputs text a
         → IsAnswerToText IsInstrumented (Explain file (with_locations false o)) inputs text (without_any_lines a) }
     ensures corpus { (file : List ℕ) (names inputs : List (List ℕ)) (o : Options) (workers : ℕ) (text : List ℕ) (a : Output)
@@ -181,6 +184,20 @@ pub fn law_checks_hold()
         → CanRead c (files_of (Check file o)) (Whole (text ∷ inputs)) → Fair (setup_of o (only_input inputs)) }
     ensures bytes { (c : Counted) (files : List (List ℕ × ℕ)) (texts : List (List ℕ)) → CanRead c files (Whole texts) → All (λ text. All (λ b. b < 2 ^ 8) text) texts }
     ensures limits { (words : List (List ℕ)) (command : Command) → command_of words ≡ Ok command → IsWithinLimits command }
+{}
+
+/// Of any words that ask for a check under several schedules what is to be said is this, with no premise on files: nothing was run, as of
+/// a check; or a text was read as a valid module, and the answer is of at most so many shadow runs with a fair setup, each with other
+/// picks of threads, up to the first that isn't clean. Under the schedule that is told the run is the one that is told, and what this
+/// says holds under every fill. Where the answer says that all schedules were tried, and the run that is told is clean, then under each
+/// schedule there is, and whatever uninitialised memory holds, the program prints and ends as in one of these runs, with no report and no
+/// blind use.
+pub fn law_all_schedules_hold()
+    ensures words { (c : Counted) (words : List (List ℕ)) (file : List ℕ) (o : Options) (runs workers : ℕ) (a : Output) → command_of words ≡ Ok (CheckSchedules file o runs workers)
+        → IsAnswer IsInstrumented c words a → NothingRan c (files_of (CheckSchedules file o runs workers)) a ⊎ SchedulesShown c file o runs workers a }
+    ensures commands { (c : Counted) (file : List ℕ) (o : Options) (runs workers : ℕ) (a : Output) → SchedulesWithinLimits o runs workers
+        → IsAnswerToCommand IsInstrumented c (CheckSchedules file o runs workers) a
+        → NothingRan c (files_of (CheckSchedules file o runs workers)) a ⊎ SchedulesShown c file o runs workers a }
 {}
 
 /// Of any words that ask for an explanation what is to be said is this, with no premise on files: nothing was run, as of a check, or

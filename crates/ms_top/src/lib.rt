@@ -14,6 +14,7 @@ mod modules;
 pub mod output;
 pub mod passes;
 mod refused;
+mod schedules;
 mod site_lines;
 mod top;
 

@@ -74,6 +74,11 @@ impl<R: Threads + Sync, P: Pass, G: Gate + Sync, L: SiteLines> ModuleJob<'_, R, 
             Action::Instrument => self.instrument(),
             Action::Run(options) => self.run(options),
             Action::Check(options) => self.check(options),
+            Action::CheckSchedules {
+                options,
+                runs,
+                workers,
+            } => self.check_schedules(options, *runs, *workers),
             Action::Explain(options) => self.explain(options),
             Action::Corpus {
                 inputs,

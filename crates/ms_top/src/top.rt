@@ -27,7 +27,9 @@ use std::thread::Threads;
 /// `instrument` writes to `out` the text of the module that `check` runs, which `run` takes. `gen` writes
 /// a generated module to `out`, or the summary of its check. `help` writes the usage to `out`, and `version` one line with
 /// the version. A module with threads is run under the schedule of the options; `corpus` and `explain`, which take none, refuse
-/// it. The threads that do the work are those of the runtime.
+/// it. `check` of several schedules runs it under one after the other, up to the first run with a report or a blind use, and says of
+/// that run, or else of the last, what it says of one schedule, and how many were tried and whether these are all. The threads that do
+/// the work are those of the runtime.
 ///
 /// The status is 77 for a run with a report, else 0 for one that is done, 3 for one that trapped and 4 for
 /// one whose steps were used up; of many runs 77, else 3, else 4 where one has it; 0 where a module, the usage or the

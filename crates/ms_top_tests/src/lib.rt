@@ -26,6 +26,8 @@ mod passes;
 #[cfg(test)]
 mod questions;
 #[cfg(test)]
+mod races;
+#[cfg(test)]
 mod refusals;
 #[cfg(test)]
 mod runs;
@@ -39,5 +41,7 @@ mod texts;
 mod threads;
 #[cfg(test)]
 mod trails;
+#[cfg(test)]
+mod tried;
 #[cfg(test)]
 mod validity;

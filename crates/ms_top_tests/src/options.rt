@@ -267,6 +267,97 @@ words: Repeated at 2
 ~
 2
 ====
+run --schedules 5 f~
+~
+~
+words: UnknownOption at 1
+~
+2
+====
+corpus --schedules 5 f a~
+~
+~
+words: UnknownOption at 1
+~
+2
+====
+check --schedules 0 f~
+~
+~
+words: OutOfRange at 2
+~
+2
+====
+check --schedules=1000001 f~
+~
+~
+words: OutOfRange at 1
+~
+2
+====
+check --schedules ff f~
+~
+~
+words: BadNumber at 2
+~
+2
+====
+check --schedules~
+~
+~
+words: MissingValue at 2
+~
+2
+====
+check --schedules 5 --schedules 5 f~
+~
+~
+words: Repeated at 3
+~
+2
+====
+check --schedule 00 --schedules 5 f~
+~
+~
+words: Excluded at 3
+~
+2
+====
+check --schedules=5 --schedule=00 f~
+~
+~
+words: Excluded at 2
+~
+2
+====
+check --workers 2 f~
+~
+~
+words: MissingOption at 4
+~
+2
+====
+check --schedules 5 --workers 9 f~
+~
+~
+words: OutOfRange at 4
+~
+2
+====
+check --schedules 5 --workers 2~
+~
+~
+words: MissingFile at 5
+~
+2
+====
+run --workers 2 f~
+~
+~
+words: UnknownOption at 1
+~
+2
+====
 instrument --where f~
 ~
 ~

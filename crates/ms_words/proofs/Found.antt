@@ -15,14 +15,14 @@ use Rattle.ms_words.specs.declared.names.Takes.TheVariants.{Nothing}
 use Rattle.ms_words.specs.Table.{Word, takes, command_word, options_of}
 use Rattle.ms_words.specs.Values.{number, hex_bytes, value_fault}
 use Rattle.ms_words.specs.Reading.{Given}
-use Rattle.ms_words.specs.Words.{value_of, number_by, options_by, explain_options_by, corpus_options_by, no_schedule, command_by, command_given}
+use Rattle.ms_words.specs.Words.{value_of, number_by, options_by, explain_options_by, corpus_options_by, no_schedule, check_by, command_by, command_given}
 use Rattle.ms_words.specs.ClapForm.{app_for, files_rule, with_options, spelled, spelled_option, spelled_options}
-use Rattle.ms_words.specs.Fields.{Fits, FitsRun, FitsScheduled, FitsCorpus, found_value, found_file, found_inputs, found_by}
+use Rattle.ms_words.specs.Fields.{Fits, FitsRun, FitsScheduled, FitsCheck, FitsCorpus, found_value, found_file, found_inputs, found_by}
 use Rattle.ms_words.specs.Accepted.{Whole}
 use Rattle.ms_words.proofs.Files.{corpus_form, corpus_takes, corpus_workers, corpus_fill, corpus_steps, corpus_reports, corpus_locations, corpus_file, corpus_files}
 use Rattle.ms_words.proofs.GoodValues.{IsGood, good_value, hex_good, number_good}
 
--- ---- the commands that run a module, by their words' form
+-- ---- the command that runs a module, by its words' form
 
 abbrev run_app : Word → App
 run_app word = with_rule (with_options (new_app word) (options_of Run)) files_rule
@@ -106,6 +106,64 @@ run_fields word a b c d s e file f are =
       rw (input, fill, steps, reports, schedule, locations) refl,
       rw files refl,
     )
+
+-- ---- the command that checks a module, by its words' form
+
+abbrev check_form : Option Word → (fill steps reports schedule : Word) → (schedules : Option Word) → (workers : Word) → (locations : Option Word) → (file : Word) → List Word
+check_form input fill steps reports schedule schedules workers locations file =
+    codes "check" ∷ ((spelled_option option.Input input ++ (spelled_option option.Fill (Some fill) ++ (spelled_option option.Steps (Some steps)
+    ++ (spelled_option option.Reports (Some reports) ++ (spelled_option option.Schedule (Some schedule) ++ (spelled_option option.Schedules schedules
+    ++ (spelled_option option.Workers (Some workers) ++ (spelled_option option.Where locations ++ [])))))))) ++ codes "--" ∷ file ∷ [])
+
+check_takes : (a : Option Word) (b c d s : Word) (n : Option Word) (w : Word) (e : Option Word) (file : Word) → takes_words (app_for Check) (check_form a b c d s n w e file) ≡ true
+unfolding clap_on_literals
+check_takes None b c d s None w None file = refl
+check_takes None b c d s None w (Some e) file = refl
+check_takes None b c d s (Some n) w None file = refl
+check_takes None b c d s (Some n) w (Some e) file = refl
+check_takes (Some a) b c d s None w None file = refl
+check_takes (Some a) b c d s None w (Some e) file = refl
+check_takes (Some a) b c d s (Some n) w None file = refl
+check_takes (Some a) b c d s (Some n) w (Some e) file = refl
+
+pub record CheckFound (a : Option Word) (b c d s : Word) (n : Option Word) (w : Word) (e : Option Word) (file : Word) (rows : List Row) : Type 0 where
+  pub input : first_of (codes "input") rows ≡ a
+  pub fill : first_of (codes "fill") rows ≡ Some b
+  pub steps : first_of (codes "steps") rows ≡ Some c
+  pub reports : first_of (codes "reports") rows ≡ Some d
+  pub schedule : first_of (codes "schedule") rows ≡ Some s
+  pub schedules : first_of (codes "schedules") rows ≡ n
+  pub workers : first_of (codes "workers") rows ≡ Some w
+  pub locations : is_some (found_by Nothing (first_of (codes "where") rows)) ≡ is_some e
+  pub files : first_of (codes "files") rows ≡ Some file
+
+check_found : (a : Option Word) (b c d s : Word) (n : Option Word) (w : Word) (e : Option Word) (file : Word)
+    → CheckFound a b c d s n w e file (matches_of (app_for Check) (check_form a b c d s n w e file))
+unfolding clap_on_literals
+check_found None b c d s None w None file = record { input = refl; fill = refl; steps = refl; reports = refl; schedule = refl; schedules = refl; workers = refl; locations = refl; files = refl }
+check_found None b c d s None w (Some e) file = record { input = refl; fill = refl; steps = refl; reports = refl; schedule = refl; schedules = refl; workers = refl; locations = refl; files = refl }
+check_found None b c d s (Some n) w None file = record { input = refl; fill = refl; steps = refl; reports = refl; schedule = refl; schedules = refl; workers = refl; locations = refl; files = refl }
+check_found None b c d s (Some n) w (Some e) file = record { input = refl; fill = refl; steps = refl; reports = refl; schedule = refl; schedules = refl; workers = refl; locations = refl; files = refl }
+check_found (Some a) b c d s None w None file = record { input = refl; fill = refl; steps = refl; reports = refl; schedule = refl; schedules = refl; workers = refl; locations = refl; files = refl }
+check_found (Some a) b c d s None w (Some e) file = record { input = refl; fill = refl; steps = refl; reports = refl; schedule = refl; schedules = refl; workers = refl; locations = refl; files = refl }
+check_found (Some a) b c d s (Some n) w None file = record { input = refl; fill = refl; steps = refl; reports = refl; schedule = refl; schedules = refl; workers = refl; locations = refl; files = refl }
+check_found (Some a) b c d s (Some n) w (Some e) file = record { input = refl; fill = refl; steps = refl; reports = refl; schedule = refl; schedules = refl; workers = refl; locations = refl; files = refl }
+
+check_fields : (a : Option Word) (b c d s : Word) (n : Option Word) (w : Word) (e : Option Word) (file : Word) (f : Found) → rows_of f ≡ matches_of (app_for Check) (check_form a b c d s n w e file)
+    → check_by (found_value f option.Schedules) (options_by (found_value f)) (number_by (found_value f option.Schedules)) (number_by (found_value f option.Workers)) (found_file f)
+    ≡ check_by n (record { input = a; fill = hex_bytes b; steps = number c; reports = number d; schedule = hex_bytes s; locations = is_some e }) (number_by n) (number w) file
+check_fields a b c d s n w e file f are =
+    let found = check_found a b c d s n w e file in
+    let input = at f (codes "input") _ are ∙ found.input in
+    let fill = at f (codes "fill") _ are ∙ found.fill in
+    let steps = at f (codes "steps") _ are ∙ found.steps in
+    let reports = at f (codes "reports") _ are ∙ found.reports in
+    let schedule = at f (codes "schedule") _ are ∙ found.schedule in
+    let schedules = at f (codes "schedules") _ are ∙ found.schedules in
+    let workers = at f (codes "workers") _ are ∙ found.workers in
+    let locations = ap (λ (v : Option Word). is_some (found_by Nothing v)) (at f (codes "where") _ are) ∙ found.locations in
+    let files = at f (codes "files") _ are ∙ found.files in
+    rw (input, fill, steps, reports, schedule, schedules, workers, locations, files) refl
 
 -- ---- the command that explains a report, by its words' form
 
@@ -235,7 +293,9 @@ with_files g files rows is are =
 pub takes_spelled : (c : CommandName) (g : Given) → Whole c g → takes_words (app_for c) (spelled c g) ≡ true
 takes_spelled Instrument g whole = let one = one_file g.files whole.enough whole.few in rw one.1 (instrument_takes one.0)
 takes_spelled Run g whole = let one = one_file g.files whole.enough whole.few in rw one.1 (run_takes (codes "run") (value_of option.Input g) _ _ _ _ (value_of option.Where g) one.0)
-takes_spelled Check g whole = let one = one_file g.files whole.enough whole.few in rw one.1 (run_takes (codes "check") (value_of option.Input g) _ _ _ _ (value_of option.Where g) one.0)
+takes_spelled Check g whole =
+    let one = one_file g.files whole.enough whole.few in
+    rw one.1 (check_takes (value_of option.Input g) _ _ _ _ (value_of option.Schedules g) _ (value_of option.Where g) one.0)
 takes_spelled Explain g whole = let one = one_file g.files whole.enough whole.few in rw one.1 (explain_takes (value_of option.Input g) _ _ (value_of option.Where g) one.0)
 takes_spelled Corpus g whole = let some = some_files g.files whole.enough whole.few in rw some.2 (corpus_takes _ _ _ _ (value_of option.Where g) some.0 some.1 some.3)
 takes_spelled Gen g whole = rw (no_files g.files whole.few) (gen_takes (value_of option.Seed g) (value_of option.Functions g) (value_of option.Run g))
@@ -261,8 +321,9 @@ fields_found Run g f whole are =
     ap₂ (λ (file : Word) (o : Options). made.Run file o) (fields.1 ∙ sym (first_of_files g one.0 one.1)) fields.0
 fields_found Check g f whole are =
     let one = one_file g.files whole.enough whole.few in
-    let fields = run_fields (codes "check") (value_of option.Input g) _ _ _ _ (value_of option.Where g) one.0 f (with_file Check g one.0 (rows_of f) one.1 are) in
-    ap₂ (λ (file : Word) (o : Options). made.Check file o) (fields.1 ∙ sym (first_of_files g one.0 one.1)) fields.0
+    check_fields (value_of option.Input g) _ _ _ _ (value_of option.Schedules g) _ (value_of option.Where g) one.0 f (with_file Check g one.0 (rows_of f) one.1 are)
+    ∙ ap (check_by (value_of option.Schedules g) (options_by (λ o. value_of o g)) (number_by (value_of option.Schedules g)) (number_by (value_of option.Workers g)))
+    (sym (first_of_files g one.0 one.1))
 fields_found Explain g f whole are =
     let one = one_file g.files whole.enough whole.few in
     let fields = explain_fields (value_of option.Input g) _ _ (value_of option.Where g) one.0 f (with_file Explain g one.0 (rows_of f) one.1 are) in
@@ -291,6 +352,25 @@ run_fits word g file f all are = record {
   schedule = hex_good 2048 _ (found_good option.Schedule g (found_value f option.Schedule) all (at f (codes "schedule") _ are ∙ run_schedule word (value_of option.Input g) _ _ _ _ (value_of option.Where g) file));
 }
 
+check_fits : (g : Given) (file : Word) (f : Found) → All (λ p. value_fault (takes p.0) 0 p.1 ≡ None) g.options
+    → rows_of f ≡ matches_of (app_for Check) (command_word Check ∷ (spelled_options (options_of Check) g ++ codes "--" ∷ file ∷ [])) → FitsCheck (found_value f)
+check_fits g file f all are =
+    let found = check_found (value_of option.Input g) _ _ _ _ (value_of option.Schedules g) _ (value_of option.Where g) file in
+    record {
+      run = record {
+        run = record {
+          run = record {
+            fill = hex_good 2048 _ (found_good option.Fill g (found_value f option.Fill) all (at f (codes "fill") _ are ∙ found.fill));
+            steps = number_good 0 1000000000 (2 ^ 64 - 1) _ (omega arith) (found_good option.Steps g (found_value f option.Steps) all (at f (codes "steps") _ are ∙ found.steps));
+          };
+          reports = number_good 1 1000 1000 _ (omega arith) (found_good option.Reports g (found_value f option.Reports) all (at f (codes "reports") _ are ∙ found.reports));
+        };
+        schedule = hex_good 2048 _ (found_good option.Schedule g (found_value f option.Schedule) all (at f (codes "schedule") _ are ∙ found.schedule));
+      };
+      schedules = number_good 1 1000000 1000000 _ (omega arith) (found_good option.Schedules g (found_value f option.Schedules) all (at f (codes "schedules") _ are ∙ found.schedules));
+      workers = number_good 1 8 8 _ (omega arith) (found_good option.Workers g (found_value f option.Workers) all (at f (codes "workers") _ are ∙ found.workers));
+    }
+
 explain_fits : (g : Given) (file : Word) (f : Found) → All (λ p. value_fault (takes p.0) 0 p.1 ≡ None) g.options
     → rows_of f ≡ matches_of (app_for Explain) (command_word Explain ∷ (spelled_options (options_of Explain) g ++ codes "--" ∷ file ∷ [])) → FitsRun (found_value f)
 explain_fits g file f all are =
@@ -317,7 +397,7 @@ corpus_fits g file inputs f all are = record {
 pub fits_found : (c : CommandName) (g : Given) (f : Found) → Whole c g → rows_of f ≡ matches_of (app_for c) (spelled c g) → Fits c (found_value f)
 fits_found Instrument g f whole are = tt
 fits_found Run g f whole are = let one = one_file g.files whole.enough whole.few in run_fits (codes "run") g one.0 f whole.values (with_file Run g one.0 (rows_of f) one.1 are)
-fits_found Check g f whole are = let one = one_file g.files whole.enough whole.few in run_fits (codes "check") g one.0 f whole.values (with_file Check g one.0 (rows_of f) one.1 are)
+fits_found Check g f whole are = let one = one_file g.files whole.enough whole.few in check_fits g one.0 f whole.values (with_file Check g one.0 (rows_of f) one.1 are)
 fits_found Explain g f whole are = let one = one_file g.files whole.enough whole.few in explain_fits g one.0 f whole.values (with_file Explain g one.0 (rows_of f) one.1 are)
 fits_found Corpus g f whole are =
     let some = some_files g.files whole.enough whole.few in

@@ -7,7 +7,7 @@ use Rattle.std.proofs.lemmas.Bool.{and_parts, leb-true}
 use Rattle.std.proofs.lemmas.List.Elements.{All-head, All-tail}
 use Rattle.ms_words.specs.declared.commands.WordsError.TheVariants as e
 use Rattle.ms_words.specs.declared.names.OptionName.{OptionName}
-use Rattle.ms_words.specs.declared.names.OptionName.TheVariants.{Input, Fill, Steps, Reports, Schedule, Workers, Seed, Functions, Run, Where}
+use Rattle.ms_words.specs.declared.names.OptionName.TheVariants.{Input, Fill, Steps, Reports, Schedule, Schedules, Workers, Seed, Functions, Run, Where}
 use Rattle.ms_words.specs.declared.names.Takes.{Takes}
 use Rattle.ms_words.specs.declared.names.Takes.TheVariants.{Hex, Number}
 use Rattle.ms_words.specs.Table.{Word, takes, default_of}
@@ -25,6 +25,7 @@ same_takes Fill Fill same = refl
 same_takes Steps Steps same = refl
 same_takes Reports Reports same = refl
 same_takes Schedule Schedule same = refl
+same_takes Schedules Schedules same = refl
 same_takes Workers Workers same = refl
 same_takes Seed Seed same = refl
 same_takes Functions Functions same = refl
@@ -38,6 +39,7 @@ default_good Fill = refl
 default_good Steps = refl
 default_good Reports = refl
 default_good Schedule = refl
+default_good Schedules = tt
 default_good Workers = refl
 default_good Seed = tt
 default_good Functions = tt

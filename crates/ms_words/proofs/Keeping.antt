@@ -13,9 +13,9 @@ use Rattle.ms_words.specs.declared.reading.Next.{Next}
 use Rattle.ms_words.specs.declared.reading.Next.TheVariants.{AnOption, AValue, AFile}
 use Rattle.ms_words.specs.declared.commands.WordsError.{WordsError}
 use Rattle.ms_words.specs.declared.commands.WordsError.TheVariants as e
-use Rattle.ms_words.specs.Table.{Word, takes, wanted_of, least_files, most_files}
+use Rattle.ms_words.specs.Table.{Word, takes, least_files, most_files}
 use Rattle.ms_words.specs.Values.{value_fault, is_hex, is_number, number}
-use Rattle.ms_words.specs.Reading.{Given, Outcome, is_given, nothing, same, with_option, with_file, with_value_if, read_value, begin_option, read_option, read_file, read_plain, read_word, read_end, and_then, read_words_from, option_in, after_dash, takes_nothing}
+use Rattle.ms_words.specs.Reading.{Given, Outcome, is_given, is_excluded, wanted_in, nothing, same, with_option, with_file, with_value_if, read_value, begin_option, read_option, read_file, read_plain, read_word, read_end, and_then, read_words_from, option_in, after_dash, takes_nothing}
 use Rattle.ms_words.specs.Accepted.{Whole}
 
 -- what holds of all that the words so far give: nothing is wrong with the values, and there are no more files than a command may have
@@ -74,13 +74,15 @@ module _ (c : CommandName) where
   kept_begun o (Some v) place g kept = kept_value o place v g kept
   kept_begun o None place g kept = kept_flag o (takes o) g refl kept
 
-  kept_known : (b : Bool) (o : OptionName) (v : Option Word) (place : ℕ) (g : Given) → Kept c g → Keeps (if b then Err (e.Repeated place) else begin_option o v place g)
-  kept_known true o v place g kept = tt
-  kept_known false o v place g kept = kept_begun o v place g kept
+  kept_known : (a b : Bool) (o : OptionName) (v : Option Word) (place : ℕ) (g : Given) → Kept c g
+      → Keeps (if a then Err (e.Repeated place) else if b then Err (e.Excluded place) else begin_option o v place g)
+  kept_known true b o v place g kept = tt
+  kept_known false true o v place g kept = tt
+  kept_known false false o v place g kept = kept_begun o v place g kept
 
   kept_option : (p : Option (OptionName × Option Word)) (place : ℕ) (g : Given) → Kept c g → Keeps (read_option p place g)
   kept_option None place g kept = tt
-  kept_option (Some p) place g kept = kept_known (is_given p.0 g) p.0 p.1 place g kept
+  kept_option (Some p) place g kept = kept_known (is_given p.0 g) (is_excluded p.0 g) p.0 p.1 place g kept
 
   more_files : (word : Word) (g : Given) → Kept c g → length g.files < most_files c → Kept c (with_file word g)
   more_files word g kept room = record {
@@ -112,16 +114,16 @@ module _ (c : CommandName) where
 
   -- ---- all words
 
-  whole_if : (a b : Bool) (place : ℕ) (g : Given) → Kept c g → list_all (λ o. is_given o g) (wanted_of c) ≡ a → nat_lt (length g.files) (least_files c) ≡ b
+  whole_if : (a b : Bool) (place : ℕ) (g : Given) → Kept c g → list_all (λ o. is_given o g) (wanted_in c g) ≡ a → nat_lt (length g.files) (least_files c) ≡ b
       → IfOk (if not a then Err (e.MissingOption place) else if b then Err (e.MissingFile place) else Ok g) (Whole c)
   whole_if true true place g kept wanted enough = tt
   whole_if true false place g kept wanted enough = record { values = kept.values; few = kept.few; enough = ltb-false _ _ enough; wanted = wanted }
   whole_if false b place g kept wanted enough = tt
 
   whole_end : (next : Next) (place : ℕ) (g : Given) → Kept c g → IfOk (read_end c next place g) (Whole c)
-  whole_end AnOption place g kept = whole_if (list_all (λ o. is_given o g) (wanted_of c)) (nat_lt (length g.files) (least_files c)) place g kept refl refl
+  whole_end AnOption place g kept = whole_if (list_all (λ o. is_given o g) (wanted_in c g)) (nat_lt (length g.files) (least_files c)) place g kept refl refl
   whole_end (AValue o) place g kept = tt
-  whole_end AFile place g kept = whole_if (list_all (λ o. is_given o g) (wanted_of c)) (nat_lt (length g.files) (least_files c)) place g kept refl refl
+  whole_end AFile place g kept = whole_if (list_all (λ o. is_given o g) (wanted_in c g)) (nat_lt (length g.files) (least_files c)) place g kept refl refl
 
   whole_then : (o : Outcome) (f : Next × Given → Result Given WordsError) → Keeps o → ((r : Next × Given) → Kept c r.1 → IfOk (f r) (Whole c)) → IfOk (and_then o f) (Whole c)
   whole_then (Ok r) f kept rest = rest r kept

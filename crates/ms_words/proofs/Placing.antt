@@ -7,7 +7,7 @@ use Rattle.std.proofs.lemmas.List.Folds.{list_any-append}
 use Rattle.std.proofs.lemmas.Bool.{ltb-true}
 use Rattle.ms_words.specs.declared.names.CommandName.{CommandName}
 use Rattle.ms_words.specs.declared.names.OptionName.{OptionName}
-use Rattle.ms_words.specs.declared.names.OptionName.TheVariants.{Input, Fill, Steps, Reports, Schedule, Workers, Seed, Functions, Run, Where}
+use Rattle.ms_words.specs.declared.names.OptionName.TheVariants.{Input, Fill, Steps, Reports, Schedule, Schedules, Workers, Seed, Functions, Run, Where}
 use Rattle.ms_words.specs.declared.names.CommandName.TheVariants.{Instrument, Check, Explain, Corpus, Gen}
 use Rattle.ms_words.specs.declared.names.CommandName.TheVariants as name
 use Rattle.ms_words.specs.declared.reading.Next.{Next}
@@ -16,7 +16,7 @@ use Rattle.ms_words.specs.declared.commands.WordsError.{WordsError}
 use Rattle.ms_words.specs.declared.commands.WordsError.TheVariants as e
 use Rattle.ms_words.specs.Table.{Word, takes, option_word, options_of, most_files}
 use Rattle.ms_words.specs.Values.{value_fault}
-use Rattle.ms_words.specs.Reading.{Given, Outcome, nothing, is_given, option_eq, same, with_option, with_file, with_value_if, begin_option, read_option, read_file, read_plain, read_word, option_in, read_words_from, and_then, name_and_value, after_dash, takes_nothing}
+use Rattle.ms_words.specs.Reading.{Given, Outcome, nothing, is_given, is_excluded, option_eq, same, with_option, with_file, with_value_if, begin_option, read_option, read_file, read_plain, read_word, option_in, read_words_from, and_then, name_and_value, after_dash, takes_nothing}
 
 -- ---- counts
 
@@ -74,6 +74,7 @@ option_self Fill = refl
 option_self Steps = refl
 option_self Reports = refl
 option_self Schedule = refl
+option_self Schedules = refl
 option_self Workers = refl
 option_self Seed = refl
 option_self Functions = refl
@@ -141,15 +142,16 @@ module _ (c : CommandName) where
   uses_begun t o (Some v) place g new found = let h = left_given c t o v g new found in uses_if (value_fault (takes o) place v) (weight c AnOption g) o v g (omega (arith, h))
   uses_begun t o None place g new found = uses_flag t (takes_nothing (takes o)) o g new found
 
-  uses_new : (t : OptionName → Bool) (b : Bool) (o : OptionName) (v : Option Word) (place : ℕ) (g : Given) → is_given o g ≡ b → find t (options_of c) ≡ Some o
-      → Uses (weight c AnOption g) (if b then Err (e.Repeated place) else begin_option o v place g)
-  uses_new t true o v place g given found = tt
-  uses_new t false o v place g given found = uses_begun t o v place g given found
+  uses_new : (t : OptionName → Bool) (b excluded : Bool) (o : OptionName) (v : Option Word) (place : ℕ) (g : Given) → is_given o g ≡ b → find t (options_of c) ≡ Some o
+      → Uses (weight c AnOption g) (if b then Err (e.Repeated place) else if excluded then Err (e.Excluded place) else begin_option o v place g)
+  uses_new t true excluded o v place g given found = tt
+  uses_new t false true o v place g given found = tt
+  uses_new t false false o v place g given found = uses_begun t o v place g given found
 
   uses_known : (t : OptionName → Bool) (f : Option OptionName) (v : Option Word) (place : ℕ) (g : Given) → find t (options_of c) ≡ f
       → Uses (weight c AnOption g) (read_option (option_map (λ o. (o, v)) f) place g)
   uses_known t None v place g found = tt
-  uses_known t (Some o) v place g found = uses_new t (is_given o g) o v place g refl found
+  uses_known t (Some o) v place g found = uses_new t (is_given o g) (is_excluded o g) o v place g refl found
 
   uses_option : (text : Option Word) (place : ℕ) (g : Given) → Uses (weight c AnOption g) (read_option (option_in c text) place g)
   uses_option None place g = tt
@@ -198,7 +200,7 @@ module _ (c : CommandName) where
 pub first_place : (c : CommandName) → 1 + weight c AnOption nothing ≤ 2 ^ 17
 first_place Instrument = let w : weight Instrument AnOption nothing ≡ 2 = refl in omega (arith, w)
 first_place name.Run = let w : weight name.Run AnOption nothing ≡ 14 = refl in omega (arith, w)
-first_place Check = let w : weight Check AnOption nothing ≡ 14 = refl in omega (arith, w)
+first_place Check = let w : weight Check AnOption nothing ≡ 18 = refl in omega (arith, w)
 first_place Explain = let w : weight Explain AnOption nothing ≡ 10 = refl in omega (arith, w)
 first_place Corpus = let w : weight Corpus AnOption nothing ≡ 268 = refl in omega (arith, w)
 first_place Gen = let w : weight Gen AnOption nothing ≡ 7 = refl in omega (arith, w)

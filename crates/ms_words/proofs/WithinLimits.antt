@@ -1,6 +1,6 @@
 -- The fields of accepted words are within their limits.
-use Rattle.std.proofs.Common.{◌≡◌, ◌≤◌, ◌<◌, ◌+◌, ◌*◌, ◌-◌, ◌^◌, ◌&&◌, ◌||◌, inl, inr, ℕ, Bool, true, false, List, [], ◌∷◌, Option, Some, None, option_map, Result, Ok, Err, refl, subst, sym, arith, true≢false, length, find, cond, drop}
-use Rattle.std.specs.Prelude.{All, IfSome, is_some, nat_lt, nat_le, ◌/◌, ◌%◌, ◌==◌}
+use Rattle.std.proofs.Common.{◌≡◌, ◌≤◌, ◌<◌, ◌+◌, ◌*◌, ◌-◌, ◌^◌, ◌&&◌, ◌||◌, inl, inr, ℕ, Bool, true, false, List, [], ◌∷◌, Option, Some, None, option_map, Result, Ok, Err, refl, ap, subst, sym, arith, true≢false, length, find, cond, drop}
+use Rattle.std.specs.Prelude.{All, IfSome, is_some, nat_lt, nat_le, slice_get, unwrap_or, ◌/◌, ◌%◌, ◌==◌}
 use Rattle.std.specs.Char.{digit_value, is_ascii_hexdigit}
 use Rattle.std.specs.Int.{is_in_range}
 use Rattle.std.specs.List.{list_all, list_any}
@@ -18,12 +18,12 @@ use Rattle.ms_words.specs.declared.names.Takes.TheVariants.{Hex, Number}
 use Rattle.ms_words.specs.Table.{Word, takes, commands, command_word, topics}
 use Rattle.ms_words.specs.Values.{value_fault, is_hex, is_number, number, hex_bytes}
 use Rattle.ms_words.specs.Reading.{Given, nothing, same, is_given, option_eq, read_words_from}
-use Rattle.ms_words.specs.Words.{value_of, number_by, options_by, explain_options_by, corpus_options_by, no_schedule, command_given, command_in, command_named, asks, asked_or, command_of}
+use Rattle.ms_words.specs.Words.{value_of, number_by, options_by, explain_options_by, corpus_options_by, no_schedule, check_by, command_given, command_in, command_named, asks, asked_or, command_of}
 use Rattle.ms_words.specs.declared.reading.Next.TheVariants.{AnOption}
 use Rattle.ms_words.specs.declared.topics.Topic.{Topic}
 use Rattle.ms_words.specs.declared.topics.Topic.TheVariants as topic
 use Rattle.ms_words.specs.Accepted.{Whole}
-use Rattle.ms_words.specs.Limits.{RunsWithinLimits, ExplainsWithinLimits, CorpusWithinLimits, MadeWithinLimits, IsWithinLimits}
+use Rattle.ms_words.specs.Limits.{RunsWithinLimits, SchedulesWithinLimits, ExplainsWithinLimits, CorpusWithinLimits, MadeWithinLimits, IsWithinLimits}
 use Rattle.ms_words.proofs.GoodValues.{good_value, hex_tests, number_tests}
 use Rattle.ms_words.proofs.Keeping.{whole_given}
 
@@ -123,6 +123,21 @@ run_within g all =
       schedule_bytes = picks.all;
     }
 
+-- a check, under one schedule or under several
+check_within : (v : Option Word) (file : Word) (g : Given) → Whole Check g → value_of option.Schedules g ≡ v
+    → IsWithinLimits (check_by v (options_by (λ o. value_of o g)) (number_by (value_of option.Schedules g)) (number_by (value_of option.Workers g)) file)
+check_within None file g whole is = run_within g whole.values
+check_within (Some word) file g whole is =
+    let runs = number_fits 1 1000000 (value_of option.Schedules g) (ap is_some is) (good_value option.Schedules g whole.values) in
+    let workers = number_fits 1 8 (value_of option.Workers g) refl (good_value option.Workers g whole.values) in
+    record {
+      options = run_within g whole.values;
+      some_runs = runs.0;
+      few_runs = runs.1;
+      some_workers = workers.0;
+      few_workers = workers.1;
+    }
+
 -- the schedule of a command that takes none
 none_fits : BytesFit no_schedule
 none_fits = record { some = omega arith; few = omega arith; all = All-cons (λ b. b < 2 ^ 8) 0 [] (omega arith) (All-nil (λ b. b < 2 ^ 8)) }
@@ -184,7 +199,7 @@ made_within g whole =
 pub within_limits : (c : CommandName) (g : Given) → Whole c g → IsWithinLimits (command_given c g)
 within_limits Instrument g whole = tt
 within_limits Run g whole = run_within g whole.values
-within_limits Check g whole = run_within g whole.values
+within_limits Check g whole = check_within (value_of option.Schedules g) (unwrap_or (slice_get g.files 0) []) g whole refl
 within_limits Explain g whole = explain_within g whole.values
 within_limits Corpus g whole = corpus_within g whole
 within_limits Gen g whole = made_within g whole

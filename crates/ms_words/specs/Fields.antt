@@ -53,6 +53,11 @@ pub record FitsScheduled (value : OptionName → Option Word) : Type 0 where
   pub run : FitsReports value
   pub schedule : IsHex (value option.Schedule)
 
+pub record FitsCheck (value : OptionName → Option Word) : Type 0 where
+  pub run : FitsScheduled value
+  pub schedules : IsNumber 1000000 (value option.Schedules)
+  pub workers : IsNumber 8 (value option.Workers)
+
 pub record FitsCorpus (value : OptionName → Option Word) : Type 0 where
   pub run : FitsReports value
   pub workers : IsNumber 8 (value option.Workers)
@@ -64,7 +69,7 @@ pub record FitsGen (value : OptionName → Option Word) : Type 0 where
 abbrev pub Fits : CommandName → (OptionName → Option Word) → Type 0
 Fits Instrument value = ⊤
 Fits Run value = FitsScheduled value
-Fits Check value = FitsScheduled value
+Fits Check value = FitsCheck value
 Fits Explain value = FitsRun value
 Fits Corpus value = FitsCorpus value
 Fits Gen value = FitsGen value

@@ -1,7 +1,7 @@
 -- What the fields of a command may be (own).
 use Rattle.std.specs.Prelude.{◌≡◌, ◌≤◌, ◌<◌, ◌^◌, ℕ, List, All, length, ⊤}
 use Rattle.ms_words.specs.declared.commands.Command.{Command}
-use Rattle.ms_words.specs.declared.commands.Command.TheVariants.{Instrument, Run, Check, Explain, Corpus, Gen, Help, Version}
+use Rattle.ms_words.specs.declared.commands.Command.TheVariants.{Instrument, Run, Check, CheckSchedules, Explain, Corpus, Gen, Help, Version}
 use Rattle.ms_words.specs.declared.commands.Options.{Options}
 use Rattle.ms_words.specs.Table.{Word}
 
@@ -17,7 +17,15 @@ pub record RunsWithinLimits (o : Options) : Type 0 where
   pub schedule : length o.schedule ≤ 2048
   pub schedule_bytes : All (λ b. b < 2 ^ 8) o.schedule
 
--- the same with a limit of one report
+-- 1 to 1000000 runs, and 1 to 8 workers
+pub record SchedulesWithinLimits (o : Options) (runs workers : ℕ) : Type 0 where
+  pub options : RunsWithinLimits o
+  pub some_runs : 1 ≤ runs
+  pub few_runs : runs ≤ 1000000
+  pub some_workers : 1 ≤ workers
+  pub few_workers : workers ≤ 8
+
+-- options with a limit of one report
 pub record ExplainsWithinLimits (o : Options) : Type 0 where
   pub runs : RunsWithinLimits o
   pub one_report : o.reports ≡ 1
@@ -41,6 +49,7 @@ abbrev pub IsWithinLimits : Command → Type 0
 IsWithinLimits (Instrument file) = ⊤
 IsWithinLimits (Run file options) = RunsWithinLimits options
 IsWithinLimits (Check file options) = RunsWithinLimits options
+IsWithinLimits (CheckSchedules file options runs workers) = SchedulesWithinLimits options runs workers
 IsWithinLimits (Explain file options) = ExplainsWithinLimits options
 IsWithinLimits (Corpus file inputs options workers) = CorpusWithinLimits inputs options workers
 IsWithinLimits (Gen seed functions run) = MadeWithinLimits seed functions

@@ -2,15 +2,17 @@
 use Rattle.std.specs.Prelude.{◌≡◌, ◌⊎◌, ℕ, ◌+◌, ◌==◌, ◌&&◌, Bool, true, false, not, List, [], ◌∷◌, ◌++◌, length, Option, Some, None, option_map, is_some, Result, Ok, Err, find, nat_lt, nat_eq, if◌then◌else◌, codes}
 use Rattle.std.specs.List.{list_all, list_any, before_first, after_first}
 use Rattle.std.specs.Cmp.Lexicographic.{pointwise}
+use Rattle.std.specs.Option.{option_map_or}
 use Rattle.ms_words.specs.declared.names.CommandName.{CommandName}
 use Rattle.ms_words.specs.declared.names.OptionName.{OptionName}
+use Rattle.ms_words.specs.declared.names.OptionName.TheVariants.{Workers}
 use Rattle.ms_words.specs.declared.names.Takes.{Takes}
 use Rattle.ms_words.specs.declared.names.Takes.TheVariants.{Nothing}
 use Rattle.ms_words.specs.declared.reading.Next.{Next}
 use Rattle.ms_words.specs.declared.reading.Next.TheVariants.{AnOption, AValue, AFile}
 use Rattle.ms_words.specs.declared.commands.WordsError.{WordsError}
-use Rattle.ms_words.specs.declared.commands.WordsError.TheVariants.{NoMemory, UnknownOption, MissingValue, MissingFile, MissingOption, Extra, Repeated}
-use Rattle.ms_words.specs.Table.{Word, option_word, takes, options_of, wanted_of, least_files, most_files}
+use Rattle.ms_words.specs.declared.commands.WordsError.TheVariants.{NoMemory, UnknownOption, MissingValue, MissingFile, MissingOption, Extra, Repeated, Excluded}
+use Rattle.ms_words.specs.Table.{Word, option_word, takes, options_of, wanted_with_workers, excluded_by, least_files, most_files}
 use Rattle.ms_words.specs.Values.{value_fault}
 
 -- what the words so far have given, in their order
@@ -68,6 +70,10 @@ option_eq a b = same (option_word a) (option_word b)
 abbrev pub is_given : OptionName → Given → Bool
 is_given o g = list_any (λ p. option_eq p.0 o) g.options
 
+-- whether one is given that it can't stand beside
+abbrev pub is_excluded : OptionName → Given → Bool
+is_excluded o g = option_map_or (λ other. is_given other g) (excluded_by o) false
+
 abbrev pub with_option : OptionName → Word → Given → Given
 with_option o value g = record g { options = g.options ++ (o, value) ∷ [] }
 
@@ -85,10 +91,11 @@ abbrev pub begin_option : OptionName → Option Word → ℕ → Given → Outco
 begin_option o (Some value) place g = read_value o place value g
 begin_option o None place g = if takes_nothing (takes o) then Ok (AnOption, with_option o [] g) else Ok (AValue o, g)
 
--- an option where one is known, each once
+-- an option where one is known, each once, and none beside one that excludes it
 abbrev pub read_option : Option (OptionName × Option Word) → ℕ → Given → Outcome
 read_option None place g = Err (UnknownOption place)
-read_option (Some p) place g = if is_given p.0 g then Err (Repeated place) else begin_option p.0 p.1 place g
+read_option (Some p) place g =
+    if is_given p.0 g then Err (Repeated place) else if is_excluded p.0 g then Err (Excluded place) else begin_option p.0 p.1 place g
 
 -- ---- files
 
@@ -114,10 +121,14 @@ read_word c AnOption place word g = if same word (codes "--") then Ok (AFile, g)
 read_word c (AValue o) place word g = read_value o place word g
 read_word c AFile place word g = read_file c place word g
 
+-- the options that a command must have beside those that are given
+abbrev pub wanted_in : CommandName → Given → List OptionName
+wanted_in c g = wanted_with_workers c (is_given Workers g)
+
 -- the end of the words: what is missing there
 abbrev pub end_words : CommandName → ℕ → Given → Result Given WordsError
 end_words c place g =
-    if not (list_all (λ o. is_given o g) (wanted_of c)) then Err (MissingOption place)
+    if not (list_all (λ o. is_given o g) (wanted_in c g)) then Err (MissingOption place)
     else if nat_lt (length g.files) (least_files c) then Err (MissingFile place)
     else Ok g
 

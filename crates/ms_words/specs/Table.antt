@@ -1,5 +1,5 @@
 -- The commands and their options, and the questions about the program itself: one row each (own).
-use Rattle.std.specs.Prelude.{ℕ, ◌^◌, ◌-◌, List, [], ◌∷◌, Option, Some, None, codes}
+use Rattle.std.specs.Prelude.{ℕ, ◌^◌, ◌-◌, Bool, if◌then◌else◌, List, [], ◌∷◌, Option, Some, None, codes}
 use Rattle.ms_words.specs.declared.topics.Topic.{Topic}
 use Rattle.ms_words.specs.declared.topics.Topic.TheVariants.{Help, Version}
 use Rattle.ms_words.specs.declared.names.CommandName.{CommandName}
@@ -28,7 +28,9 @@ command_word Gen = codes "gen"
 
 -- the options, in the order of the usage
 abbrev pub options : List OptionName
-options = option.Input ∷ option.Fill ∷ option.Steps ∷ option.Reports ∷ option.Schedule ∷ option.Workers ∷ option.Seed ∷ option.Functions ∷ option.Run ∷ option.Where ∷ []
+options =
+    option.Input ∷ option.Fill ∷ option.Steps ∷ option.Reports ∷ option.Schedule ∷ option.Schedules ∷ option.Workers ∷ option.Seed ∷ option.Functions ∷ option.Run
+    ∷ option.Where ∷ []
 
 -- the word that names an option, after two dashes
 abbrev pub option_word : OptionName → Word
@@ -37,6 +39,7 @@ option_word option.Fill = codes "fill"
 option_word option.Steps = codes "steps"
 option_word option.Reports = codes "reports"
 option_word option.Schedule = codes "schedule"
+option_word option.Schedules = codes "schedules"
 option_word option.Workers = codes "workers"
 option_word option.Seed = codes "seed"
 option_word option.Functions = codes "functions"
@@ -50,6 +53,7 @@ takes option.Fill = Hex 2048
 takes option.Steps = Number 0 1000000000
 takes option.Reports = Number 1 1000
 takes option.Schedule = Hex 2048
+takes option.Schedules = Number 1 1000000
 takes option.Workers = Number 1 8
 takes option.Seed = Number 0 (2 ^ 64 - 1)
 takes option.Functions = Number 1 1000
@@ -69,7 +73,8 @@ default_of _ = None
 abbrev pub options_of : CommandName → List OptionName
 options_of Instrument = []
 options_of Run = option.Input ∷ option.Fill ∷ option.Steps ∷ option.Reports ∷ option.Schedule ∷ option.Where ∷ []
-options_of Check = option.Input ∷ option.Fill ∷ option.Steps ∷ option.Reports ∷ option.Schedule ∷ option.Where ∷ []
+options_of Check =
+    option.Input ∷ option.Fill ∷ option.Steps ∷ option.Reports ∷ option.Schedule ∷ option.Schedules ∷ option.Workers ∷ option.Where ∷ []
 options_of Explain = option.Input ∷ option.Fill ∷ option.Steps ∷ option.Where ∷ []
 options_of Corpus = option.Workers ∷ option.Fill ∷ option.Steps ∷ option.Reports ∷ option.Where ∷ []
 options_of Gen = option.Seed ∷ option.Functions ∷ option.Run ∷ []
@@ -78,6 +83,17 @@ options_of Gen = option.Seed ∷ option.Functions ∷ option.Run ∷ []
 abbrev pub wanted_of : CommandName → List OptionName
 wanted_of Gen = option.Seed ∷ option.Functions ∷ []
 wanted_of _ = []
+
+-- those that it must have beside the ones that are given, by whether the number of workers is: a check of one schedule has no use for it
+abbrev pub wanted_with_workers : CommandName → (workers : Bool) → List OptionName
+wanted_with_workers Check workers = if workers then option.Schedules ∷ [] else []
+wanted_with_workers c workers = wanted_of c
+
+-- the option that can't be given beside one
+abbrev pub excluded_by : OptionName → Option OptionName
+excluded_by option.Schedule = Some option.Schedules
+excluded_by option.Schedules = Some option.Schedule
+excluded_by _ = None
 
 -- how many files it has, at least and at most: a corpus has 1 to 256 inputs after its module
 abbrev pub least_files : CommandName → ℕ

@@ -6,10 +6,10 @@ use Rattle.ms_words.specs.declared.names.CommandName.TheVariants as name
 use Rattle.ms_words.specs.declared.names.OptionName.{OptionName}
 use Rattle.ms_words.specs.declared.names.OptionName.TheVariants as option
 use Rattle.ms_words.specs.declared.commands.Command.{Command}
-use Rattle.ms_words.specs.declared.commands.Command.TheVariants.{Instrument, Run, Check, Explain, Corpus, Gen, Help, Version}
+use Rattle.ms_words.specs.declared.commands.Command.TheVariants.{Instrument, Run, Check, CheckSchedules, Explain, Corpus, Gen, Help, Version}
 use Rattle.ms_words.specs.declared.commands.Options.{Options}
 use Rattle.ms_words.specs.declared.commands.WordsError.{WordsError}
-use Rattle.ms_words.specs.declared.commands.WordsError.TheVariants.{NoMemory, UnknownCommand, UnknownOption, MissingValue, MissingFile, MissingOption, Extra, BadNumber, BadHex, Repeated, OutOfRange}
+use Rattle.ms_words.specs.declared.commands.WordsError.TheVariants.{NoMemory, UnknownCommand, UnknownOption, MissingValue, MissingFile, MissingOption, Extra, BadNumber, BadHex, Repeated, Excluded, OutOfRange}
 use Rattle.ms_words.specs.declared.reading.Next.TheVariants.{AnOption}
 use Rattle.ms_words.specs.declared.topics.Topic.{Topic}
 use Rattle.ms_words.specs.declared.topics.Topic.TheVariants as topic
@@ -56,11 +56,17 @@ corpus_options_by value = record (options_by value) { input = None; schedule = n
 abbrev pub defaults : Options
 defaults = options_by (λ o. value_of o nothing)
 
+-- a check under one schedule, or under several where the option is given
+abbrev pub check_by : Option Word → Options → (runs workers : ℕ) → Word → Command
+check_by None options runs workers file = Check file options
+check_by (Some word) options runs workers file = CheckSchedules file options runs workers
+
 -- a command by the values of its options, its first file and the files after it
 abbrev pub command_by : CommandName → (OptionName → Option Word) → Word → List Word → Command
 command_by name.Instrument value file inputs = Instrument file
 command_by name.Run value file inputs = Run file (options_by value)
-command_by name.Check value file inputs = Check file (options_by value)
+command_by name.Check value file inputs =
+    check_by (value option.Schedules) (options_by value) (number_by (value option.Schedules)) (number_by (value option.Workers)) file
 command_by name.Explain value file inputs = Explain file (explain_options_by value)
 command_by name.Corpus value file inputs = Corpus file inputs (corpus_options_by value) (number_by (value option.Workers))
 command_by name.Gen value file inputs = Gen (number_by (value option.Seed)) (number_by (value option.Functions)) (is_some (value option.Run))
@@ -111,6 +117,7 @@ name_of (Extra place) = codes "Extra"
 name_of (BadNumber place) = codes "BadNumber"
 name_of (BadHex place) = codes "BadHex"
 name_of (Repeated place) = codes "Repeated"
+name_of (Excluded place) = codes "Excluded"
 name_of (OutOfRange place) = codes "OutOfRange"
 name_of NoMemory = codes "NoMemory"
 
@@ -125,5 +132,6 @@ place_of (Extra place) = place
 place_of (BadNumber place) = place
 place_of (BadHex place) = place
 place_of (Repeated place) = place
+place_of (Excluded place) = place
 place_of (OutOfRange place) = place
 place_of NoMemory = 0

@@ -40,6 +40,15 @@ pub enum Command {
         file: Text,
         options: Options,
     },
+    /// Does what `Check` does under schedules that are tried one after the other, each with other picks of threads, up to the first
+    /// run with a report or a blind use: at most `runs` of them, 1 to 1000000, in up to `workers` threads, 1 to 8. Of the schedule in
+    /// `options` no use is made.
+    CheckSchedules {
+        file: Text,
+        options: Options,
+        runs: u32,
+        workers: u8,
+    },
     /// Does what `Check` does up to the first report, and shows the way on which the bits that it is about came. `options` has a
     /// limit of one report.
     Explain {
@@ -80,7 +89,7 @@ pub enum WordsError {
     MissingValue { place: u32 },
     /// The words end before the file, or before the first input of a corpus.
     MissingFile { place: u32 },
-    /// The words end without an option that the command must have.
+    /// The words end without an option that the command must have, at all or beside another one that was given.
     MissingOption { place: u32 },
     /// A word after the last file that the command takes.
     Extra { place: u32 },
@@ -90,6 +99,8 @@ pub enum WordsError {
     BadHex { place: u32 },
     /// The option was given before.
     Repeated { place: u32 },
+    /// The option can't stand beside one that was given before.
+    Excluded { place: u32 },
     /// The value is a number below the least or above the greatest that the option takes, or more bytes than it takes.
     OutOfRange { place: u32 },
     /// Reading the words ran out of memory.
@@ -111,6 +122,7 @@ impl WordsError {
             WordsError::BadNumber { .. } => "BadNumber",
             WordsError::BadHex { .. } => "BadHex",
             WordsError::Repeated { .. } => "Repeated",
+            WordsError::Excluded { .. } => "Excluded",
             WordsError::OutOfRange { .. } => "OutOfRange",
             WordsError::NoMemory => "NoMemory",
         }
@@ -130,6 +142,7 @@ impl WordsError {
             | WordsError::BadNumber { place }
             | WordsError::BadHex { place }
             | WordsError::Repeated { place }
+            | WordsError::Excluded { place }
             | WordsError::OutOfRange { place } => place,
             WordsError::NoMemory => 0,
         }

@@ -1,7 +1,7 @@
 //! What lists of words ask for: laws about the definitions, computed by the check. The results are worked out by hand.
 ghost use Rattle.std.specs.Prelude.{◌≡◌, ◌++◌, [], ◌∷◌, Ok, Err, Some, true, false, codes, decimal, replicate};
-ghost use Rattle.ms_words.specs.declared.commands.Command.TheVariants.{Instrument, Run, Check, Explain, Corpus, Gen, Help, Version};
-ghost use Rattle.ms_words.specs.declared.commands.WordsError.TheVariants.{UnknownCommand, UnknownOption, MissingValue, MissingFile, MissingOption, Extra, BadNumber, BadHex, Repeated, OutOfRange};
+ghost use Rattle.ms_words.specs.declared.commands.Command.TheVariants.{Instrument, Run, Check, CheckSchedules, Explain, Corpus, Gen, Help, Version};
+ghost use Rattle.ms_words.specs.declared.commands.WordsError.TheVariants.{UnknownCommand, UnknownOption, MissingValue, MissingFile, MissingOption, Extra, BadNumber, BadHex, Repeated, Excluded, OutOfRange};
 ghost use Rattle.ms_words.specs.Usage.{synopsis, command_about, topic_line, option_line};
 ghost use Rattle.ms_words.specs.Words.{command_of, defaults};
 ghost use Rattle.ms_words.specs.declared.names.CommandName.TheVariants as name;
@@ -92,6 +92,37 @@ pub fn words_with_a_schedule()
     ensures of_gen { command_of (codes "gen" ∷ codes "--schedule=00" ∷ []) ≡ Err (UnknownOption 1) }
 {}
 
+/// The option with the greatest number of schedules, and the number of workers beside it.
+pub fn words_with_schedules()
+    ensures of_check { command_of (codes "check" ∷ codes "--schedules" ∷ codes "20" ∷ codes "f" ∷ []) ≡ Ok (CheckSchedules (codes "f") defaults 20 2) }
+    ensures workers { command_of (codes "check" ∷ codes "--workers=8" ∷ codes "--schedules=1000000" ∷ codes "f" ∷ []) ≡ Ok (CheckSchedules (codes "f") defaults 1000000 8) }
+    ensures all_options { command_of (codes "check" ∷ codes "--where" ∷ codes "--schedules=1" ∷ codes "--reports=3" ∷ codes "--input" ∷ codes "in" ∷ codes "--steps=0" ∷ codes "--fill" ∷ codes "00fF" ∷ codes "--workers" ∷ codes "1" ∷ codes "m" ∷ [])
+        ≡ Ok (CheckSchedules (codes "m") (record defaults { input = Some (codes "in"); fill = 0 ∷ 255 ∷ []; steps = 0; reports = 3; locations = true }) 1 1) }
+    ensures not_given { command_of (codes "check" ∷ codes "f" ∷ []) ≡ Ok (Check (codes "f") defaults) }
+    ensures a_file { command_of (codes "check" ∷ codes "--" ∷ codes "--schedules" ∷ []) ≡ Ok (Check (codes "--schedules") defaults) }
+    ensures none { command_of (codes "check" ∷ codes "--schedules" ∷ codes "0" ∷ codes "f" ∷ []) ≡ Err (OutOfRange 2) }
+    ensures too_many { command_of (codes "check" ∷ codes "--schedules=1000001" ∷ codes "f" ∷ []) ≡ Err (OutOfRange 1) }
+    ensures no_number { command_of (codes "check" ∷ codes "--schedules=0a" ∷ codes "f" ∷ []) ≡ Err (BadNumber 1) }
+    ensures leading_zero { command_of (codes "check" ∷ codes "--schedules" ∷ codes "05" ∷ codes "f" ∷ []) ≡ Err (BadNumber 2) }
+    ensures empty { command_of (codes "check" ∷ codes "--schedules=" ∷ codes "f" ∷ []) ≡ Err (BadNumber 1) }
+    ensures no_value { command_of (codes "check" ∷ codes "--schedules" ∷ []) ≡ Err (MissingValue 2) }
+    ensures twice { command_of (codes "check" ∷ codes "--schedules=5" ∷ codes "--schedules" ∷ codes "6" ∷ codes "f" ∷ []) ≡ Err (Repeated 2) }
+    ensures after_a_schedule { command_of (codes "check" ∷ codes "--schedule=00" ∷ codes "--schedules=5" ∷ codes "f" ∷ []) ≡ Err (Excluded 2) }
+    ensures before_a_schedule { command_of (codes "check" ∷ codes "--schedules" ∷ codes "5" ∷ codes "--schedule" ∷ codes "00" ∷ codes "f" ∷ []) ≡ Err (Excluded 3) }
+    ensures excluded_before_bad { command_of (codes "check" ∷ codes "--schedules=5" ∷ codes "--schedule=0" ∷ codes "f" ∷ []) ≡ Err (Excluded 2) }
+    ensures repeated_before_excluded { command_of (codes "check" ∷ codes "--schedule=00" ∷ codes "--schedule=00" ∷ codes "--schedules=5" ∷ codes "f" ∷ []) ≡ Err (Repeated 2) }
+    ensures workers_alone { command_of (codes "check" ∷ codes "--workers=2" ∷ codes "f" ∷ []) ≡ Err (MissingOption 3) }
+    ensures workers_without_file { command_of (codes "check" ∷ codes "--workers" ∷ codes "2" ∷ []) ≡ Err (MissingOption 3) }
+    ensures no_file { command_of (codes "check" ∷ codes "--workers=2" ∷ codes "--schedules=5" ∷ []) ≡ Err (MissingFile 3) }
+    ensures nine_workers { command_of (codes "check" ∷ codes "--schedules=5" ∷ codes "--workers=9" ∷ codes "f" ∷ []) ≡ Err (OutOfRange 2) }
+    ensures second_file { command_of (codes "check" ∷ codes "--schedules=5" ∷ codes "f" ∷ codes "g" ∷ []) ≡ Err (Extra 3) }
+    ensures of_run { command_of (codes "run" ∷ codes "--schedules=5" ∷ codes "f" ∷ []) ≡ Err (UnknownOption 1) }
+    ensures of_explain { command_of (codes "explain" ∷ codes "--schedules" ∷ codes "5" ∷ codes "f" ∷ []) ≡ Err (UnknownOption 1) }
+    ensures of_corpus { command_of (codes "corpus" ∷ codes "--schedules=5" ∷ codes "f" ∷ codes "a" ∷ []) ≡ Err (UnknownOption 1) }
+    ensures of_instrument { command_of (codes "instrument" ∷ codes "--schedules=5" ∷ codes "f" ∷ []) ≡ Err (UnknownOption 1) }
+    ensures of_gen { command_of (codes "gen" ∷ codes "--schedules=5" ∷ []) ≡ Err (UnknownOption 1) }
+{}
+
 /// Where the options end.
 pub fn end_of_options()
     ensures one_dash_is_a_file { command_of (codes "run" ∷ codes "-" ∷ []) ≡ Ok (Run (codes "-") defaults) }
@@ -157,7 +188,7 @@ pub fn questions()
 pub fn lines_of_commands()
     ensures instrument { synopsis name.Instrument ≡ codes "  msan instrument FILE\n" }
     ensures run { synopsis name.Run ≡ codes "  msan run [--input FILE] [--fill HEX] [--steps N] [--reports N] [--schedule HEX] [--where] FILE\n" }
-    ensures check { synopsis name.Check ≡ codes "  msan check [--input FILE] [--fill HEX] [--steps N] [--reports N] [--schedule HEX] [--where] FILE\n" }
+    ensures check { synopsis name.Check ≡ codes "  msan check [--input FILE] [--fill HEX] [--steps N] [--reports N] [--schedule HEX] [--schedules N] [--workers N] [--where] FILE\n" }
     ensures explain { synopsis name.Explain ≡ codes "  msan explain [--input FILE] [--fill HEX] [--steps N] [--where] FILE\n" }
     ensures corpus { synopsis name.Corpus ≡ codes "  msan corpus [--workers N] [--fill HEX] [--steps N] [--reports N] [--where] FILE INPUT...\n" }
     ensures inputs { command_about name.Corpus ≡ codes "      check the module in FILE with each INPUT as its standard input: " ++ decimal 1 ++ codes " to " ++ decimal 256 ++ codes " inputs\n" }
@@ -173,7 +204,8 @@ pub fn lines_of_options()
     ensures steps { option_line option.Steps ≡ codes "  --steps N       greatest number of steps of a run: " ++ decimal 0 ++ codes " to " ++ decimal 1000000000 ++ codes ", default 10000000\n" }
     ensures reports { option_line option.Reports ≡ codes "  --reports N     number of reports at which a run ends: " ++ decimal 1 ++ codes " to " ++ decimal 1000 ++ codes ", default 1\n" }
     ensures schedule { option_line option.Schedule ≡ codes "  --schedule HEX  bytes that pick the threads that go on, two digits each: 1 to " ++ decimal 2048 ++ codes " bytes, default 00\n" }
-    ensures workers { option_line option.Workers ≡ codes "  --workers N     inputs that are run at once: " ++ decimal 1 ++ codes " to " ++ decimal 8 ++ codes ", default 2\n" }
+    ensures schedules { option_line option.Schedules ≡ codes "  --schedules N   greatest number of schedules that are tried, one run each: " ++ decimal 1 ++ codes " to " ++ decimal 1000000 ++ codes "\n" }
+    ensures workers { option_line option.Workers ≡ codes "  --workers N     inputs or schedules that are run at once: " ++ decimal 1 ++ codes " to " ++ decimal 8 ++ codes ", default 2\n" }
     ensures seed { option_line option.Seed ≡ codes "  --seed N        number that the module is made from: " ++ decimal 0 ++ codes " to " ++ decimal 18446744073709551615 ++ codes "\n" }
     ensures functions { option_line option.Functions ≡ codes "  --functions N   number of functions beside main: " ++ decimal 1 ++ codes " to " ++ decimal 1000 ++ codes "\n" }
     ensures runs { option_line option.Run ≡ codes "  --run           check the module instead of writing it\n" }

@@ -3,7 +3,7 @@ ghost use Rattle.std.specs.{Prelude.{◌≡◌, ◌-◌, ◌^◌, IfOk, unwrap_o
 ghost use Rattle.clap.specs.Words.{found_of, first_value};
 ghost use Rattle.ms_words.specs.{Table.{option_word}, Values.{hex_bytes as hex_bytes_of}};
 ghost use Rattle.ms_words.specs.Words.{number_by, options_by, explain_options_by, corpus_options_by, command_by, no_schedule as no_schedule_of};
-ghost use Rattle.ms_words.specs.Fields.{IsNumber, IsHex, FitsRun, FitsReports, FitsScheduled, FitsCorpus, FitsGen, Fits, found_value, found_file, found_inputs, is_set as is_set_of};
+ghost use Rattle.ms_words.specs.Fields.{IsNumber, IsHex, FitsRun, FitsReports, FitsScheduled, FitsCheck, FitsCorpus, FitsGen, Fits, found_value, found_file, found_inputs, is_set as is_set_of};
 
 use crate::commands::{Command, Options};
 use crate::names::{CommandName, OptionName};
@@ -38,6 +38,14 @@ fn workers_in(found: &ArgMatches) -> u8
     ensures { result ≡ number_by (first_value (found_of found.now) (option_word OptionName.Workers)) }
 {
     number_in(found, OptionName::Workers) as u8
+}
+
+/// The greatest number of runs that was found.
+fn runs_in(found: &ArgMatches) -> u32
+    requires { IsNumber 1000000 (first_value (found_of found.now) (option_word OptionName.Schedules)) }
+    ensures { result ≡ number_by (first_value (found_of found.now) (option_word OptionName.Schedules)) }
+{
+    number_in(found, OptionName::Schedules) as u32
 }
 
 /// Whether an option that takes no value was found.
@@ -176,6 +184,23 @@ fn run_in(alloc: Global, found: &ArgMatches) -> Result<(Text, Options), NoMemory
     file_and_options(alloc, found, reports_in(found), schedule)
 }
 
+/// What checks a module, under several schedules where the option was found.
+fn check_in(alloc: Global, found: &ArgMatches) -> Result<Command, NoMemory>
+    requires { FitsCheck (found_value (found_of found.now)) }
+    ensures { IfOk result (λ c. c ≡ command_by CommandName.Check (found_value (found_of found.now)) (found_file (found_of found.now)) (found_inputs (found_of found.now))) }
+{
+    let (file, options) = run_in(alloc, found)?;
+    match found.get_str(OptionName::Schedules.word()) {
+        Some(_) => Ok(Command::CheckSchedules {
+            file,
+            options,
+            runs: runs_in(found),
+            workers: workers_in(found),
+        }),
+        None => Ok(Command::Check { file, options }),
+    }
+}
+
 /// The file and the options of a run to be explained, by what was found.
 fn explained_in(alloc: Global, found: &ArgMatches) -> Result<(Text, Options), NoMemory>
     requires { FitsRun (found_value (found_of found.now)) }
@@ -240,10 +265,7 @@ pub fn command_in(
             let (file, options) = run_in(alloc, found)?;
             Ok(Command::Run { file, options })
         }
-        CommandName::Check => {
-            let (file, options) = run_in(alloc, found)?;
-            Ok(Command::Check { file, options })
-        }
+        CommandName::Check => check_in(alloc, found),
         CommandName::Explain => {
             let (file, options) = explained_in(alloc, found)?;
             Ok(Command::Explain { file, options })

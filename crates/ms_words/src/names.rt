@@ -1,6 +1,6 @@
 //! The names of commands and of their options: one row each.
 ghost use Rattle.std.specs.Prelude.{◌≡◌, ◌&&◌, not, find, option_map};
-ghost use Rattle.ms_words.specs.Table.{commands, command_word, default_of, option_word, options_of, wanted_of, takes as takes_of, least_files as least_files_of, most_files as most_files_of};
+ghost use Rattle.ms_words.specs.Table.{commands, command_word, default_of, option_word, options_of, wanted_of, wanted_with_workers, excluded_by, takes as takes_of, least_files as least_files_of, most_files as most_files_of};
 ghost use Rattle.ms_words.specs.{Reading.{same, takes_nothing}, Usage.{is_wanted}};
 
 /// A command.
@@ -22,6 +22,7 @@ pub enum OptionName {
     Steps,
     Reports,
     Schedule,
+    Schedules,
     Workers,
     Seed,
     Functions,
@@ -52,12 +53,13 @@ pub static COMMANDS: [CommandName; 6] = [
 ];
 
 /// The options, in the order of the usage.
-pub static OPTIONS: [OptionName; 10] = [
+pub static OPTIONS: [OptionName; 11] = [
     OptionName::Input,
     OptionName::Fill,
     OptionName::Steps,
     OptionName::Reports,
     OptionName::Schedule,
+    OptionName::Schedules,
     OptionName::Workers,
     OptionName::Seed,
     OptionName::Functions,
@@ -73,6 +75,17 @@ static RUN_OPTIONS: [OptionName; 6] = [
     OptionName::Steps,
     OptionName::Reports,
     OptionName::Schedule,
+    OptionName::Where,
+];
+
+static CHECK_OPTIONS: [OptionName; 8] = [
+    OptionName::Input,
+    OptionName::Fill,
+    OptionName::Steps,
+    OptionName::Reports,
+    OptionName::Schedule,
+    OptionName::Schedules,
+    OptionName::Workers,
     OptionName::Where,
 ];
 
@@ -94,6 +107,8 @@ static CORPUS_OPTIONS: [OptionName; 5] = [
 static GEN_OPTIONS: [OptionName; 3] = [OptionName::Seed, OptionName::Functions, OptionName::Run];
 
 static GEN_WANTED: [OptionName; 2] = [OptionName::Seed, OptionName::Functions];
+
+static CHECK_WANTED: [OptionName; 1] = [OptionName::Schedules];
 
 impl CommandName {
     /// The command that the word names.
@@ -127,7 +142,7 @@ impl CommandName {
         match self {
             CommandName::Instrument => NO_OPTIONS.as_slice(),
             CommandName::Run => RUN_OPTIONS.as_slice(),
-            CommandName::Check => RUN_OPTIONS.as_slice(),
+            CommandName::Check => CHECK_OPTIONS.as_slice(),
             CommandName::Explain => EXPLAIN_OPTIONS.as_slice(),
             CommandName::Corpus => CORPUS_OPTIONS.as_slice(),
             CommandName::Gen => GEN_OPTIONS.as_slice(),
@@ -141,6 +156,16 @@ impl CommandName {
         match self {
             CommandName::Gen => GEN_WANTED.as_slice(),
             _ => NO_OPTIONS.as_slice(),
+        }
+    }
+
+    /// The options that it must have beside those that are given, by whether the number of workers is.
+    pub fn wanted_with(self, workers: bool) -> &'static [OptionName]
+        ensures { result.now ≡ wanted_with_workers self workers }
+    {
+        match self {
+            CommandName::Check => { if workers { CHECK_WANTED.as_slice() } else { NO_OPTIONS.as_slice() } }
+            _ => self.wanted(),
         }
     }
 
@@ -196,6 +221,7 @@ impl OptionName {
             OptionName::Steps => "steps",
             OptionName::Reports => "reports",
             OptionName::Schedule => "schedule",
+            OptionName::Schedules => "schedules",
             OptionName::Workers => "workers",
             OptionName::Seed => "seed",
             OptionName::Functions => "functions",
@@ -220,6 +246,10 @@ impl OptionName {
                 most: 1000,
             },
             OptionName::Schedule => Takes::Hex { most: 2048 },
+            OptionName::Schedules => Takes::Number {
+                least: 1,
+                most: 1000000,
+            },
             OptionName::Workers => Takes::Number { least: 1, most: 8 },
             OptionName::Seed => Takes::Number {
                 least: 0,
@@ -244,6 +274,17 @@ impl OptionName {
             OptionName::Reports => Some("1"),
             OptionName::Schedule => Some("00"),
             OptionName::Workers => Some("2"),
+            _ => None,
+        }
+    }
+
+    /// The option that can't be given beside it.
+    pub fn excluded(self) -> Option<OptionName>
+        ensures { result ≡ excluded_by self }
+    {
+        match self {
+            OptionName::Schedule => Some(OptionName::Schedules),
+            OptionName::Schedules => Some(OptionName::Schedule),
             _ => None,
         }
     }

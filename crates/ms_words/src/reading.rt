@@ -1,8 +1,8 @@
 //! The words after the command, read from left to right to the first fault.
 ghost use Rattle.std.specs.Prelude.{◌≡◌, ◌+◌, ◌<◌, ◌^◌, ◌&&◌, IfOk, MatchResult, Ok as Fine, Err as Wrong, length, option_map};
 ghost use Rattle.std.specs.List.{list_all};
-ghost use Rattle.ms_words.specs.{Table.{takes as takes_of, wanted_of}, Words.{value_of}};
-ghost use Rattle.ms_words.specs.Reading.{Answers, AnswersAll, nothing, is_given, with_option, with_file, read_value as read_value_of, begin_option as begin_option_of, read_option as read_option_of, read_file as read_file_of, read_plain as read_plain_of, read_word as read_word_of, read_end as read_end_of, end_words as end_words_of, read_words_from, known_option as known_option_of, name_and_value, option_in as option_in_of, after_dash};
+ghost use Rattle.ms_words.specs.{Table.{takes as takes_of}, Words.{value_of}};
+ghost use Rattle.ms_words.specs.Reading.{Answers, AnswersAll, nothing, is_given, is_excluded, wanted_in, with_option, with_file, read_value as read_value_of, begin_option as begin_option_of, read_option as read_option_of, read_file as read_file_of, read_plain as read_plain_of, read_word as read_word_of, read_end as read_end_of, end_words as end_words_of, read_words_from, known_option as known_option_of, name_and_value, option_in as option_in_of, after_dash};
 
 use crate::commands::WordsError;
 use crate::names::{CommandName, OptionName};
@@ -60,6 +60,23 @@ impl Accepted {
             }
         }
         false
+    }
+
+    /// Whether one is given that the option can't stand beside.
+    fn excludes(&self, option: OptionName) -> bool
+        ensures { result ≡ is_excluded option self.now }
+    {
+        match option.excluded() {
+            Some(other) => self.has(other),
+            None => false,
+        }
+    }
+
+    /// The options that the command must have beside those that are given.
+    fn wanted(&self, command: CommandName) -> &'static [OptionName]
+        ensures { result.now ≡ wanted_in command self.now }
+    {
+        command.wanted_with(self.has(OptionName::Workers))
     }
 
     /// The files.
@@ -147,6 +164,8 @@ impl Accepted {
             Some(option) => {
                 if self.has(option) {
                     Err(WordsError::Repeated { place })
+                } else if self.excludes(option) {
+                    Err(WordsError::Excluded { place })
                 } else {
                     self.begin_option(alloc, option, value, place)
                 }
@@ -265,7 +284,7 @@ impl Accepted {
     fn end_words(self, command: CommandName, place: u32) -> Result<Accepted, WordsError>
         ensures { result ≡ end_words_of command place self }
     {
-        if !self.has_all(command.wanted()) {
+        if !self.has_all(self.wanted(command)) {
             Err(WordsError::MissingOption { place })
         } else if self.files.len() < command.least_files() {
             Err(WordsError::MissingFile { place })

@@ -32,8 +32,8 @@ fn with_fields(
 ///
 /// # Errors
 ///
-/// The first fault from left to right, with its place; at one option first that it isn't known, then that it is repeated,
-/// that its value is missing, that this is no number or no hexadecimal digits, and that it is out of range. Or
+/// The first fault from left to right, with its place; at one option first that it isn't known, then that it is repeated, that
+/// another one excludes it, that its value is missing, that this is no number or no hexadecimal digits, and that it is out of range. Or
 /// `NoMemory`, where it runs out of memory.
 pub fn read_words(alloc: Global, words: &[Text]) -> Result<Command, WordsError>
     ensures answer { IsAnswer words.now result }

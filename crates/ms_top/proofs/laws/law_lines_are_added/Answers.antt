@@ -1,5 +1,5 @@
 use Rattle.ms_top.specs.Instrumented.{IsInstrumented}
-use Rattle.ms_top.proofs.Added.{run_added, check_added, explain_added, corpus_added, run_taken_out, fault_taken_out, run_alone, fault_alone}
+use Rattle.ms_top.proofs.Added.{run_added, check_added, schedules_added, explain_added, corpus_added, run_taken_out, fault_taken_out, run_alone, fault_alone}
 use Rattle.ms_top.proofs.laws.law_lines_are_added.Goals as goal
 
 pub returns-clause-run : goal.returns-clause-run
@@ -7,6 +7,9 @@ returns-clause-run c = λ file inputs o text a. run_added IsInstrumented file o 
 
 pub returns-clause-check : goal.returns-clause-check
 returns-clause-check c = λ file inputs o text a. check_added IsInstrumented file o inputs text a
+
+pub returns-clause-schedules : goal.returns-clause-schedules
+returns-clause-schedules c = λ file inputs o runs workers text a. schedules_added IsInstrumented file o runs workers inputs text a
 
 pub returns-clause-explain : goal.returns-clause-explain
 returns-clause-explain c = λ file inputs o text a. explain_added IsInstrumented file o inputs text a

@@ -1,4 +1,4 @@
-use Rattle.ms_words.specs.declared.commands.Command.TheVariants.{Instrument, Run, Check, Explain, Corpus}
+use Rattle.ms_words.specs.declared.commands.Command.TheVariants.{Instrument, Run, Check, CheckSchedules, Explain, Corpus}
 use Rattle.ms_top.specs.Files.{Counted, counted}
 use Rattle.ms_top.specs.Said.{IsAnswerToCommand}
 use Rattle.ms_top.proofs.Reading.{same_command, generated_answer, help_answer, version_answer}
@@ -40,6 +40,15 @@ returns-in-Check-clause-said g c =
     if_ok c.run_file-in-Check.result
     (λ a (is : IsAnswerToCommand g.P.Pass.gives counts (Check c.in-Check.file c.in-Check.options) a). same_command g.P.Pass.gives counts c.args.command.now _ a c.in-Check.is is)
     c.run_file-in-Check.ensures.said
+
+pub returns-in-CheckSchedules-clause-said : goal.returns-in-CheckSchedules-clause-said
+returns-in-CheckSchedules-clause-said g c =
+    let before = c.args.files.now in
+    let after = c.run_file-in-CheckSchedules.new.files in
+    let counts : Counted = counted (g.F.Files.held before) (g.F.Files.faults before) (g.F.Files.faults after) (g.F.Files.taken before) (g.F.Files.taken after) in
+    if_ok c.run_file-in-CheckSchedules.result
+    (λ a (is : IsAnswerToCommand g.P.Pass.gives counts (CheckSchedules c.in-CheckSchedules.file c.in-CheckSchedules.options c.in-CheckSchedules.runs c.in-CheckSchedules.workers) a). same_command g.P.Pass.gives counts c.args.command.now _ a c.in-CheckSchedules.is is)
+    c.run_file-in-CheckSchedules.ensures.said
 
 pub returns-in-Explain-clause-said : goal.returns-in-Explain-clause-said
 returns-in-Explain-clause-said g c =

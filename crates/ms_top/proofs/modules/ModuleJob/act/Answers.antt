@@ -28,6 +28,14 @@ returns-in-Check g c =
     (λ a is. same_valid g.P.Pass.gives (g.L.SiteLines.lines job.lines.now) (command_of command) _ job.inputs.now job.m.now a (ap (command_with command.file.now) c.in-Check.is) is)
     c.check.ensures
 
+pub returns-in-CheckSchedules : goal.returns-in-CheckSchedules
+returns-in-CheckSchedules g c =
+    let job = c.args.self.now in
+    let command = c.args.command.now in
+    if_ok c.check_schedules.result
+    (λ a is. same_valid g.P.Pass.gives (g.L.SiteLines.lines job.lines.now) (command_of command) _ job.inputs.now job.m.now a (ap (command_with command.file.now) c.in-CheckSchedules.is) is)
+    c.check_schedules.ensures
+
 pub returns-in-Explain : goal.returns-in-Explain
 returns-in-Explain g c =
     let job = c.args.self.now in

@@ -1,0 +1,166 @@
+//! What `check` says of a module under several schedules.
+ghost use Rattle.std.specs.Prelude.{◌≡◌, ◌≤◌, false, length, IfOk};
+ghost use Rattle.ms_ir.specs.ThreadCalls.{is_threaded};
+ghost use Rattle.ms_runs.specs.{Limits.{WithinLimits}, Verdict.{verdict_of}};
+ghost use Rattle.ms_check_valid.specs.{Formed.{Formed}, Uninstrumented.{CanInstrument}};
+ghost use Rattle.ms_words.specs.Limits.{SchedulesWithinLimits};
+ghost use Rattle.ms_threads_schedules_laws.specs.Promise.{is_clean};
+ghost use Rattle.ms_threads_explore.specs.Explorations.{IsExplored};
+ghost use Rattle.ms_top.specs.Command.{input_limit, only_input, setup_of as setup_with};
+ghost use Rattle.ms_top.specs.{Parts.{only_run as only_run_of, IsExploredOfGiven}, Runs.{plain_under, plain_picks_under}};
+ghost use Rattle.ms_top.specs.Said.{answer_of_explored, run_text, tried_text, IsAnswerOfSchedules};
+
+use crate::jobs::Job;
+use crate::modules::{ModuleJob, setup_of, status_of, text_of_run};
+use crate::output::Output;
+use crate::passes::{Pass, has_threads, instrumented_by};
+use ms_bits::{Bytes, NoMemory};
+use ms_check::CheckedModule;
+use ms_fork::Gate;
+use ms_ir::Module;
+use ms_report::{SiteLines, schedules_text};
+use ms_runs::{RunResult, Setup};
+use ms_runtime::run;
+use ms_threads_explore::{Explored, explore};
+use ms_words::Options;
+use std::alloc::Global;
+use std::thread::Threads;
+
+impl<R: Threads + Sync, P: Pass, G: Gate + Sync> Job<'_, R, P, G> {
+    /// What exploring the schedules of the module that the pass gives tells: of at most so many runs, by so many threads at most.
+    fn explore(
+        &self,
+        m: &CheckedModule,
+        setup: &Setup,
+        runs: u32,
+        workers: u8,
+    ) -> Result<Explored, NoMemory>
+        requires plain { CanInstrument m.now }
+        requires limits { WithinLimits setup.now }
+        requires some { 1 ≤ runs }
+        requires workers { (1 ≤ workers) × (workers ≤ 8) }
+        ensures { IfOk result (λ e. IsExploredOfGiven P.gives m.now setup.now runs e) }
+    {
+        let instrumented = instrumented_by(self.rt, self.alloc, m, self.pass)?;
+        self.explore_under(instrumented.get(), has_threads(m), setup, runs, workers)
+    }
+
+    /// The same of a module as it is, by whether it has threads: one without them has one run.
+    fn explore_under(
+        &self,
+        m: &CheckedModule,
+        threads: bool,
+        setup: &Setup,
+        runs: u32,
+        workers: u8,
+    ) -> Result<Explored, NoMemory>
+        requires threads { threads ≡ is_threaded m.now }
+        requires limits { WithinLimits setup.now }
+        requires some { 1 ≤ runs }
+        requires workers { (1 ≤ workers) × (workers ≤ 8) }
+        ensures { IfOk result (λ e. IsExplored (plain_picks_under threads m.now setup.now) (plain_under threads m.now setup.now) runs e) }
+    {
+        if threads {
+            explore(self.rt, self.alloc, m, setup, runs, workers, self.gate)
+        } else {
+            only_run(self.alloc, m, setup)
+        }
+    }
+}
+
+impl<R: Threads + Sync, P: Pass, G: Gate + Sync, L: SiteLines> ModuleJob<'_, R, P, G, L> {
+    /// `check` under several schedules: the runs of the module that the pass gives, at most so many, up to the first that isn't clean,
+    /// by so many threads at most.
+    pub fn check_schedules(
+        &self,
+        options: &Options,
+        runs: u32,
+        workers: u8,
+    ) -> Result<Output, NoMemory>
+        requires plain { CanInstrument self.now.m.now }
+        requires limits { SchedulesWithinLimits options.now runs workers }
+        requires input { length (only_input self.now.inputs.now) ≤ input_limit }
+        ensures { IfOk result (λ a. IsAnswerOfSchedules P.gives (L.lines self.now.lines.now) (setup_with options.now (only_input self.now.inputs.now)) runs self.now.m.now a) }
+    {
+        self.m.law_valid();
+        let alloc = self.job.alloc;
+        let setup = setup_of(alloc, options, self.input())?;
+        let explored = self.job.explore(self.m, &setup, runs, workers)?;
+        output_of_schedules(alloc, self.m.module(), explored, self.lines)
+    }
+}
+
+/// The only run of a module without threads, as exploring would tell it: it makes no pick.
+fn only_run(alloc: Global, m: &CheckedModule, setup: &Setup) -> Result<Explored, NoMemory>
+    requires limits { WithinLimits setup.now }
+    requires alone { is_threaded m.now ≡ false }
+    ensures { IfOk result (λ e. e ≡ only_run_of m.now setup.now) }
+{
+    let schedule = Bytes::from_vec(vec![in alloc; 0u8]?);
+    Ok(Explored {
+        result: run(alloc, m, setup)?,
+        schedule,
+        tried: 1,
+        outcomes: 1,
+        all: true,
+    })
+}
+
+/// What the run that is told printed, with the lines that say how it went, and those on the schedules.
+fn output_of_schedules<L: SiteLines>(
+    alloc: Global,
+    m: &Module,
+    explored: Explored,
+    lines: &L,
+) -> Result<Output, NoMemory>
+    requires { Formed m.now }
+    ensures { IfOk result (λ a. a ≡ answer_of_explored (L.lines lines.now) m.now explored) }
+{
+    let err = text_of_schedules(alloc, m, &explored, lines)?;
+    let result = explored.result;
+    Ok(Output {
+        status: status_of(&result),
+        out: result.output,
+        err: Bytes::from_vec(err),
+    })
+}
+
+/// The lines of the reports of the run that is told, the closing lines, and those on the schedules.
+fn text_of_schedules<L: SiteLines>(
+    alloc: Global,
+    m: &Module,
+    explored: &Explored,
+    lines: &L,
+) -> Result<Vec<u8>, NoMemory>
+    requires { Formed m.now }
+    ensures { IfOk result (λ text. text.items ≡ run_text (L.lines lines.now) true m.now explored.now.result ++ tried_text explored.now) }
+{
+    let mut text = text_of_run(alloc, m, &explored.result, true, lines)?;
+    let tried = lines_of_schedules(alloc, explored)?;
+    text.extend_from_slice(&tried)?;
+    Ok(text)
+}
+
+/// The lines on the schedules that were tried.
+fn lines_of_schedules(alloc: Global, explored: &Explored) -> Result<Vec<u8>, NoMemory>
+    ensures { IfOk result (λ text. text.items ≡ tried_text explored.now) }
+{
+    schedules_text(
+        alloc,
+        explored.tried,
+        explored.all,
+        explored.outcomes,
+        !ran_clean(&explored.result),
+        explored.schedule.as_slice(),
+    )
+}
+
+/// Whether a run has no report and no blind use.
+fn ran_clean(r: &RunResult) -> bool
+    ensures { result ≡ is_clean (verdict_of r.now) }
+{
+    match r.reports.as_slice() {
+        [_, ..] => false,
+        [] => r.blind == 0,
+    }
+}
