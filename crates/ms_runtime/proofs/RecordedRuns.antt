@@ -1,5 +1,5 @@
 -- From pause to pause a run keeps what it records of its reports.
-use Rattle.std.proofs.Common.{◌≡◌, ◌<◌, ◌≤◌, ◌+◌, ◌-◌, ◌*◌, ◌^◌, ℕ, List, [], ◌∷◌, ◌++◌, length, replicate, sym, ap, subst, ◌∙◌, arith, Option, Some, None, true, false}
+use Rattle.std.proofs.Common.{◌≡◌, ◌<◌, ◌≤◌, ◌+◌, ◌-◌, ◌*◌, ◌^◌, ℕ, List, [], ◌∷◌, ◌++◌, length, replicate, sym, ap, subst, ◌∙◌, arith, Option, Some, None, Bool, true, false, if◌then◌else◌, refl}
 use Rattle.ms_ir.specs.declared.syntax.Module.{Module}
 use Rattle.ms_ir.specs.ThreadCalls.{is_threaded}
 use Rattle.ms_runs.specs.declared.runs.Calls.{Calls}
@@ -133,3 +133,8 @@ module _ (m : Module) (u : Setup) where
 pub turned_from : (m : Module) (u : Setup) (far far' : ℕ) (e : Option End) (r : Recorded) → far' ≤ far → TurnedTold m u far' e r → TurnedTold m u far e r
 turned_from m u far far' None r le t = (t.0, omega (arith, le, t.1))
 turned_from m u far far' (Some e) r le t = t
+
+-- what is told where it is wanted
+pub told_if : (wanted : Bool) (calls all : List Calls) → (wanted ≡ true → calls ≡ all) → (if wanted then calls else []) ≡ (if wanted then all else [])
+told_if true calls all h = h refl
+told_if false calls all h = refl

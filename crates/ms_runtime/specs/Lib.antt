@@ -2,3 +2,4 @@ pub mod Served
 pub mod Answering
 pub mod Going
 pub mod Recorded
+pub mod ToldRuns

@@ -1,14 +1,15 @@
 //! Whole runs: from pause to pause, each of which is answered.
-ghost use Rattle.std.specs.Prelude.{◌≡◌, ◌<◌, ◌≤◌, ℕ, true, false, length, IfOk, OnOk};
+ghost use Rattle.std.specs.Prelude.{◌≡◌, ◌<◌, ◌≤◌, ℕ, true, false, [], length, if◌then◌else◌, IfOk, OnOk};
 ghost use Rattle.ms_ir.specs.ThreadCalls.{is_threaded};
 ghost use Rattle.ms_runs.specs.declared.runs.RunResult.{RunResult as ResultOf};
 ghost use Rattle.ms_runs.specs.{declared.runs.Setup.{Setup as SetupOf}, Limits.{WithinLimits}, World.{stuck}};
-ghost use Rattle.ms_runs.specs.{Plain.{plain}, Calls.{plain_calls}};
+ghost use Rattle.ms_runs.specs.Plain.{plain};
 ghost use Rattle.ms_host.specs.Answers.{Answered};
 ghost use Rattle.ms_machine.specs.Standing.{RunsSomewhere};
 ghost use Rattle.ms_runtime.specs.Going.{Begins, Going, Asking, Answers, IsAsking, ahead};
 ghost use Rattle.ms_runtime.specs.Recorded.{GoingTold, PausedTold, TurnedTold, IsGoing, IsPaused, Noted};
 ghost use Rattle.ms_runtime.specs.Answering.{AnsweredFor};
+ghost use Rattle.ms_runtime.specs.ToldRuns.{plain_told};
 
 use crate::serving::serve;
 use ms_bits::{Bytes, List, NoMemory, Trap};
@@ -41,6 +42,14 @@ pub struct Recorded {
     pub wanted: bool,
     /// Where they are wanted, the calls that stood at each report so far, in order; else none.
     pub calls: Vec<Calls>,
+}
+
+/// What a run returns, and what is told beside it.
+#[derive(Debug, Drop)]
+pub struct ToldRun {
+    pub result: RunResult,
+    /// The calls that stood at each report, in order; none where they weren't asked for.
+    pub calls: List<Calls>,
 }
 
 /// The end of a run without threads in which a function other than `main` returns, and nothing stands below it.
@@ -215,18 +224,30 @@ impl Recorded {
     }
 }
 
+/// What is recorded of calls, where it is wanted; else none.
+pub fn told_calls(alloc: Global, calls: Vec<Calls>, wanted: bool) -> List<Calls>
+    ensures { result ≡ (if wanted then calls.items else []) }
+{
+    if wanted {
+        List::from_vec(calls)
+    } else {
+        List::from_vec(Vec::new(alloc))
+    }
+}
+
 /// Runs a checked module without thread calls to its end. Ok is what its plain run returns, and the calls that stood at each of
 /// its reports, in order, where they are wanted.
-fn run_to_end(
+///
+/// A report takes as long as calls stand there; nothing else takes longer than in `run`.
+pub fn run_told(
     alloc: Global,
     m: &CheckedModule,
     setup: &Setup,
     wanted: bool,
-) -> Result<(RunResult, List<Calls>), NoMemory>
+) -> Result<ToldRun, NoMemory>
     requires limits { WithinLimits setup.now }
     requires alone { is_threaded m.now ≡ false }
-    ensures run { IfOk result (λ r. r.0 ≡ plain m.now setup.now) }
-    ensures calls { wanted ≡ true → IfOk result (λ r. r.1 ≡ plain_calls m.now setup.now) }
+    ensures { IfOk result (λ r. r ≡ plain_told wanted m.now setup.now) }
 {
     let running = start_run(alloc, m, setup)?;
     let mut recorded = Recorded {
@@ -237,7 +258,10 @@ fn run_to_end(
     loop {
         if let Some(end) = recorded.run_to_pause(alloc, m, setup.reports)? {
             let Recorded { running, calls, .. } = recorded;
-            return Ok((running.into_result(end), List::from_vec(calls)));
+            return Ok(ToldRun {
+                result: running.into_result(end),
+                calls: told_calls(alloc, calls, wanted),
+            });
         }
     }
 }
@@ -250,22 +274,6 @@ pub fn run(alloc: Global, m: &CheckedModule, setup: &Setup) -> Result<RunResult,
     requires alone { is_threaded m.now ≡ false }
     ensures { IfOk result (λ r. r ≡ plain m.now setup.now) }
 {
-    let (told, _) = run_to_end(alloc, m, setup, false)?;
-    Ok(told)
-}
-
-/// The same, and the calls that stood at each report, in order.
-///
-/// A report takes as long as calls stand there; nothing else takes longer than in `run`.
-pub fn run_with_calls(
-    alloc: Global,
-    m: &CheckedModule,
-    setup: &Setup,
-) -> Result<(RunResult, List<Calls>), NoMemory>
-    requires limits { WithinLimits setup.now }
-    requires alone { is_threaded m.now ≡ false }
-    ensures run { IfOk result (λ r. r.0 ≡ plain m.now setup.now) }
-    ensures calls { IfOk result (λ r. r.1 ≡ plain_calls m.now setup.now) }
-{
-    run_to_end(alloc, m, setup, true)
+    let told = run_told(alloc, m, setup, false)?;
+    Ok(told.result)
 }

@@ -1,5 +1,5 @@
 //! Whole runs of programs with threads.
-ghost use Rattle.std.specs.Prelude.{◌≡◌, ◌<◌, ◌≤◌, ◌^◌, ℕ, List, suc, true, None, length, IfOk, OnOk, MatchBool};
+ghost use Rattle.std.specs.Prelude.{◌≡◌, ◌<◌, ◌≤◌, ◌^◌, ℕ, List, suc, true, None, [], length, if◌then◌else◌, IfOk, OnOk, MatchBool};
 ghost use Rattle.ms_ir.specs.declared.syntax.Module.{Module as ModuleOf};
 ghost use Rattle.ms_ir.specs.declared.calls.RuntimeFn.TheVariants.{ThreadResult as ResultOf};
 ghost use Rattle.ms_runs.specs.{declared.runs.Setup.{Setup as SetupOf}, Limits.{WithinLimits}};
@@ -8,7 +8,7 @@ ghost use Rattle.ms_host.specs.declared.calls.Answer.TheVariants.{Resumed as Res
 ghost use Rattle.ms_machine.specs.Standing.{RunsSomewhere};
 ghost use Rattle.ms_runtime.specs.{Answering.{AnsweredFor}, Going.{ahead}, Served.{Fits}};
 ghost use Rattle.ms_threads_schedules_laws.specs.Picks.{plain_picks};
-ghost use Rattle.ms_threads.specs.{Faithful.{IsSchedule}, Recording.{Records}, ThreadTables.{IsThreadCall, IsResult, standing_of}};
+ghost use Rattle.ms_threads.specs.{Faithful.{IsSchedule}, Recording.{Records}, ToldThreads.{plain_threads_told}, ThreadTables.{IsThreadCall, IsResult, standing_of}};
 ghost use Rattle.ms_threads.specs.Going.{KeepsCalls, Noted, Asking, After, Picking, Performing, Beginning, Going, HasEnded, Turned, IsGoing, IsAsking, IsAfter, IsPicking, IsPerforming, IsBeginning, most_ahead, far_of};
 
 use crate::recorder::Recorder;
@@ -20,7 +20,7 @@ use ms_ir::RuntimeFn;
 use ms_machine::{advance, resume, spawn};
 use ms_machine_frames::{Pause, no_fiber};
 use ms_runs::{Calls, End, RunResult, Setup};
-use ms_runtime::{Running, note_calls, start_run, thread_result};
+use ms_runtime::{Running, ToldRun, note_calls, start_run, thread_result, told_calls};
 use std::alloc::Global;
 
 /// A run of threads between two pauses.
@@ -308,7 +308,7 @@ pub struct RecordedRun {
     pub recorder: Recorder,
 }
 
-/// Runs a checked module with threads to its end. Ok is what its plain run answers, its first 2048 picks, and the calls that stood
+/// Runs a checked module with threads to its end. Ok is what its plain run answers and its first 2048 picks, and the calls that stood
 /// at each of its reports, in order, where they are wanted.
 fn run_to_end(
     alloc: Global,
@@ -321,7 +321,7 @@ fn run_to_end(
     requires scheduled { IsSchedule schedule.now }
     ensures result { IfOk result (λ r. r.0.result ≡ plain_threads m.now setup.now schedule.now) }
     ensures picks { IfOk result (λ r. Records r.0.recorder (plain_picks m.now setup.now schedule.now)) }
-    ensures calls { wanted ≡ true → IfOk result (λ r. r.1 ≡ plain_threads_calls m.now setup.now schedule.now) }
+    ensures calls { IfOk result (λ r. r.1 ≡ (if wanted then plain_threads_calls m.now setup.now schedule.now else [])) }
 {
     let running = start_run(alloc, m, setup)?;
     let table = ThreadTable::new(alloc)?;
@@ -343,7 +343,7 @@ fn run_to_end(
                 result: running.into_result(end),
                 recorder: table.recorder,
             };
-            return Ok((recorded, List::from_vec(calls)));
+            return Ok((recorded, told_calls(alloc, calls, wanted)));
         }
     }
 }
@@ -383,20 +383,23 @@ pub fn run_threads(
     Ok(recorded.result)
 }
 
-/// The same, and the calls that stood at each report, in order.
+/// The same, and the calls that stood at each of its reports, in order, where they are wanted.
 ///
 /// A report takes as long as calls stand there; nothing else takes longer than in `run_threads`.
-pub fn run_threads_with_calls(
+pub fn run_threads_told(
     alloc: Global,
     m: &CheckedModule,
     setup: &Setup,
     schedule: &[u8],
-) -> Result<(RunResult, List<Calls>), NoMemory>
+    wanted: bool,
+) -> Result<ToldRun, NoMemory>
     requires limits { WithinLimits setup.now }
     requires scheduled { IsSchedule schedule.now }
-    ensures run { IfOk result (λ r. r.0 ≡ plain_threads m.now setup.now schedule.now) }
-    ensures calls { IfOk result (λ r. r.1 ≡ plain_threads_calls m.now setup.now schedule.now) }
+    ensures { IfOk result (λ r. r ≡ plain_threads_told wanted m.now setup.now schedule.now) }
 {
-    let (recorded, calls) = run_to_end(alloc, m, setup, schedule, true)?;
-    Ok((recorded.result, calls))
+    let (recorded, calls) = run_to_end(alloc, m, setup, schedule, wanted)?;
+    Ok(ToldRun {
+        result: recorded.result,
+        calls,
+    })
 }

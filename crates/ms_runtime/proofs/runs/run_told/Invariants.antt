@@ -1,7 +1,7 @@
 use Rattle.std.proofs.Common.{◌≡◌}
 use Rattle.ms_runtime.specs.Going.{ahead}
 use Rattle.ms_runtime.specs.Recorded.{GoingTold}
-use Rattle.ms_runtime.proofs.runs.run_to_end.Given as goal
+use Rattle.ms_runtime.proofs.runs.run_told.Given as goal
 
 abbrev pub invariant-loop-recorded : goal.invariant-loop-recorded
 invariant-loop-recorded l = GoingTold l.m l.setup l.recorded × (l.recorded.wanted ≡ l.wanted)
