@@ -81,6 +81,9 @@ module _ (under : Lines) (all : (site : ℕ) → IsIndented (under site)) where
       (both (both (one_leaves (report_line m (index + 1) r) r.site (report_stays under all m (index + 1) r)) (calls_leave m (slice_get calls index))) (origins_both m r.origin r.chain))
       (calling_leave m calls (index + 1) rs)
 
+  pub calling_before : (m : Module) (calls : List Calls) (rs : List Report) (rest : List ℕ) → unindented (reports_calling under m calls 0 rs ++ rest) ≡ reports_calling no_lines m calls 0 rs ++ unindented rest
+  calling_before m calls rs rest = (calling_leave m calls 0 rs).with rest
+
   pub calling_left : (m : Module) (calls : List Calls) (rs : List Report) → unindented (reports_calling under m calls 0 rs) ≡ reports_calling no_lines m calls 0 rs
   calling_left m calls rs = whole (reports_calling under m calls 0 rs) (reports_calling no_lines m calls 0 rs) (calling_leave m calls 0 rs)
 

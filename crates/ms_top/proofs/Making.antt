@@ -4,6 +4,7 @@ use Rattle.ms_ir.specs.declared.syntax.Module.{Module}
 use Rattle.ms_ir.specs.Instructions.{strip}
 use Rattle.ms_ir.specs.ThreadCalls.{is_threaded}
 use Rattle.ms_runs.specs.Faithful.{Faithful, Undisturbed}
+use Rattle.ms_runs.specs.Calls.{SameCalls}
 use Rattle.ms_check_valid.specs.Formed.{Formed}
 use Rattle.ms_check_valid.specs.Uninstrumented.{CanInstrument}
 use Rattle.ms_check_valid.specs.Valid.{Valid}
@@ -15,7 +16,7 @@ use Rattle.ms_pass.specs.Passed.{IsMadeOf}
 use Rattle.ms_threads.proofs.FaithfulRuns.{faithful_threads, threads_hold}
 use Rattle.ms_threads.proofs.Stripped.{same_threads as inserted_same}
 use Rattle.ms_top.specs.Instrumented.{IsInstrumented}
-use Rattle.ms_top.specs.Runs.{plain_under, plain_picks_under, shadow_under, shadow_picks_under, HoldsUnder}
+use Rattle.ms_top.specs.Runs.{plain_under, plain_picks_under, plain_calls_under, shadow_under, shadow_picks_under, shadow_calls_under, HoldsUnder}
 
 -- what the pass makes of m is j
 pub record IsMade (m j : Module) : Type 0 where
@@ -25,6 +26,7 @@ pub record IsMade (m j : Module) : Type 0 where
   pub elided : IsElided m j
   pub made : IsMadeOf m j
   pub faithful : Faithful m j
+  pub calls : SameCalls m j
 
 module _ (m : Module) (formed : Formed m) (valid : Valid m) (can : CanInstrument m) (j : Module) (is : IsMade m j) where
   alone : is_threaded m ≡ false → IsInstrumented m j
@@ -35,6 +37,7 @@ module _ (m : Module) (formed : Formed m) (valid : Valid m) (can : CanInstrument
     elided = is.elided;
     made = is.made;
     runs = λ s fair schedule some. subst (λ t. plain_under t j s schedule ≡ shadow_under t m s schedule) (sym none) (is.faithful.runs s fair);
+    calls = λ s fair schedule some. subst (λ t. plain_calls_under t j s schedule ≡ shadow_calls_under t m s schedule) (sym none) (is.calls.same s fair);
     picks = λ s fair schedule some. subst (λ t. plain_picks_under t j s schedule ≡ shadow_picks_under t m s schedule) (sym none) refl;
     holds = λ s fair schedule some.
         subst (λ t. HoldsUnder t m s schedule (plain_under t j s schedule)) (sym none) (checked_holds m formed valid none can.plain.unmarked j is.faithful s fair);
@@ -54,6 +57,7 @@ module _ (m : Module) (formed : Formed m) (valid : Valid m) (can : CanInstrument
         elided = is.elided;
         made = is.made;
         runs = λ s fair schedule some. subst (λ t. plain_under t j s schedule ≡ shadow_under t m s schedule) (sym some_are) (threads.runs s fair schedule some);
+        calls = λ s fair schedule some. subst (λ t. plain_calls_under t j s schedule ≡ shadow_calls_under t m s schedule) (sym some_are) (threads.calls s fair schedule some);
         picks = λ s fair schedule some. subst (λ t. plain_picks_under t j s schedule ≡ shadow_picks_under t m s schedule) (sym some_are) (threads.picks s fair schedule some);
         holds = λ s fair schedule some.
             subst (λ t. HoldsUnder t m s schedule (plain_under t j s schedule)) (sym some_are) (threads_hold m formed valid can j is.elided s fair schedule);

@@ -210,7 +210,7 @@ shadow_is_shown c file o a fit h =
       under = h.under;
       lines = h.lines;
       fair = fair;
-      shown = h.answer.2 ∙ ap (answer_of_result h.under true h.module_read) (made.runs s fair o.schedule some);
+      shown = h.answer.2 ∙ ap (answer_of_result h.under true h.module_read) (told_same h.module_read j made o.calls s fair o.schedule some);
       fills = subst (HoldsUnder (is_threaded h.module_read) h.module_read s o.schedule) (made.runs s fair o.schedule some) (made.holds s fair o.schedule some);
       choices = λ alone. subst (HoldsUnderChoices h.module_read s) (runs_alone h.module_read j made alone s fair) (made.choices alone s fair);
       changes = λ alone. under_changes h.module_read formed h.valid alone unmarked s fair;
@@ -257,7 +257,7 @@ schedules_are_shown c file o runs workers a fit h =
       fair = fair;
       explored = e;
       explores = of_shadow;
-      shown = h.answer.4;
+      shown = h.answer.4 ∙ ap (λ (calls : List Calls). answer_of_explored h.under m e (if o.calls then calls else [])) (made.calls s fair e.schedule some);
       repeats = sym (made.runs s fair e.schedule some) ∙ again;
       fills = subst (HoldsUnder t m s e.schedule) again (made.holds s fair e.schedule some);
       all = λ threads all clean.
@@ -280,10 +280,10 @@ schedules_words_promise c words file o runs workers a is answer =
 
 -- what `check` says of the text of which this is what `explain` says
 abbrev check_of : (o : Options) (m j : Module) (under : Lines) (inputs : List (List ℕ)) → Output
-check_of o m j under inputs = answer_of_result under true m (plain_under (is_threaded m) j (setup_of o (only_input inputs)) o.schedule)
+check_of o m j under inputs = answer_of_result under true m (plain_told_under o.calls (is_threaded m) j (setup_of o (only_input inputs)) o.schedule)
 
 abbrev explanation_of : (c : Counted) (file : List ℕ) (o : Options) (a : Output) → Answered c (Explain file o) a → Type 0
-explanation_of c file o a h = IsExplanation IsInstrumented h.under (setup_of o (only_input h.inputs)) h.module_read a
+explanation_of c file o a h = IsExplanation IsInstrumented h.under o.calls (setup_of o (only_input h.inputs)) h.module_read a
 
 abbrev checked_too : (c : Counted) (file : List ℕ) (o : Options) (a : Output) → (h : Answered c (Explain file o) a) (x : explanation_of c file o a h)
     → Answered c (Check file o) (check_of o h.module_read x.0 h.under h.inputs)

@@ -1,7 +1,7 @@
 -- What the option `--where` adds to what is said.
 use Rattle.std.specs.Prelude.{◌≡◌, ◌⊎◌, ℕ, Bool, true, false, List, []}
 use Rattle.ms_ir.specs.declared.syntax.Module.{Module}
-use Rattle.ms_runs.specs.declared.runs.RunResult.{RunResult}
+use Rattle.ms_runtime.specs.declared.runs.ToldRun.{ToldRun}
 use Rattle.ms_where_places.specs.Indented.{unindented}
 use Rattle.ms_report.specs.WithLines.{Lines, no_lines}
 use Rattle.ms_top.specs.declared.output.Output.{Output}
@@ -27,5 +27,5 @@ without_any_lines a = record (without_lines a) { out = unindented a.out }
 abbrev pub CorpusAdds : (Module → Module → Type 0) → (file : List ℕ) → (names : List (List ℕ)) → Options → (workers : ℕ) → (inputs : List (List ℕ)) → (text : List ℕ) → Output → Type 0
 CorpusAdds Gives file names o workers inputs text a =
     ((a.out ≡ []) × IsAnswerToText Gives (Corpus file names (with_locations false o) workers) inputs text (without_lines a))
-    ⊎ ((m : Module) × (under : Lines) × AreLines (Corpus file names (with_locations true o) workers) text m under × (rs : List RunResult)
+    ⊎ ((m : Module) × (under : Lines) × AreLines (Corpus file names (with_locations true o) workers) text m under × (rs : List ToldRun)
     × (a ≡ answer_of_results under m names rs) × IsAnswerToText Gives (Corpus file names (with_locations false o) workers) inputs text (answer_of_results no_lines m names rs))
