@@ -8,7 +8,9 @@ use Rattle.ms_ir.specs.ThreadCalls.{is_threaded}
 use Rattle.ms_runs.specs.declared.runs.Setup.{Setup}
 use Rattle.ms_runs.specs.Plain.{plain}
 use Rattle.ms_runs.specs.Shadow.{shadow}
+use Rattle.ms_runs.specs.Calls.{shadow_calls}
 use Rattle.ms_runs.specs.Faithful.{Fair}
+use Rattle.ms_runs_fills_laws.specs.CallsAlike.{CallsUnderFills}
 use Rattle.ms_runs_fills_laws.specs.Checked.{HoldsUnderFills}
 use Rattle.ms_top.specs.declared.output.Output.{Output}
 use Rattle.ms_words.specs.declared.commands.Command.TheVariants.{Check, Corpus}
@@ -20,7 +22,7 @@ use Rattle.ms_top.specs.Command.{input_limit, only_input, setup_of}
 use Rattle.ms_top.specs.Instrumented.{IsInstrumented}
 use Rattle.ms_threads.specs.Faithful.{IsSchedule}
 use Rattle.ms_runtime.specs.ToldRuns.{plain_told, shadow_told}
-use Rattle.ms_top.specs.Runs.{plain_under, shadow_under, told_as, plain_told_under, shadow_told_under, HoldsUnder}
+use Rattle.ms_top.specs.Runs.{plain_under, shadow_under, told_as, plain_told_under, shadow_told_under, HoldsUnder, CallsHoldUnder}
 use Rattle.ms_report.specs.SummaryTexts.{summary_of}
 use Rattle.ms_top.specs.Said.{answer_of, answer_of_result, answer_of_results, status_of, UnlessThreaded, AreSections, IsAnswerOfGen, IsAnswerToValid}
 
@@ -62,6 +64,9 @@ pub holds_alone : (m j : Module) → IsInstrumented m j → is_threaded m ≡ fa
 holds_alone m j made alone s fair =
     subst (HoldsUnderFills m s) (runs_alone m j made alone s fair) (subst (λ t. HoldsUnder t m s (0 ∷ []) (plain_under t j s (0 ∷ []))) alone (made.holds s fair (0 ∷ []) (omega arith)))
 
+pub calls_alone : (m j : Module) → IsInstrumented m j → is_threaded m ≡ false → (s : Setup) → Fair s → CallsUnderFills m s (shadow m s).blind (shadow_calls m s)
+calls_alone m j made alone s fair = subst (λ t. CallsHoldUnder t m s (0 ∷ [])) alone (made.calls_hold s fair (0 ∷ []) (omega arith))
+
 -- what is told of such a run
 pub told_same : (m j : Module) → IsInstrumented m j → (calls : Bool) (s : Setup) → Fair s → (schedule : List ℕ) → IsSchedule schedule
     → plain_told_under calls (is_threaded m) j s schedule ≡ shadow_told_under calls (is_threaded m) m s schedule
@@ -81,6 +86,10 @@ pub under_fills : (under : Lines) (file : List ℕ) (inputs : List (List ℕ)) (
     → IsAnswerToValid IsInstrumented under (Check file o) inputs m a → HoldsUnder (is_threaded m) m s o.schedule (shadow_under (is_threaded m) m s o.schedule)
 under_fills under file inputs o m a fair some (j, made, is) =
     let s = setup_of o (only_input inputs) in subst (HoldsUnder (is_threaded m) m s o.schedule) (made.runs s fair o.schedule some) (made.holds s fair o.schedule some)
+
+pub calls_under_fills : (under : Lines) (file : List ℕ) (inputs : List (List ℕ)) (o : Options) (m : Module) (a : Output) → let s = setup_of o (only_input inputs) in Fair s → IsSchedule o.schedule
+    → IsAnswerToValid IsInstrumented under (Check file o) inputs m a → CallsHoldUnder (is_threaded m) m s o.schedule
+calls_under_fills under file inputs o m a fair some (j, made, is) = made.calls_hold (setup_of o (only_input inputs)) fair o.schedule some
 
 -- each section of a corpus is that of the shadow run on its input, and holds under every fill as that of a check does
 all_shadow : (m j : Module) (o : Options) (inputs : List (List ℕ)) → IsInstrumented m j → is_threaded m ≡ false → All (λ input. Fair (setup_of o input)) inputs

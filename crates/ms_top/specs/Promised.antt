@@ -4,6 +4,7 @@ use Rattle.ms_ir.specs.declared.forms.Form.TheVariants.{Plain}
 use Rattle.ms_ir.specs.declared.syntax.Module.{Module}
 use Rattle.ms_ir.specs.Instructions.{NoMarks}
 use Rattle.ms_ir.specs.ThreadCalls.{is_threaded}
+use Rattle.ms_runs.specs.Calls.{shadow_calls}
 use Rattle.ms_runs.specs.Faithful.{Fair}
 use Rattle.ms_runs.specs.Masks.{by_completions}
 use Rattle.ms_runs.specs.Plain.{PlainState, Stepped, plain_start, setting_of}
@@ -14,6 +15,7 @@ use Rattle.ms_text_grammar.specs.Texts.{Reads}
 use Rattle.ms_check_valid.specs.Formed.{Formed}
 use Rattle.ms_check_valid.specs.Valid.{Valid}
 use Rattle.ms_runs_fills_laws.specs.Changing.{ComesTo, shown_by}
+use Rattle.ms_runs_fills_laws.specs.CallsAlike.{CallsUnderFills}
 use Rattle.ms_runs_fills_laws.specs.Checked.{HoldsUnderFills}
 use Rattle.ms_runs_fills_laws.specs.Chosen.{HoldsUnderChoices}
 use Rattle.ms_runs_good_laws.specs.Fills.{SameShown, to_first_report}
@@ -41,7 +43,7 @@ use Rattle.ms_top.specs.Command.{files_of, only_input, setup_of}
 use Rattle.ms_top.specs.Files.{Counted, CanRead, Whole, Fault, Long}
 use Rattle.ms_top.specs.Lines.{AreLines}
 use Rattle.ms_top.specs.Explained.{too_long, no_report}
-use Rattle.ms_top.specs.Runs.{shadow_under, shadow_picks_under, shadow_calls_under, shadow_told_under, HoldsUnder}
+use Rattle.ms_top.specs.Runs.{shadow_under, shadow_picks_under, shadow_calls_under, shadow_told_under, HoldsUnder, CallsHoldUnder}
 use Rattle.ms_top.specs.Said.{answer_of_result, answer_of_results, answer_of_explained, answer_of_explored, says}
 use Rattle.ms_top.specs.Statuses as statuses
 
@@ -72,8 +74,8 @@ HoldsUnderChanges m s =
     → SameShown (shown_by z) (shadow m s)
 
 -- A text was read as a valid module, and the answer a says what the module's shadow run with a fair setup is, with the lines that
--- are asked for; where it has threads, under the schedule that is asked for. A clean verdict and a first report hold under every
--- fill, a clean verdict without threads also where each step has a fill of its own, and where uninitialised bits change between
+-- are asked for; where it has threads, under the schedule that is asked for. A clean verdict and a first report with its calls hold under
+-- every fill, a clean verdict without threads also where each step has a fill of its own, and where uninitialised bits change between
 -- steps
 pub record ShadowShown (c : Counted) (file : List ℕ) (o : Options) (a : Output) : Type 0 where
   pub text : List ℕ
@@ -90,6 +92,7 @@ pub record ShadowShown (c : Counted) (file : List ℕ) (o : Options) (a : Output
   pub shown : a ≡ answer_of_result under true module_read (shadow_told_under o.calls (is_threaded module_read) module_read (setup_of o (only_input inputs)) o.schedule)
   pub fills : HoldsUnder (is_threaded module_read) module_read (setup_of o (only_input inputs)) o.schedule
       (shadow_under (is_threaded module_read) module_read (setup_of o (only_input inputs)) o.schedule)
+  pub calls_hold : CallsHoldUnder (is_threaded module_read) module_read (setup_of o (only_input inputs)) o.schedule
   pub choices : is_threaded module_read ≡ false → HoldsUnderChoices module_read (setup_of o (only_input inputs)) (shadow module_read (setup_of o (only_input inputs)))
   pub changes : is_threaded module_read ≡ false → HoldsUnderChanges module_read (setup_of o (only_input inputs))
 
@@ -117,6 +120,7 @@ pub record SchedulesShown (c : Counted) (file : List ℕ) (o : Options) (runs wo
       (if o.calls then shadow_calls_under (is_threaded module_read) module_read (setup_of o (only_input inputs)) explored.schedule else [])
   pub repeats : shadow_under (is_threaded module_read) module_read (setup_of o (only_input inputs)) explored.schedule ≡ explored.result
   pub fills : HoldsUnder (is_threaded module_read) module_read (setup_of o (only_input inputs)) explored.schedule explored.result
+  pub calls_hold : CallsHoldUnder (is_threaded module_read) module_read (setup_of o (only_input inputs)) explored.schedule
   pub all : is_threaded module_read ≡ true → explored.all ≡ true → verdict_of explored.result ≡ Clean
       → RunsAsOne module_read (setup_of o (only_input inputs)) (schedules_tried module_read (setup_of o (only_input inputs)) runs)
 
@@ -161,6 +165,7 @@ pub record WayShown (c : Counted) (file : List ℕ) (o : Options) (a : Output) :
 pub record InputHolds (m : Module) (setup : Setup) : Type 0 where
   pub fair : Fair setup
   pub fills : HoldsUnderFills m setup (shadow m setup)
+  pub calls_hold : CallsUnderFills m setup (shadow m setup).blind (shadow_calls m setup)
   pub choices : HoldsUnderChoices m setup (shadow m setup)
   pub changes : HoldsUnderChanges m setup
 

@@ -12,7 +12,8 @@ use Rattle.ms_runs_threads.specs.ShadowFibers.{shadow_threads}
 use Rattle.ms_runs_threads.specs.Calls.{plain_threads_calls, shadow_threads_calls}
 use Rattle.ms_runtime.specs.declared.runs.ToldRun.{ToldRun}
 use Rattle.ms_threads_schedules_laws.specs.Picks.{Pick, plain_picks, shadow_picks}
-use Rattle.ms_threads.specs.Fills.{ThreadsHoldUnderFills}
+use Rattle.ms_threads.specs.Fills.{ThreadsHoldUnderFills, ThreadsCallsUnderFills}
+use Rattle.ms_runs_fills_laws.specs.CallsAlike.{CallsUnderFills}
 use Rattle.ms_runs_fills_laws.specs.Checked.{HoldsUnderFills}
 
 -- the plain run of a module with a setup, and where there are threads under a schedule
@@ -62,3 +63,8 @@ shadow_picks_under true m setup schedule = shadow_picks m setup schedule
 abbrev pub HoldsUnder : (threads : Bool) → Module → Setup → (schedule : List ℕ) → RunResult → Type 0
 HoldsUnder false m setup schedule r = HoldsUnderFills m setup r
 HoldsUnder true m setup schedule r = ThreadsHoldUnderFills m setup schedule r
+
+-- what the calls at the reports of a checked run promise of them
+abbrev pub CallsHoldUnder : (threads : Bool) → Module → Setup → (schedule : List ℕ) → Type 0
+CallsHoldUnder false m setup schedule = CallsUnderFills m setup (shadow m setup).blind (shadow_calls m setup)
+CallsHoldUnder true m setup schedule = ThreadsCallsUnderFills m setup schedule (shadow_threads m setup schedule).blind (shadow_threads_calls m setup schedule)
