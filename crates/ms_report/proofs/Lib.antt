@@ -7,3 +7,4 @@ pub mod TrailLines
 mod SiteCounts
 pub mod FewCalls
 pub mod CallLines
+pub mod Uncalled

@@ -7,7 +7,7 @@ ghost use Rattle.ms_where_places.specs.Indented.{IsIndented, unindented};
 ghost use Rattle.ms_report.specs.{declared.refusals.Refusal.{Refusal}, RunTexts.{closing_of, function_of}};
 ghost use Rattle.ms_report.specs.{ReportTexts.{report_text_of}, RefusalTexts.{refusal_text}, TrailTexts.{trail_with}};
 ghost use Rattle.ms_report.specs.WithLines.{no_lines, reports_with, closing_text_with, refusal_text_with};
-ghost use Rattle.ms_report.specs.CallTexts.{reports_calling, closing_calling};
+ghost use Rattle.ms_report.specs.{CallTexts.{reports_calling, closing_calling}, Uncalled.{uncalled}};
 ghost use Rattle.ms_trail_moves.specs.{declared.moves.Source.{Source}, declared.moves.Move.{Move}, declared.moves.Hop.{Hop}};
 
 /// Laws: where there are no lines under any site, each text with lines is the text without. Where the lines under each site
@@ -25,6 +25,14 @@ pub fn law_lines_are_added()
     ensures none_in_closing_calls { (under : ℕ → List ℕ) (m : Module) (r : RunResult) (verdict : Bool) → closing_calling under m r None verdict ≡ closing_text_with under m r verdict }
     ensures taken_out_of_closing_calls { (under : ℕ → List ℕ) (m : Module) (r : RunResult) (calls : Option Calls) (verdict : Bool) → ((site : ℕ) → IsIndented (under site)) → unindented (closing_calling under m r calls verdict) ≡ closing_calling no_lines m r calls verdict }
     ensures taken_out_of_refusals { (under : ℕ → List ℕ) (cause : Refusal) → ((site : ℕ) → IsIndented (under site)) → unindented (refusal_text_with under cause) ≡ refusal_text cause }
+{}
+
+/// What lines of calls add is whole lines that name calls, or tell how many more there are: where there are no lines under sites, each
+/// text without calls is what is left once these are taken out. Texts without them stay as they are.
+pub fn law_calls_are_added()
+    ensures taken_out { (m : Module) (r : RunResult) (calls : List Calls) → uncalled (reports_calling no_lines m calls 0 r.reports) ≡ report_text_of m r }
+    ensures closings { (m : Module) (r : RunResult) (verdict : Bool) → uncalled (closing_of m r verdict) ≡ closing_of m r verdict }
+    ensures trails { (m : Module) (moves : List Move) (at : Source) (hops : List Hop) → uncalled (trail_with no_lines m moves at hops) ≡ trail_with no_lines m moves at hops }
 {}
 
 /// The function that a line names with a site is that in which the instruction with this site stands.

@@ -12,7 +12,7 @@ ghost use Rattle.ms_text_grammar.specs.LayoutModules.{written};
 ghost use Rattle.ms_text_laws.specs.Fits.{FitsText};
 ghost use Rattle.ms_pass_form_laws.specs.Elided.{IsElided};
 ghost use Rattle.ms_top.specs.{declared.output.Output.{Output}, Answered.{AreHeld, IsTaken, IsDoneStatus, Begins}};
-ghost use Rattle.ms_top.specs.Added.{with_locations, without_lines, without_any_lines, CorpusAdds};
+ghost use Rattle.ms_top.specs.Added.{with_locations, without_lines, without_any_lines, CorpusAdds, telling, without_calls, without_any_calls, CorpusTells};
 ghost use Rattle.ms_top.specs.{Command.{files_of, form_of, input_limit, only_input, setup_of}, Explained.{no_report}};
 ghost use Rattle.ms_top.specs.Files.{Counted, CanRead, Whole};
 ghost use Rattle.ms_top.specs.Promised.{CorpusShown, NothingRan, SchedulesShown, ShadowShown, ThreadsRefused, ShowsWay, WayShown};
@@ -28,7 +28,7 @@ ghost use Rattle.ms_words.specs.Words.{asks, command_of, defaults};
 ghost use Rattle.ms_where_places.specs.Indented.{unindented};
 ghost use Rattle.ms_report.specs.{FaultTexts.{fault_text}, RefusalTexts.{threads_text}, ReportTexts.{report_text_of}};
 ghost use Rattle.ms_report.specs.{RunTexts.{closing_of}, SummaryTexts.{summary_of}, WithLines.{Lines, no_lines}};
-ghost use Rattle.ms_report.specs.WordsTexts.{words_text};
+ghost use Rattle.ms_report.specs.{Uncalled.{uncalled}, WordsTexts.{words_text}};
 ghost use Rattle.ms_gen.specs.Generator.{generated};
 ghost use Rattle.ms_text_grammar.specs.Texts.{Reads};
 ghost use Rattle.ms_threads.specs.Faithful.{IsSchedule};
@@ -141,6 +141,25 @@ pub fn law_lines_are_added()
     ensures faults { (command : Command) (text : List ℕ) (m : Module) (under : Lines) (fault : Fault) → AreLines command text m under → unindented (fault_text_with under fault) ≡ fault_text fault }
     ensures none_in_runs { (verdict : Bool) (m : Module) (r : RunResult) → run_text no_lines verdict m (silent r) ≡ report_text_of m r ++ closing_of m r verdict }
     ensures none_in_faults { (fault : Fault) → fault_text_with no_lines fault ≡ fault_text fault }
+{}
+
+/// What the option `--calls` adds is lines that tell of calls, below those of reports: without the option `--where` what `run`, `check` and
+/// `explain` say with the option is what they say without it, or that is left once these lines are taken out. So is each text of which the
+/// sections of `corpus` are made beside the output.
+pub fn law_calls_are_added()
+    ensures run { (file : List ℕ) (o : Options) (inputs : List (List ℕ)) (text : List ℕ) (a : Output) → IsAnswerToText IsInstrumented (Run file (telling true o)) inputs text a
+        → IsAnswerToText IsInstrumented (Run file (telling false o)) inputs text a ⊎ IsAnswerToText IsInstrumented (Run file (telling false o)) inputs text (without_calls a) }
+    ensures check { (file : List ℕ) (o : Options) (inputs : List (List ℕ)) (text : List ℕ) (a : Output) → IsAnswerToText IsInstrumented (Check file (telling true o)) inputs text a
+        → IsAnswerToText IsInstrumented (Check file (telling false o)) inputs text a ⊎ IsAnswerToText IsInstrumented (Check file (telling false o)) inputs text (without_calls a) }
+    ensures schedules { (file : List ℕ) (o : Options) (runs workers : ℕ) (inputs : List (List ℕ)) (text : List ℕ) (a : Output)
+        → IsAnswerToText IsInstrumented (CheckSchedules file (telling true o) runs workers) inputs text a
+        → IsAnswerToText IsInstrumented (CheckSchedules file (telling false o) runs workers) inputs text a
+        ⊎ IsAnswerToText IsInstrumented (CheckSchedules file (telling false o) runs workers) inputs text (without_calls a) }
+    ensures explain { (file : List ℕ) (o : Options) (inputs : List (List ℕ)) (text : List ℕ) (a : Output) → IsAnswerToText IsInstrumented (Explain file (telling true o)) inputs text a
+        → IsAnswerToText IsInstrumented (Explain file (telling false o)) inputs text a ⊎ IsAnswerToText IsInstrumented (Explain file (telling false o)) inputs text (without_any_calls a) }
+    ensures corpus { (file : List ℕ) (names : List (List ℕ)) (o : Options) (workers : ℕ) (inputs : List (List ℕ)) (text : List ℕ) (a : Output)
+        → IsAnswerToText IsInstrumented (Corpus file names (telling true o) workers) inputs text a → CorpusTells IsInstrumented file names o workers inputs text a }
+    ensures runs { (verdict : Bool) (m : Module) (t : ToldRun) → uncalled (run_text no_lines verdict m t) ≡ run_text no_lines verdict m (silent t.result) }
 {}
 
 /// A valid module is never refused: where a text reads as a valid module, what is to be said of it is an answer for that module.
