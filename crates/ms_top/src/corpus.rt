@@ -79,12 +79,7 @@ impl<R: Threads + Sync, P: Pass, G: Gate + Sync, L: SiteLines> ModuleJob<'_, R, 
     }
 
     /// The runs of the module that the pass gives, in the order of the inputs.
-    fn run_inputs(
-        &self,
-        setup: &Setup,
-        calls: bool,
-        workers: u8,
-    ) -> Result<List<ToldRun>, NoMemory>
+    fn run_inputs(&self, setup: &Setup, calls: bool, workers: u8) -> Result<List<ToldRun>, NoMemory>
         requires plain { CanInstrument self.now.m.now }
         requires limits { AreWithinLimits setup.now self.now.inputs.now }
         requires workers { (1 ≤ workers) × (workers ≤ 8) }

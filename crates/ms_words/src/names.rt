@@ -170,7 +170,13 @@ impl CommandName {
         ensures { result.now ≡ wanted_with_workers self workers }
     {
         match self {
-            CommandName::Check => { if workers { CHECK_WANTED.as_slice() } else { NO_OPTIONS.as_slice() } }
+            CommandName::Check => {
+                if workers {
+                    CHECK_WANTED.as_slice()
+                } else {
+                    NO_OPTIONS.as_slice()
+                }
+            }
             _ => self.wanted(),
         }
     }

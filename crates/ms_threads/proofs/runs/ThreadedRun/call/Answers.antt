@@ -12,11 +12,11 @@ pick-requires-clause-picking c = let q = c.requires.asking in (q.0, c.park.ensur
 
 pub returns-then-is_thread_call-clause-turned : goal.returns-then-is_thread_call-clause-turned
 returns-then-is_thread_call-clause-turned c = λ u same a.
-      let m = c.args.m.now in
-      if_ok c.pick.result
-      (λ e. turned_so m u c.args.schedule.now (far_of m c.args.call.asked c.args.self.now.running) _ e c.pick.new.self
-      (far_call m u c.args.schedule.now c.args.call.asked c.args.self.now.running c.park.new.self.running c.if-is_thread_call.ensures c.park.ensures.budget))
-      (c.pick.ensures.turned u (c.park.ensures.picking m u c.args.schedule.now c.if-is_thread_call.ensures a))
+    let m = c.args.m.now in
+    if_ok c.pick.result
+    (λ e. turned_so m u c.args.schedule.now (far_of m c.args.call.asked c.args.self.now.running) _ e c.pick.new.self
+    (far_call m u c.args.schedule.now c.args.call.asked c.args.self.now.running c.park.new.self.running c.if-is_thread_call.ensures c.park.ensures.budget))
+    (c.pick.ensures.turned u (c.park.ensures.picking m u c.args.schedule.now c.if-is_thread_call.ensures a))
 
 pub answer_of-requires-clause-asking : goal.answer_of-requires-clause-asking
 answer_of-requires-clause-asking c = let q = c.requires.asking in (q.0, c.args.schedule.now, q.1)
@@ -45,10 +45,10 @@ after_answer-requires c =
 
 pub returns-clause-turned : goal.returns-clause-turned
 returns-clause-turned c = λ u same a.
-      let m = c.args.m.now in
-      let f = c.in_ok-answer.ensures.answered u c.args.schedule.now same a in
-      let near = noted_far m u c.args.schedule.now c.args.self.now c.answer_of.new.self c.note_calls.new.self c.args.call a c.if-is_thread_call.ensures c.in_ok-answer.answer f c.answer_of.ensures.table c.answer_of.ensures.calls c.note_calls.ensures.same c.in_ok-note_calls.ensures.noted in
-      turned_so m u c.args.schedule.now (far_of m c.args.call.asked c.args.self.now.running) _ c.after_answer.result c.after_answer.new.self
-      (omega (arith, near, far_least m u c.args.schedule.now c.args.call.asked c.args.self.now.running))
-      (c.after_answer.ensures.turned u c.args.schedule.now
-      (noted_after m u c.args.schedule.now c.args.self.now c.answer_of.new.self c.note_calls.new.self c.args.call a c.if-is_thread_call.ensures c.in_ok-answer.answer f c.answer_of.ensures.table c.answer_of.ensures.calls c.note_calls.ensures.same c.in_ok-note_calls.ensures.noted))
+    let m = c.args.m.now in
+    let f = c.in_ok-answer.ensures.answered u c.args.schedule.now same a in
+    let near = noted_far m u c.args.schedule.now c.args.self.now c.answer_of.new.self c.note_calls.new.self c.args.call a c.if-is_thread_call.ensures c.in_ok-answer.answer f c.answer_of.ensures.table c.answer_of.ensures.calls c.note_calls.ensures.same c.in_ok-note_calls.ensures.noted in
+    turned_so m u c.args.schedule.now (far_of m c.args.call.asked c.args.self.now.running) _ c.after_answer.result c.after_answer.new.self
+    (omega (arith, near, far_least m u c.args.schedule.now c.args.call.asked c.args.self.now.running))
+    (c.after_answer.ensures.turned u c.args.schedule.now
+    (noted_after m u c.args.schedule.now c.args.self.now c.answer_of.new.self c.note_calls.new.self c.args.call a c.if-is_thread_call.ensures c.in_ok-answer.answer f c.answer_of.ensures.table c.answer_of.ensures.calls c.note_calls.ensures.same c.in_ok-note_calls.ensures.noted))

@@ -28,9 +28,9 @@ main_site-requires c =
 
 pub returns-then-not-branch-clause-turned : goal.returns-then-not-branch-clause-turned
 returns-then-not-branch-clause-turned c = λ u p.
-      let h = none_so c.args.schedule.now c.args.self.now.table c.pick.new.self _ c.if-not-branch.true c.in_ok-pick.ensures in
-      let k = pick_deadlocks c.args.m.now u c.args.schedule.now c.args.self.now p c.if-self-eq0.false h.0 c.main_site.result (c.main_site.ensures ∙ ap (λ (g : ThreadTable). site_of (stands_of g 0)) h.1) in
-      (k.0, subst (λ (g : ThreadTable). Records g.recorder (plain_picks c.args.m.now u c.args.schedule.now)) (sym h.1) k.1, k.2)
+    let h = none_so c.args.schedule.now c.args.self.now.table c.pick.new.self _ c.if-not-branch.true c.in_ok-pick.ensures in
+    let k = pick_deadlocks c.args.m.now u c.args.schedule.now c.args.self.now p c.if-self-eq0.false h.0 c.main_site.result (c.main_site.ensures ∙ ap (λ (g : ThreadTable). site_of (stands_of g 0)) h.1) in
+    (k.0, subst (λ (g : ThreadTable). Records g.recorder (plain_picks c.args.m.now u c.args.schedule.now)) (sym h.1) k.1, k.2)
 
 pub unpark-requires : goal.unpark-requires
 unpark-requires c =
@@ -48,9 +48,9 @@ perform-requires c = record {
 
 pub returns-in-Some-clause-turned : goal.returns-in-Some-clause-turned
 returns-in-Some-clause-turned c = λ u p.
-      c.perform.ensures.turned u c.args.schedule.now
-      (pick_performs c.args.m.now u c.args.schedule.now c.args.self.now p c.if-self-eq0.false c.requires.scheduled c.pick.new.self (picked_so c.args.schedule.now c.args.self.now.table c.pick.new.self _ c.if-not-branch.false c.in_ok-pick.ensures) _ c.unpark.new.fiber
-      c.unpark.ensures.stands refl (refl, refl) (standing_of c.unpark.new.fiber c.in-Some.call) (sym c.unpark.ensures.taken ∙ ap (option_map (standing_of c.unpark.new.fiber)) c.in-Some.is))
+    c.perform.ensures.turned u c.args.schedule.now
+    (pick_performs c.args.m.now u c.args.schedule.now c.args.self.now p c.if-self-eq0.false c.requires.scheduled c.pick.new.self (picked_so c.args.schedule.now c.args.self.now.table c.pick.new.self _ c.if-not-branch.false c.in_ok-pick.ensures) _ c.unpark.new.fiber
+    c.unpark.ensures.stands refl (refl, refl) (standing_of c.unpark.new.fiber c.in-Some.call) (sym c.unpark.ensures.taken ∙ ap (option_map (standing_of c.unpark.new.fiber)) c.in-Some.is))
 
 pub begin-requires : goal.begin-requires
 begin-requires c = record {
@@ -64,6 +64,6 @@ begin-requires c = record {
 
 pub returns-in_ok-begin-in-None-clause-turned : goal.returns-in_ok-begin-in-None-clause-turned
 returns-in_ok-begin-in-None-clause-turned c = λ u p.
-      c.in_ok-begin-in-None.ensures.turned u c.args.schedule.now
-      (pick_begins c.args.m.now u c.args.schedule.now c.args.self.now p c.if-self-eq0.false c.requires.scheduled c.pick.new.self (picked_so c.args.schedule.now c.args.self.now.table c.pick.new.self _ c.if-not-branch.false c.in_ok-pick.ensures) _ c.unpark.new.fiber c.unpark.ensures.stands refl (refl, refl)
-      (sym c.unpark.ensures.taken ∙ ap (option_map (standing_of c.unpark.new.fiber)) c.in-None.is))
+    c.in_ok-begin-in-None.ensures.turned u c.args.schedule.now
+    (pick_begins c.args.m.now u c.args.schedule.now c.args.self.now p c.if-self-eq0.false c.requires.scheduled c.pick.new.self (picked_so c.args.schedule.now c.args.self.now.table c.pick.new.self _ c.if-not-branch.false c.in_ok-pick.ensures) _ c.unpark.new.fiber c.unpark.ensures.stands refl (refl, refl)
+    (sym c.unpark.ensures.taken ∙ ap (option_map (standing_of c.unpark.new.fiber)) c.in-None.is))
