@@ -30,7 +30,7 @@ fi
 python3 bench/cc_driver.py "$work" | tee "$work/said" || failed=1
 python3 bench/cc_errors.py "$work/programs" cc/tests/errors/*.c | tee -a "$work/said" || failed=1
 for folder in cc/tests/*/; do
-    case $folder in */errors/ | */real/) continue ;; esac
+    case $folder in */errors/ | */real/ | */schedules/) continue ;; esac
     echo
     python3 bench/cc_tests.py "$work/programs" "$folder"*.c | tee -a "$work/said" || failed=1
 done

@@ -254,6 +254,8 @@ WORDS = {
     "check --steps 01 f": ("words: BadNumber at 2", 2),
     "check --fill a f": ("words: BadHex at 2", 2),
     "run --schedule 0 f": ("words: BadHex at 2", 2),
+    "check --schedules 5 --schedule 00 f": ("words: Excluded at 3", 2),
+    "check --workers 5 f": ("words: MissingOption at 4", 2),
     "corpus --schedule 00 f f": ("words: UnknownOption at 1", 2),
     "check --steps=1000000001 f": ("words: OutOfRange at 1", 2),
     "run --reports 1001 f": ("words: OutOfRange at 2", 2),

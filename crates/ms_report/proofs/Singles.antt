@@ -32,7 +32,7 @@ use Rattle.ms_text_grammar.specs.LayoutNames.{is_printed, hexadecimal_digit, str
 use Rattle.ms_where_places.specs.Indented.{is_newline, has_no_newline}
 use Rattle.ms_report.specs.RunTexts.{trap_name, function_of, function_text, site_text, end_text, verdict_text}
 use Rattle.ms_report.specs.ReportTexts.{hexadecimal, kind_text, root_name, root_text, origin_text, use_text, bits_text}
-use Rattle.ms_report.specs.SchedulesTexts.{hex_text, extent_text}
+use Rattle.ms_report.specs.SchedulesTexts.{hex_text}
 use Rattle.ms_report.specs.FaultTexts.{signed, at_site, spaced}
 use Rattle.ms_report.specs.RefusalTexts.{outside_name, limit_name, cause_name, what_text, token_text}
 
@@ -96,10 +96,6 @@ of_hexadecimal n = digits_single 16 64 n [] (literal _ refl)
 pub of_hex : (bytes : List ℕ) → Single (hex_text bytes)
 of_hex [] = literal _ refl
 of_hex (b ∷ bytes) = joined (joined (of_hexadecimal (b / 16)) (of_hexadecimal (b % 16))) (of_hex bytes)
-
-pub of_extent : (all : Bool) → Single (extent_text all)
-of_extent true = literal _ refl
-of_extent false = literal _ refl
 
 -- ---- names
 

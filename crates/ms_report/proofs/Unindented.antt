@@ -19,9 +19,9 @@ use Rattle.ms_report.specs.RunTexts.{line, end_text, verdict_text, verdict_line,
 use Rattle.ms_report.specs.ReportTexts.{origin_line, origin_text, earlier, chain_text, origins_text, report_line, reports_text}
 use Rattle.ms_report.specs.FaultTexts.{refused_line, fault_text, fault_line}
 use Rattle.ms_report.specs.RefusalTexts.{lexer_text, reader_text, refusal_text, threads_text}
-use Rattle.ms_report.specs.SchedulesTexts.{tried_line, schedule_line, schedules_text}
+use Rattle.ms_report.specs.SchedulesTexts.{extent_text, tried_line, schedule_line, schedules_text}
 use Rattle.ms_report.specs.WithLines.{Lines, under_line, origin_site, end_site, refusal_site, chain_with, origins_with, reports_with, closing_text_with, refusal_text_with}
-use Rattle.ms_report.proofs.Singles.{Single, literal, joined, of_number, of_hex, of_extent, of_end, of_verdict, of_origin, of_use, of_bits, of_signed, of_place, of_path, of_cause, of_what, of_token}
+use Rattle.ms_report.proofs.Singles.{Single, literal, joined, of_number, of_hex, of_end, of_verdict, of_origin, of_use, of_bits, of_signed, of_place, of_path, of_cause, of_what, of_token}
 use Rattle.ms_report.proofs.Indents.{IsLine, newline, line_after, Leaves, nothing, whole, both, without, stays, goes, goes_under}
 
 module _ (under : Lines) (all : (site : ℕ) → IsIndented (under site)) where
@@ -79,9 +79,13 @@ module _ (under : Lines) (all : (site : ℕ) → IsIndented (under site)) where
 
   -- ---- schedules
 
+  extent_ends : (all_tried : Bool) → IsLine (extent_text all_tried)
+  extent_ends true = record { ends = refl }
+  extent_ends false = record { ends = refl }
+
   tried_stays : (tried : ℕ) (all_tried : Bool) → Leaves (tried_line tried all_tried) (tried_line tried all_tried)
   tried_stays tried all_tried =
-      stays (tried_line tried all_tried) (value_line (codes "schedules") _ (literal _ refl) (joined (of_number tried) (of_extent all_tried))) refl
+      stays (tried_line tried all_tried) (line_after (joined (literal (codes "schedules: ") refl) (of_number tried)) (extent_ends all_tried)) refl
 
   outcomes_stay : (n : ℕ) → Leaves (line (codes "outcomes") (decimal n)) (line (codes "outcomes") (decimal n))
   outcomes_stay n = stays (line (codes "outcomes") (decimal n)) (value_line (codes "outcomes") _ (literal _ refl) (of_number n)) refl

@@ -8,13 +8,13 @@ abbrev pub hex_text : List ℕ → List ℕ
 hex_text [] = []
 hex_text (b ∷ bytes) = hexadecimal (b / 16) ++ hexadecimal (b % 16) ++ hex_text bytes
 
--- whether these are all
+-- whether these are all, at the end of the line
 abbrev pub extent_text : (all : Bool) → List ℕ
-extent_text true = codes ", all"
-extent_text false = codes ", more"
+extent_text true = codes ", all\n"
+extent_text false = codes ", more\n"
 
 abbrev pub tried_line : (tried : ℕ) → (all : Bool) → List ℕ
-tried_line tried all = line (codes "schedules") (decimal tried ++ extent_text all)
+tried_line tried all = codes "schedules: " ++ decimal tried ++ extent_text all
 
 -- the schedule of the run, where that isn't clean
 abbrev pub schedule_line : (shown : Bool) → (schedule : List ℕ) → List ℕ

@@ -24,7 +24,7 @@ pub enum Refusal {
     Check(CheckError),
 }
 
-/// Adds the name after a cause that has one.
+/// Adds the name of the construct or limit that a cause is about, if it is about one.
 fn push_what(text: &mut Vec<u8>, what: What) -> Result<(), NoMemory>
     ensures { IfOk result (λ _. text.new.items ≡ text.old.items ++ what_text what) }
 {
@@ -41,7 +41,7 @@ fn push_what(text: &mut Vec<u8>, what: What) -> Result<(), NoMemory>
     }
 }
 
-/// Adds where a token stands.
+/// Adds where a token stands: its number, and that of its first byte.
 fn push_token(text: &mut Vec<u8>, token: u32, place: u32) -> Result<(), NoMemory>
     ensures { IfOk result (λ _. text.new.items ≡ text.old.items ++ token_text token place) }
 {
@@ -62,7 +62,7 @@ fn push_byte(text: &mut Vec<u8>, number: u8, name: &[u8], place: u32) -> Result<
     Ok(())
 }
 
-/// Adds the line for a text that has no tokens.
+/// Adds the line for a text that isn't cut into tokens.
 fn push_lexer(text: &mut Vec<u8>, e: LexError) -> Result<(), NoMemory>
     requires { IsReadRefusal (ReadError.Lex e) }
     ensures { IfOk result (λ _. text.new.items ≡ text.old.items ++ lexer_text e) }
@@ -75,7 +75,7 @@ fn push_lexer(text: &mut Vec<u8>, e: LexError) -> Result<(), NoMemory>
     }
 }
 
-/// Adds the line for a text with a token that can't stand where it stands.
+/// Adds the line for a text with a token that can't stand where it stands, by the number of the cause and where the token is.
 fn push_refused(
     text: &mut Vec<u8>,
     number: u8,

@@ -20,11 +20,11 @@ fn push_hex(text: &mut Vec<u8>, bytes: &[u8]) -> Result<(), NoMemory>
     Ok(())
 }
 
-/// What says whether schedules are all that there are.
+/// The end of the line, which says whether schedules are all that there are.
 fn extent(all: bool) -> &'static [u8]
     ensures { result.now ≡ extent_text all }
 {
-    if all { b", all" } else { b", more" }
+    if all { b", all\n" } else { b", more\n" }
 }
 
 /// Adds the line of how many schedules were tried.
@@ -33,9 +33,7 @@ fn push_tried(text: &mut Vec<u8>, tried: u64, all: bool) -> Result<(), NoMemory>
 {
     text.extend_from_slice(b"schedules: ")?;
     push_number(text, tried)?;
-    text.extend_from_slice(extent(all))?;
-    text.push(b'\n')?;
-    Ok(())
+    text.extend_from_slice(extent(all))
 }
 
 /// Adds the line of the schedule of a run, where that is to be shown.

@@ -30,7 +30,7 @@ fn gives(value: u64) -> Answer
     Answer::Resumed(Some(value))
 }
 
-/// Stores a word at an address unless that is null. Returns whether it could.
+/// Stores a word at the address `r` unless that is null. Returns whether it could.
 fn store_word(r: u64, word: u64, world: &mut World) -> bool
     ensures stored { (beside : Beside) (meant : Meant) → Shows world.old beside meant → MatchBool result (((eqb r 0 || is_good meant r 8) ≡ true) × Shows world.new beside (if eqb r 0 then meant else store_number r 8 word meant)) ((eqb r 0 ≡ false) × (is_good meant r 8 ≡ false) × Shows world.new beside meant) }
     ensures keeps { Keeps world.old world.new }
@@ -43,7 +43,7 @@ fn store_word(r: u64, word: u64, world: &mut World) -> bool
 }
 
 impl ThreadTable {
-    /// `pthread_create`: one thread more, and its number at an address; 11 where as many were made as may be.
+    /// `pthread_create`: one thread more, and its number at the address `id`; 11 where as many were made as may be.
     fn create(
         &mut self,
         alloc: Global,
@@ -69,7 +69,7 @@ impl ThreadTable {
         }
     }
 
-    /// `pthread_join`, where it needn't wait: the word that a thread answered is stored at an address unless that is null.
+    /// `pthread_join`, where it needn't wait: the word that thread `id` answered is stored at the address `r` unless that is null.
     fn joined(&mut self, id: u64, r: u64, site: u32, world: &mut World) -> Answer
         requires { waits_of self.old.turn (threads_of self.old) (Some id) ≡ false }
         ensures did { (beside : Beside) (meant : Meant) → Shows world.old beside meant → Shares self.old beside.fibers → Did (join_of site id r meant) result beside self.new world.new }

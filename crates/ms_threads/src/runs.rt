@@ -96,7 +96,7 @@ impl ThreadedRun {
         thread_result(addr, thread.mask, thread.origin, site, world, depot)
     }
 
-    /// The effect of a call that is no thread call.
+    /// The effect of a call that is no thread call; `reports` is the limit of the run's reports.
     fn answer_of(
         &mut self,
         alloc: Global,
@@ -268,7 +268,8 @@ impl ThreadedRun {
         Ok(self.after_answer(m, call, answer))
     }
 
-    /// Runs to the next pause, and does what is asked there. Returns how the run ends, if it does.
+    /// Runs to the next pause, and does what is asked there; `reports` is the limit of the run's reports. Returns how the run ends, if it
+    /// does.
     fn run_to_pause(
         &mut self,
         alloc: Global,

@@ -38,6 +38,7 @@ pub struct Thread {
 pub struct Parked {
     /// Its frames; empty where it isn't suspended.
     pub fiber: Fiber,
+    /// The thread call at which it is suspended.
     pub call: Option<HostCall>,
 }
 
@@ -52,6 +53,7 @@ pub struct ThreadTable {
     pub parked: Vec<Parked>,
     /// The place in the schedule of the next pick.
     pub next_pick: usize,
+    /// The picks that were made.
     pub recorder: Recorder,
 }
 

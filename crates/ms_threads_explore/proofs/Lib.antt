@@ -1,2 +1,11 @@
 pub mod Marked
 pub mod After
+pub mod Bools
+pub mod Queue
+pub mod Cut
+pub mod Registering
+pub mod Holding
+pub mod Telling
+pub mod Alike
+pub mod Going
+pub mod Counted

@@ -11,12 +11,12 @@ append_assoc : (xs ys zs : List ℕ) → (xs ++ ys) ++ zs ≡ xs ++ (ys ++ zs)
 append_assoc [] ys zs = refl
 append_assoc (x ∷ xs) ys zs = ap (λ l. x ∷ l) (append_assoc xs ys zs)
 
-length_zeros : (n : ℕ) → length (zeros n) ≡ n
+pub length_zeros : (n : ℕ) → length (zeros n) ≡ n
 length_zeros zero = refl
 length_zeros (suc n) = ap suc (length_zeros n)
 
 -- how far the first numbers reach
-reach : (f : ℕ) (m : NumberAt) (l : List ℕ) → f ≤ m.place → f + length (zeros (m.place - f) ++ m.number ∷ l) ≡ m.place + 1 + length l
+pub reach : (f : ℕ) (m : NumberAt) (l : List ℕ) → f ≤ m.place → f + length (zeros (m.place - f) ++ m.number ∷ l) ≡ m.place + 1 + length l
 reach f m l le =
     let e : length (zeros (m.place - f) ++ m.number ∷ l) ≡ length (zeros (m.place - f)) + length (m.number ∷ l) = length-append (zeros (m.place - f)) (m.number ∷ l) in
     let z = length_zeros (m.place - f) in

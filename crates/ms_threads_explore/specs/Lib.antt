@@ -1,1 +1,4 @@
 pub mod Beginnings
+pub mod Outcomes
+pub mod Explorations
+pub mod Trials

@@ -61,7 +61,7 @@ module _ (m : Module) (formed : Formed m) (valid : Valid m) (setup : Setup) (byt
       same
       ∙ sym (picks_alike (shadow_fiber by_formulas s m) (plain_fiber s (pass numbers m)) (relation s numbers m known kept) (laws s numbers m known kept) (counts s numbers m known kept) (late s numbers m known kept)
       (λ e w v h. h) schedule setup.steps c p (
-        (starts numbers m setup known.strips (main_params m valid), ((λ y. omega arith), tt), start_placed m formed valid setup bytes, (sound.frames, start_clean m setup), (sound.world, start_begun m formed valid setup bytes numbers known says)),
+        (starts numbers m setup known.strips (main_params m valid), ((λ y. omega arith), tt), start_placed m formed valid setup bytes, (sound.frames, start_clean m setup), (sound.world, start_begun m setup)),
         record { stands = λ n. tt; picks = refl },
       ) refl)
 

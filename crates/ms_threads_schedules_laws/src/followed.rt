@@ -1,7 +1,6 @@
 //! Picks of a module's instrumented form.
 ghost use Rattle.std.specs.Prelude.{◌≡◌, ℕ, true, List, Some};
-ghost use Rattle.ms_ir.specs.{declared.syntax.Name.{Name}, declared.syntax.Func.{Func}};
-ghost use Rattle.ms_ir.specs.{declared.syntax.Module.{Module}, Instructions.{func_at}};
+ghost use Rattle.ms_ir.specs.{declared.syntax.{Name.{Name}, Func.{Func}, Module.{Module}}, Instructions.{func_at}};
 ghost use Rattle.ms_runs.specs.{declared.runs.Setup.{Setup}, Plain.{setting_of}, Faithful.{Fair}};
 ghost use Rattle.ms_check_valid.specs.{CleanValues.{IsClean}, Formed.{Formed}, Valid.{Valid}};
 ghost use Rattle.ms_pass_laws.specs.{Pass.{Numbering, pass}, Known.{KnownModule}};

@@ -72,12 +72,12 @@ only_explored m s (suc n) some = only (plain m s) n
 
 -- ---- of shadow runs
 
-module _ (m j : Module) (is : IsInstrumented m j) (s : Setup) (fair : Fair s) (runs : ℕ) (e : Explored)
+module _ (m j : Module) (is : IsInstrumented m j) (s : Setup) (fair : Fair s) (runs : ℕ) (e : Explored) (some : 1 ≤ runs)
     (explored : IsExplored (plain_picks_under (is_threaded m) j s) (plain_under (is_threaded m) j s) runs e) where
   pub shadow_explored : IsExplored (shadow_picks_under (is_threaded m) m s) (shadow_under (is_threaded m) m s) runs e
   shadow_explored =
       explored_alike (plain_picks_under (is_threaded m) j s) (shadow_picks_under (is_threaded m) m s) (plain_under (is_threaded m) j s) (shadow_under (is_threaded m) m s)
-      (λ schedule some. is.picks s fair schedule some) (λ schedule some. is.runs s fair schedule some) runs e explored
+      (λ schedule long. is.picks s fair schedule long) (λ schedule long. is.runs s fair schedule long) runs e some explored
 
 -- the schedule that is told repeats the run
 pub repeats_under : (t : Bool) (j : Module) (s : Setup) (runs : ℕ) (e : Explored) → 1 ≤ runs → IsExplored (plain_picks_under t j s) (plain_under t j s) runs e

@@ -244,7 +244,7 @@ schedules_are_shown c file o runs workers a fit h =
     let again = repeats_under t j s runs e fit.some_runs explored in
     let bytes = texts_are_bytes c (files_of (CheckSchedules file o runs workers)) (h.text ∷ h.inputs) h.read in
     let formed = read_formed Plain h.text m (tested h.text (All-head (λ text. All IsByte text) h.text h.inputs bytes)) h.reads in
-    let of_shadow = shadow_explored m j made s fair runs e explored in
+    let of_shadow = shadow_explored m j made s fair runs e fit.some_runs explored in
     record {
       text = h.text;
       inputs = h.inputs;

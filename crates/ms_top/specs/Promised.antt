@@ -1,5 +1,5 @@
 -- What `check` and `explain` promise of the program, from what they are to say alone.
-use Rattle.std.specs.Prelude.{◌≡◌, ◌≢◌, ◌<◌, ◌≤◌, ◌⊎◌, ℕ, true, false, All, List, [], ◌∷◌, ◌++◌, length, map, if◌then◌else◌, codes}
+use Rattle.std.specs.Prelude.{◌≡◌, ◌≢◌, ◌<◌, ◌≤◌, ◌⊎◌, ℕ, Bool, true, false, All, List, [], ◌∷◌, ◌++◌, length, map, if◌then◌else◌, codes}
 use Rattle.ms_ir.specs.declared.forms.Form.TheVariants.{Plain}
 use Rattle.ms_ir.specs.declared.syntax.Module.{Module}
 use Rattle.ms_ir.specs.Instructions.{NoMarks}
@@ -140,8 +140,8 @@ abbrev pub told_reports : Lines → (calls : Bool) → Module → Setup → List
 told_reports under calls m setup = let t = shadow_told calls m setup in reports_calling under m t.calls 0 t.result.reports
 
 -- The text that explains a run with a report: the moves before it are too many, or it shows a way over them. That begins at a root
--- which the run had reached, each hop's target is what the next hop reads, and the last is what the report's use reads. Each place
--- keeps the bits that were written there until the next hop, or the use, reads it
+-- which the run had reached, each hop's target is what the next hop reads, and the last is what the report's use reads. The same bits
+-- of each place stay poisoned until the next hop, or the use, reads it
 pub record ShowsWay (under : Lines) (calls : Bool) (m : Module) (setup : Setup) (text : List ℕ) : Type 0 where
   pub moves : List Move
   pub at : Source

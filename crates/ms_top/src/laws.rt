@@ -85,7 +85,7 @@ pub fn law_checks_show_the_shadow_run()
 /// What `explain` says of a checked module is the first report of its shadow run, where the setup is fair, with the way of that
 /// report's bits over the moves of that run, or that there is none; the closing lines are those of `check`. The way begins at a root
 /// that the run had reached, each place on it is what the next move reads, and the last is what the report's use reads. From the state
-/// after a move up to the one in which the next one reads it, a place keeps the bits that were written, some of them poisoned. A module
+/// after a move up to the one in which the next one reads it, the same bits of a place stay poisoned, and there are some. A module
 /// with threads is refused.
 pub fn law_explanations_show_the_way()
     ensures shadow { (under : Lines) (file : List ℕ) (inputs : List (List ℕ)) (o : Options) (m : Module) (a : Output) → is_threaded m ≡ false → let s = setup_of o (only_input inputs) in Fair s

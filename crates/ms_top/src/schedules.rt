@@ -1,10 +1,9 @@
 //! What `check` says of a module under several schedules.
-ghost use Rattle.std.specs.Prelude.{◌≡◌, ◌≤◌, false, [], length, if◌then◌else◌, IfOk};
+ghost use Rattle.std.specs.Prelude.{◌≡◌, ◌≤◌, ◌++◌, true, false, [], length, if◌then◌else◌, IfOk};
 ghost use Rattle.ms_ir.specs.ThreadCalls.{is_threaded};
-ghost use Rattle.ms_runs.specs.{Limits.{WithinLimits}, Verdict.{verdict_of}};
+ghost use Rattle.ms_runs.specs.Limits.{WithinLimits};
 ghost use Rattle.ms_check_valid.specs.{Formed.{Formed}, Uninstrumented.{CanInstrument}};
 ghost use Rattle.ms_words.specs.Limits.{SchedulesWithinLimits};
-ghost use Rattle.ms_threads_schedules_laws.specs.Promise.{is_clean};
 ghost use Rattle.ms_threads_explore.specs.Explorations.{IsExplored};
 ghost use Rattle.ms_top.specs.Command.{input_limit, only_input, setup_of as setup_with};
 ghost use Rattle.ms_top.specs.{Parts.{only_run as only_run_of, IsExploredOfGiven}, Runs.{plain_under, plain_picks_under, plain_calls_under}};
@@ -20,9 +19,9 @@ use ms_check::CheckedModule;
 use ms_fork::Gate;
 use ms_ir::Module;
 use ms_report::{SiteLines, schedules_text};
-use ms_runs::{Calls, RunResult, Setup};
+use ms_runs::{Calls, Setup};
 use ms_runtime::{ToldRun, run};
-use ms_threads_explore::{Explored, explore};
+use ms_threads_explore::{Explored, explore, is_clean};
 use ms_words::Options;
 use std::alloc::Global;
 use std::thread::Threads;
@@ -187,17 +186,7 @@ fn lines_of_schedules(alloc: Global, explored: &Explored) -> Result<Vec<u8>, NoM
         explored.tried,
         explored.all,
         explored.outcomes,
-        !ran_clean(&explored.result),
+        !is_clean(&explored.result),
         explored.schedule.as_slice(),
     )
-}
-
-/// Whether a run has no report and no blind use.
-fn ran_clean(r: &RunResult) -> bool
-    ensures { result ≡ is_clean (verdict_of r.now) }
-{
-    match r.reports.as_slice() {
-        [_, ..] => false,
-        [] => r.blind == 0,
-    }
 }

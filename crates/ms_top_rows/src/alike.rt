@@ -9,6 +9,7 @@ use std::thread::Threads;
 
 /// A row that tells of a module what `check` says of it.
 pub trait CheckedRow: Row {
+    /// Whether a call of `check` came to what the row tells.
     fn is_shown(&self, checked: &Desk) -> bool;
 }
 
@@ -73,10 +74,12 @@ fn runs_alike<R: Threads + Sync + Eprint>(
     }
 }
 
+/// The same call with other words.
 fn with_words<'a>(call: &Call<'a>, words: &'a str) -> Call<'a> {
     Call { words, ..*call }
 }
 
+/// Whether `run` says of what `instrument` writes of the call's module what `check` said of the module.
 fn is_written_alike<R: Threads + Sync + Eprint>(
     rt: &R,
     alloc: Global,
@@ -89,6 +92,7 @@ fn is_written_alike<R: Threads + Sync + Eprint>(
     }
 }
 
+/// Whether `check` says what a row tells, also where the row's module is first written with inserted code.
 fn agrees_twice<R: Threads + Sync + Eprint, T: CheckedRow>(rt: &R, alloc: Global, row: &T) -> bool {
     let call = with_words(&row.call(), "check f");
     match said(rt, alloc, &call) {

@@ -1,4 +1,5 @@
-//! Calls of `msan` over files and two sinks in memory, as rows of tables tell them, and the one runner of all tables.
+//! Calls of `msan` over files and two sinks in memory, as rows of tables tell them, and the one runner of all tables. The module is the
+//! text of the file `f`.
 
 use crate::failing::{differs, fails};
 use ms_bits::Text;
@@ -94,10 +95,11 @@ pub struct Call<'a> {
 
 /// A row of a table, which tells a call.
 pub trait Row {
+    /// What the row has `msan` do, and what it wants of that.
     fn call(&self) -> Call<'static>;
 }
 
-/// The words, the text of the file `f`, what is written to the output and to the standard error, and the status.
+/// A row of the words, the text of the file `f`, what is written to the output and to the standard error, and the status.
 #[derive(Clone, Copy)]
 pub struct Case(
     pub &'static str,
@@ -114,7 +116,7 @@ impl Row for Case {
     }
 }
 
-/// The words and the ends of a call, with its status.
+/// A call as it is made: its words, the files and the two sinks in memory, and the status that it returned.
 #[derive(Drop)]
 pub struct Desk {
     words: Vec<Text>,
@@ -152,6 +154,7 @@ pub fn words_of(alloc: Global, line: &str) -> Result<Vec<Text>, AllocError> {
     Ok(texts)
 }
 
+/// The words of a call, with the options and the file of its terms where it has some.
 fn words_of_call(alloc: Global, call: &Call) -> Result<Vec<Text>, AllocError> {
     match &call.beside {
         Beside::On(terms) => {
@@ -165,6 +168,7 @@ fn words_of_call(alloc: Global, call: &Call) -> Result<Vec<Text>, AllocError> {
     }
 }
 
+/// Adds a piece to a text so many times.
 fn push_times(text: &mut Vec<u8>, piece: &[u8], times: u32) -> Result<(), AllocError> {
     for _time in 0..times {
         text.extend_from_slice(piece)?;
@@ -180,6 +184,7 @@ fn text_of(alloc: Global, call: &Call) -> Result<Vec<u8>, AllocError> {
     Ok(text)
 }
 
+/// Adds a file with this name and these bytes.
 fn hold(
     alloc: Global,
     held: &mut BTreeMap<String, Vec<u8>>,
@@ -190,6 +195,7 @@ fn hold(
     Ok(())
 }
 
+/// Adds files with these names and texts.
 fn hold_all(
     alloc: Global,
     held: &mut BTreeMap<String, Vec<u8>>,
@@ -201,6 +207,7 @@ fn hold_all(
     Ok(())
 }
 
+/// Adds the files that stand beside `f`.
 fn hold_beside(
     alloc: Global,
     held: &mut BTreeMap<String, Vec<u8>>,
@@ -217,6 +224,7 @@ fn hold_beside(
     }
 }
 
+/// The files of a call, in memory.
 fn files_of(alloc: Global, call: &Call) -> Result<MemFiles, AllocError> {
     let mut held = BTreeMap::new(alloc);
     hold(alloc, &mut held, "f", text_of(alloc, call)?)?;
@@ -224,12 +232,14 @@ fn files_of(alloc: Global, call: &Call) -> Result<MemFiles, AllocError> {
     Ok(MemFiles::new(held, Vec::from_slice(alloc, call.failing_reads)?))
 }
 
+/// A sink in memory that takes so much, and fails at these puts.
 fn sink_of(alloc: Global, taking: &Taking) -> Result<MemSink, AllocError> {
     let failing = Vec::from_slice(alloc, taking.0)?;
     let room: Vec<u8> = vec![in alloc; 0; taking.1]?;
     Ok(MemSink::new(failing, room))
 }
 
+/// A call that is ready to be made.
 fn desk_of(alloc: Global, call: &Call) -> Result<Desk, AllocError> {
     Ok(Desk {
         words: words_of_call(alloc, call)?,
@@ -309,6 +319,7 @@ pub fn is_joined(text: &[u8], pieces: &[&str]) -> bool {
     }
 }
 
+/// Whether a text is so many letters A.
 fn are_letters(text: &[u8], count: usize) -> bool {
     for byte in text {
         if *byte != b'A' {
@@ -318,6 +329,7 @@ fn are_letters(text: &[u8], count: usize) -> bool {
     text.len() == count
 }
 
+/// Whether a text is the output that is wanted.
 fn is_output(text: &[u8], wanted: &Wanted) -> bool {
     match text.strip_prefix(wanted.out) {
         Some(rest) => are_letters(rest, wanted.letters),

@@ -13,6 +13,7 @@ fn print_bytes<R: Eprint>(rt: &R, name: &str, bytes: &[u8]) -> io::Result<()> {
     }
 }
 
+/// Prints what a call was to write and return.
 fn print_wanted<R: Eprint>(rt: &R, call: &Call) -> io::Result<()> {
     let [first, second, third] = call.wanted.err;
     eprintln!(rt;
@@ -26,6 +27,7 @@ fn print_wanted<R: Eprint>(rt: &R, call: &Call) -> io::Result<()> {
     )
 }
 
+/// Prints what a call wrote and returned.
 fn print_got<R: Eprint>(rt: &R, desk: &Desk) -> io::Result<()> {
     eprintln!(rt; "got status {}", desk.status)?;
     print_bytes(rt, "got output", desk.out.as_slice())?;

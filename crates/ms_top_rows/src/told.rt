@@ -129,6 +129,7 @@ pub fn rows_told<R: Eprint, T: Told>(
     }
 }
 
+/// Whether the call of each row of this table writes and returns what the row says.
 fn table_is_told<R: Threads + Sync + Eprint, T: Row + Told>(
     rt: &R,
     alloc: Global,
@@ -154,6 +155,7 @@ pub fn all_told<R: Threads + Sync + Eprint, T: Row + Told>(
     true
 }
 
+/// Whether `check` says what each row of this table tells, also where its module is first written with inserted code.
 fn table_is_told_twice<R: Threads + Sync + Eprint, T: CheckedRow + Told>(
     rt: &R,
     alloc: Global,

@@ -6,7 +6,8 @@ use ms_top_rows::told::all_told;
 use std::test::Fail;
 
 /// Races on uninitialised memory.
-static RACES: &[u8] = br#"# The variable is set before the thread reads it, unless that is picked at the yield. The run ends there, after two picks.
+static RACES: &[u8] =
+    br#"# The variable is set before the thread reads it, unless that is picked at the yield. The run ends there, after two picks.
 check --schedules 9 f~
 define ptr @w(ptr %0) {
   %2 = load i32, ptr %0

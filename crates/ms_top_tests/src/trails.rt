@@ -212,69 +212,93 @@ fn all_agree<R: Eprint>(rt: &R, alloc: Global, ways: &[Way]) -> bool {
     true
 }
 
-/// Moves in any order, what is read, and the way there, if there is one.
-struct AnyOrder(&'static [Move], Source, Option<&'static [Hop]>);
+/// Where bits come from: a root, or the byte at an address.
+#[derive(Clone, Copy)]
+enum Begin {
+    Root(u32),
+    Byte(u64),
+}
+
+impl Begin {
+    fn source(self) -> Source {
+        match self {
+            Begin::Root(number) => Source::Root { number },
+            Begin::Byte(addr) => Source::Byte { addr },
+        }
+    }
+}
+
+/// A move of bytes: its step, its site, where they come from, the address that they go to, and how many.
+struct Copying(u64, u32, Begin, u64, u64);
+
+impl Copying {
+    fn to_move(&self) -> Move {
+        Move {
+            event: self.0,
+            site: self.1,
+            from: self.2.source(),
+            to: Target::Bytes {
+                addr: self.3,
+                len: self.4,
+            },
+        }
+    }
+}
 
 /// The first move copies four bytes in the last step; the others write what it reads, in steps before it.
-static COPIED: [Move; 3] = [
-    Move {
-        event: 2,
-        site: 9,
-        from: Source::Byte { addr: 8 },
-        to: Target::Bytes { addr: 16, len: 4 },
-    },
-    Move {
-        event: 0,
-        site: 3,
-        from: Source::Root { number: 1 },
-        to: Target::Bytes { addr: 8, len: 3 },
-    },
-    Move {
-        event: 1,
-        site: 5,
-        from: Source::Root { number: 2 },
-        to: Target::Bytes { addr: 8, len: 1 },
-    },
+static COPIES: [Copying; 3] = [
+    Copying(2, 9, Begin::Byte(8), 16, 4),
+    Copying(0, 3, Begin::Root(1), 8, 3),
+    Copying(1, 5, Begin::Root(2), 8, 1),
 ];
 
-static ORDERS: [AnyOrder; 5] = [
-    AnyOrder(
-        &COPIED,
-        Source::Byte { addr: 16 },
+/// What is read after these moves, and the way there, if there is one.
+struct Ordered(Begin, Option<&'static [Hop]>);
+
+static ORDERS: [Ordered; 5] = [
+    Ordered(
+        Begin::Byte(16),
         Some(&[Hop { index: 2, byte: 0 }, Hop { index: 0, byte: 0 }]),
     ),
-    AnyOrder(
-        &COPIED,
-        Source::Byte { addr: 18 },
+    Ordered(
+        Begin::Byte(18),
         Some(&[Hop { index: 1, byte: 2 }, Hop { index: 0, byte: 2 }]),
     ),
     // Nothing wrote what was copied there.
-    AnyOrder(&COPIED, Source::Byte { addr: 19 }, None),
-    AnyOrder(
-        &COPIED,
-        Source::Byte { addr: 9 },
-        Some(&[Hop { index: 1, byte: 1 }]),
-    ),
-    AnyOrder(&COPIED, Source::Root { number: 7 }, Some(&[])),
+    Ordered(Begin::Byte(19), None),
+    Ordered(Begin::Byte(9), Some(&[Hop { index: 1, byte: 1 }])),
+    Ordered(Begin::Root(7), Some(&[])),
 ];
 
+fn copies(alloc: Global) -> Result<Vec<Move>, AllocError> {
+    let mut moves = Vec::new(alloc);
+    for copying in &COPIES {
+        moves.push(copying.to_move())?;
+    }
+    Ok(moves)
+}
+
 /// Whether a row's way, if there is one, is found and checked.
-fn is_ordered(alloc: Global, row: &AnyOrder) -> bool {
-    if row.0.len() > 100 {
+fn is_ordered(alloc: Global, moves: &[Move], row: &Ordered) -> bool {
+    if moves.len() > 100 {
         return false;
     }
-    match (trail(alloc, row.0, &row.1), row.2) {
+    let read = row.0.source();
+    match (trail(alloc, moves, &read), row.1) {
         (Ok(Some(found)), Some(hops)) => {
-            found.as_slice() == hops && check_trail(row.0, &row.1, hops)
+            found.as_slice() == hops && check_trail(moves, &read, hops)
         }
-        (Ok(None), None) => !check_trail(row.0, &row.1, &[]),
+        (Ok(None), None) => !check_trail(moves, &read, &[]),
         _ => false,
     }
 }
 
-fn all_are_ordered<R: Eprint>(rt: &R, alloc: Global, rows: &[AnyOrder]) -> bool {
+fn all_are_ordered<R: Eprint>(rt: &R, alloc: Global, rows: &[Ordered]) -> bool {
+    let Ok(moves) = copies(alloc) else {
+        return false;
+    };
     for (number, row) in rows.iter().enumerate() {
-        if !is_ordered(alloc, row) {
+        if !is_ordered(alloc, &moves, row) {
             return fails(rt, "row", number);
         }
     }

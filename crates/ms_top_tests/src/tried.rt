@@ -14,7 +14,8 @@ use std::test::Fail;
 /// J(1, -) = J(1, 1) = 1, J(1, 3) = 3, J(1, 2) = 2, J(1, 23) = 3 + 3 + 2 = 8, J(1, 12) = 2 + 1 = 3, J(1, 13) = 3 + 1 = 4,
 /// J(1, 123) = 8 + 4 + 3 = 15. At the third creation C(-) = J(1, 3) = 3, C(1) = J(1, 13) + C(-) = 7, C(2) = J(1, 23) + C(-) = 11,
 /// C(12) = J(1, 123) + C(2) + C(1) = 33; at the second one C(12) + C(2) = 44.
-static ORDERS: &[u8] = br#"# A thread that is made and joined leaves no choice: where `main` waits, the thread is alone.
+static ORDERS: &[u8] =
+    br#"# A thread that is made and joined leaves no choice: where `main` waits, the thread is alone.
 check --schedules 9 f~
 define ptr @w(ptr %0) {
   %2 = call i32 @putchar(i32 66)
@@ -40,7 +41,7 @@ outcomes: 1
 ~
 0
 ====
-# At the yield there are two. First `main` goes on: A, B. By 01 the thread does: B, A; that run is the last.
+# At the yield there are two. First `main` goes on: A, B. By 01, which is the last, the thread does: B, A.
 check --schedules 9 f~
 define ptr @w(ptr %0) {
   %2 = call i32 @putchar(i32 66)
@@ -156,7 +157,7 @@ outcomes: 2
 ~
 0
 ====
-# Five runs, in this order: none, 01, 001, 0001, 0101. At the second creation there are `main` and the first thread, at the first join both threads, after the first one `main` and the second. By 001 the second one is first.
+# Five runs: none, 01, 001, 0001, 0101. By 001 the second thread is picked at the first join, and prints first.
 check --schedules 9 f~
 define ptr @w(ptr %0) {
   %2 = ptrtoint ptr %0 to i64
@@ -252,7 +253,7 @@ outcomes: 2
 ~
 0
 ====
-# 44 runs: with main at the second creation and the first thread there, 33 where `main` goes on and 11 where the thread does; see below. In all six orders of three. The last has 0010101: the first thread at the third creation, the second at the first join, the third at the second one.
+# 44 runs, in all orders of three. The last, 0010101, picks each thread beside `main`: at the third creation, the first join, the second.
 check --schedules 1000000 f~
 define ptr @w(ptr %0) {
   %2 = ptrtoint ptr %0 to i64
@@ -287,7 +288,7 @@ outcomes: 6
 ~
 0
 ====
-# The one before has 001011: the third thread is picked at the first join, after the second.
+# The one before, 001011, picks the third at the first join too.
 check --schedules 43 --workers 3 f~
 define ptr @w(ptr %0) {
   %2 = ptrtoint ptr %0 to i64
@@ -415,7 +416,8 @@ outcomes: 2
 "#;
 
 /// Where `main` yields until a thread has set a flag, each time there is one more choice.
-static ENDLESS: &[u8] = br#"# Each round has four steps, the first yield is reached by step 4: with 20 steps there are picks of two before steps 5, 9, 13 and 17, so 5 runs. In the last one too few steps are left.
+static ENDLESS: &[u8] =
+    br#"# There are picks of two before steps 5, 9, 13 and 17, so 5 runs. In the last one too few steps are left.
 check --steps 20 --schedules 9 f~
 @g = global i32 0
 define ptr @w(ptr %0) {

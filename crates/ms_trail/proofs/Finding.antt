@@ -41,9 +41,11 @@ use Rattle.ms_trail_uses.specs.declared.used.Used.TheVariants as read
 use Rattle.ms_trail_uses.specs.Due.{HasCode, IsDue}
 use Rattle.ms_trail_uses.specs.Tabled.{HasRow}
 use Rattle.ms_trail_uses.specs.Used.{use_read, or_used, first_read, source_of, seen, code_read, IsUsing, Checked}
+use Rattle.ms_trail_uses.specs.CleanUses.{uses_clean}
 use Rattle.ms_trail.specs.Following.{InstPasses, FramesPass, IsFollowed}
 use Rattle.ms_trail.specs.Turning.{due_sources, inst_sources, ReadsAt, FoundAt}
 use Rattle.ms_trail_uses.proofs.CodeUses.{code_reads}
+use Rattle.ms_trail_uses.proofs.CleanUses.{clean_unused}
 use Rattle.ms_trail.proofs.Passing.{read_is, uses_checked}
 use Rattle.ms_trail.proofs.Going.{reports}
 use Rattle.ms_trail.proofs.ResultSteps.{TopShade, top}
@@ -215,3 +217,13 @@ module _ (m : Module) (u : Setup) (t : Traced) (f : TracedRun) (o : IsFollowed m
               reads ∙ sym read_here,
             ),
           )
+
+  -- where its code shows that no checked use is poisoned, its checks pass
+  pub passes_clean : u.reports ≡ 1 → uses_clean f.shade.masks.items k ≡ true → FoundAt m u t None
+  passes_clean one clean =
+      found_none listed.row row_there one None
+      (λ w shows. sym (
+      ap (λ (j : Inst). code_read f.fill.now f.fiber.frame.values.items f.shade.masks.items w j.op k) listed.is.inst_is
+      ∙ clean_unused f.fill.now f.fiber.frame.values.items f.shade.masks.items (where_is m due_here.frame.func due_here.coded.func due_here.frame.block) w k i due_here.coded.encodes clean
+      ))
+      refl

@@ -7,16 +7,16 @@ ghost use Rattle.ms_machine_frames.specs.Meaning.{put_of, put_value};
 ghost use Rattle.ms_trail_moves.specs.{declared.moves.Move.{Move as MoveOf}, Sources.{sources, source_at as source_in}};
 ghost use Rattle.ms_trail_moves.specs.Traces.{Traced};
 ghost use Rattle.ms_trail_masks.specs.{Shades.{masks_of}, Views.{IsView}};
-ghost use Rattle.ms_trail.specs.{Calling.{params_told, returned_told}, Following.{IsFollowed, Passes, Went}};
+ghost use Rattle.ms_trail.specs.{Calling.{params_told}, Following.{IsFollowed, Passes, Went}};
 ghost use Rattle.ms_trail.specs.Ready.{Grew, IsReady};
 ghost use Rattle.ms_trail_bytes.specs.Logs.{IsLog};
 
 use crate::due::{code_at, due_site};
 use crate::results::put_mask;
 use crate::traced_run::TracedRun;
-use crate::words::{tell_param, tell_return};
+use crate::words::{tell_back, tell_param};
 use ms_bits::NoMemory;
-use ms_ir::{Func, Inst, Module, Name, Ty};
+use ms_ir::{Func, Module, Name, Ty};
 use ms_machine_code::{Code, WordSource};
 use ms_machine_frames::{Frame, place_of_result};
 use ms_trail_bytes::logs::Log;
@@ -45,7 +45,7 @@ pub(crate) fn argument_masks(
     Ok(masks)
 }
 
-/// The masks of a call's values: those of its arguments, and none after.
+/// Makes the masks of a call's arguments those of all its values: the others are clean.
 fn clean_after(masks: &mut Vec<u64>, values: usize) -> Result<(), NoMemory>
     requires { length masks.old.items ≤ values }
     ensures { OnOk result (masks.new.items ≡ masks.old.items ++ replicate (values - length masks.old.items) 0) }
@@ -88,7 +88,7 @@ fn tell_params(
     Ok(())
 }
 
-/// The last of kept frames.
+/// The caller's frame, the last of those below.
 fn last_kept(below: &[Frame]) -> &Frame
     requires { 0 < length below.now }
     ensures { slice_get below.now (length below.now - 1) ≡ Some result.now }
@@ -104,29 +104,6 @@ pub(crate) fn put_result(masks: &mut Vec<u64>, code: &Code, mask: u64)
     match place_of_result(code) {
         Some(to) => put_mask(masks, to, mask),
         None => {}
-    }
-}
-
-/// The move of a word with a mask from a return, in the call that was left, to the result of the call that it goes back to,
-/// if that has one.
-fn tell_back(
-    alloc: Global,
-    log: &mut Log,
-    stamp: Stamp,
-    inner: u64,
-    row: InstRow<'_>,
-    frame: u64,
-    call: &Inst,
-    mask: u64,
-) -> Result<(), NoMemory>
-    requires roots { row.roots + count_undefs (operands row.inst.now.op) < 2 ^ 32 }
-    requires few { log.old.count + 1 < 2 ^ 64 }
-    ensures told { (moves : List MoveOf) → IsLog log.old moves → OnOk result (IsLog log.new (moves ++ returned_told stamp.event stamp.site frame call.now.result mask (source_in 0 (sources inner (operands row.entry.inst.now.op) row.entry.roots)))) }
-    ensures count { log.new.count ≤ log.old.count + 1 }
-{
-    match &call.result {
-        Some(_) => tell_return(alloc, log, stamp, inner, row, frame, call, mask),
-        None => Ok(()),
     }
 }
 
@@ -220,6 +197,7 @@ impl TracedRun<'_> {
                         stamp,
                         inner,
                         row,
+                        0,
                         self.shade.number,
                         caller.inst,
                         mask,

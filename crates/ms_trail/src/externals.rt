@@ -14,14 +14,14 @@ ghost use Rattle.ms_runs_laws.specs.Follows.{fill_shadow};
 ghost use Rattle.ms_trail_moves.specs.{declared.moves.Move.{Move as MoveOf}, Sources.{sources, source_at as source_in}};
 ghost use Rattle.ms_trail_moves.specs.{Written.{Filled}, Events.{written_moves}, Traces.{Traced}};
 ghost use Rattle.ms_trail_masks.specs.Views.{IsView};
-ghost use Rattle.ms_trail.specs.{Asking.{WaitsSome}, Calling.{answer_told, noted_masks, returned_told}};
+ghost use Rattle.ms_trail.specs.{Asking.{WaitsSome}, Calling.{answer_told, noted_masks}};
 ghost use Rattle.ms_trail.specs.{Following.{IsFollowed, Passes, Went}, Ready.{Grew, IsReady}};
 ghost use Rattle.ms_trail_bytes.specs.{Logs.{IsLog}, Shading.{Done, Facts, ShadedAs}};
 
 use crate::calls::{argument_masks, put_result};
 use crate::due::due_site;
 use crate::traced_run::TracedRun;
-use crate::words::tell_result;
+use crate::words::tell_back;
 use ms_bits::{List, NoMemory};
 use ms_check::CheckedModule;
 use ms_host::{Answer, Asked, HostCall, World, answer};
@@ -104,27 +104,6 @@ fn answer_mask(external: External, words: &[u64], masks: &[u64]) -> u64
     }
 }
 
-/// Logs a move from operand `from` to the result of the instruction, if it has a result and the mask isn't 0.
-fn tell_answer(
-    alloc: Global,
-    log: &mut Log,
-    stamp: Stamp,
-    number: u64,
-    row: InstRow<'_>,
-    mask: u64,
-    from: usize,
-) -> Result<(), NoMemory>
-    requires roots { row.roots + count_undefs (operands row.inst.now.op) < 2 ^ 32 }
-    requires few { log.old.count + 1 < 2 ^ 64 }
-    ensures told { (moves : List MoveOf) → IsLog log.old moves → OnOk result (IsLog log.new (moves ++ returned_told stamp.event stamp.site number row.entry.inst.now.result mask (source_in from (sources number (operands row.entry.inst.now.op) row.entry.roots)))) }
-    ensures count { log.new.count ≤ log.old.count + 1 }
-{
-    match &row.inst.result {
-        Some(_) => tell_result(alloc, log, stamp, number, row, mask, from),
-        None => Ok(()),
-    }
-}
-
 /// Puts the mask of what a call was answered, if it was answered something, and tells its move.
 fn note_answer(
     alloc: Global,
@@ -148,7 +127,7 @@ fn note_answer(
     match value {
         Some(_) => {
             put_result(masks, code, mask);
-            tell_answer(alloc, log, stamp, number, row, mask, from)
+            tell_back(alloc, log, stamp, number, row, from, number, row.inst, mask)
         }
         None => Ok(()),
     }

@@ -14,6 +14,7 @@ use ms_machine_code::Code;
 use ms_trail_moves::moves::Source;
 use ms_trail_moves::sources::source_at;
 use ms_trail_uses::checked::first_used;
+use ms_trail_uses::clean_uses::uses_are_clean;
 use ms_trail_uses::edges::taken;
 use ms_trail_uses::used::Used;
 use std::alloc::Global;
@@ -59,14 +60,14 @@ impl TracedRun<'_> {
         ensures grew { IfOk result (λ on. Grew self.old self.new) }
     {
         match code {
+            Code::Store { size, value, addr } => self.store(alloc, code, *size, *value, *addr),
+            Code::Alloca { size, count, to } => self.alloca(alloc, code, *size, *count, *to),
             Code::Load {
                 size,
                 mask,
                 addr,
                 to,
             } => self.load(alloc, code, *size, *mask, *addr, *to),
-            Code::Store { size, value, addr } => self.store(alloc, code, *size, *value, *addr),
-            Code::Alloca { size, count, to } => self.alloca(alloc, code, *size, *count, *to),
             Code::Call { func, args, to } => self.call(alloc, code, *func, args.as_slice(), *to),
             Code::External {
                 external,
@@ -107,7 +108,8 @@ impl TracedRun<'_> {
         }
     }
 
-    /// What the instruction that is due does. Returns whether the run goes on.
+    /// What the instruction that is due does. Returns whether the run goes on. Never inlined: both ways of a step come here.
+    #[inline(never)]
     fn do_inst(&mut self, alloc: Global, code: &Code) -> Result<bool, NoMemory>
         requires ready { IsReady self.old code.now }
         ensures went { (u : SetupOf) (t : Traced) → IsFollowed self.old.m.now u t self.old → Passes self.old.m.now u t → IfOk result (λ on. Went self.old.m.now u t on self.new) }
@@ -148,6 +150,22 @@ impl TracedRun<'_> {
         }
     }
 
+    /// The step of an instruction of which each use is asked. Never inlined: few instructions need it, and it needs much room.
+    #[inline(never)]
+    fn check_and_go_on(&mut self, alloc: Global, code: &Code) -> Result<StepEnd, NoMemory>
+        requires going { IsGoing self.old }
+        requires due { IsDue self.old.m.now self.old.fiber self.old.world code.now }
+        requires fits { FitsHere self.old.fiber code.now }
+        ensures turned { (u : SetupOf) (t : Traced) → u.reports ≡ 1 → IsFollowed self.old.m.now u t self.old → IfOk result (λ turn. Turned self.old.m.now u t turn self.new) }
+        ensures grew { IfOk result (λ turn. Grew self.old self.new) }
+    {
+        let found = self.found(alloc, code)?;
+        match found {
+            Some(at) => Ok(StepEnd::Reported(at)),
+            None => self.go_on(alloc, code),
+        }
+    }
+
     /// One step. Where memory runs out the run is over.
     pub fn step(&mut self, alloc: Global) -> Result<StepEnd, NoMemory>
         requires going { IsGoing self.old }
@@ -155,10 +173,12 @@ impl TracedRun<'_> {
         ensures grew { IfOk result (λ turn. Grew self.old self.new) }
     {
         let code = due_code(self.m, &self.fiber, &self.world);
-        let found = self.found(alloc, code)?;
-        match found {
-            Some(at) => Ok(StepEnd::Reported(at)),
-            None => self.go_on(alloc, code),
+        let view = self.view();
+        let clean = uses_are_clean(&view, code);
+        if clean {
+            self.go_on(alloc, code)
+        } else {
+            self.check_and_go_on(alloc, code)
         }
     }
 }

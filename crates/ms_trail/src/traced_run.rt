@@ -33,20 +33,25 @@ pub enum StepEnd {
     Reported(Source),
 }
 
-/// A run that is followed: the machine's fiber and world, whose planes hold the shadow of memory; the masks of the calls
-/// that stand, the innermost apart and the last of `below` its caller; how many calls were made, and how many steps; and the
-/// moves so far.
+/// A run of the machine that is followed: the masks of its values are kept beside the frames of its fiber, and the shadow of
+/// memory in the planes of its world.
 #[derive(Drop)]
 pub struct TracedRun<'m> {
     pub m: &'m CheckedModule,
     pub fill: &'m [u8],
+    /// The instruction behind each number of the code.
     pub tables: InstRows<'m>,
     pub fiber: Fiber,
     pub world: World,
+    /// The masks of the innermost call's values.
     pub shade: FrameMasks,
+    /// Those of the calls below it, of which the last is its caller.
     pub below: Vec<FrameMasks>,
+    /// How many calls were made, which is the number of the next one.
     pub made: u64,
+    /// How many steps were taken, which is the number of the next one.
     pub event: u64,
+    /// The moves so far.
     pub log: Log,
 }
 

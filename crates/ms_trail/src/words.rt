@@ -1,4 +1,5 @@
-//! Moves of words, as they are told: one where the word is poisoned.
+//! Moves of words, each told to the log where the word is poisoned: its mask isn't 0. `frame` is the number of the call in which the
+//! word is set.
 ghost use Rattle.std.specs.Prelude.{◌≡◌, ◌≤◌, ◌<◌, ◌+◌, ◌^◌, ◌++◌, [], ◌∷◌, List, OnOk, unwrap_or};
 ghost use Rattle.ms_ir.specs.{declared.syntax.Name.{Name as NameOf}, declared.syntax.Ty.{Ty as TyOf}};
 ghost use Rattle.ms_ir.specs.{declared.syntax.Operand.{Operand as OperandOf}, Instructions.{operands, count_undefs}};
@@ -7,7 +8,7 @@ ghost use Rattle.ms_trail_moves.specs.{declared.moves.Move.{Move as MoveOf}, Sou
 ghost use Rattle.ms_trail_moves.specs.Edges.{edge_source};
 ghost use Rattle.ms_trail_moves.specs.declared.moves.Target.TheVariants as place;
 ghost use Rattle.ms_trail_bytes.specs.Logs.{IsLog};
-ghost use Rattle.ms_trail.specs.Telling.{masked_move};
+ghost use Rattle.ms_trail.specs.{Calling.{returned_told}, Telling.{masked_move}};
 
 use ms_bits::{Duplicate, NoMemory};
 use ms_ir::{Inst, Name};
@@ -19,7 +20,7 @@ use ms_trail_moves::sources::source_at;
 use ms_trail_uses::tables::InstRow;
 use std::alloc::Global;
 
-/// A word moves from a source to a place.
+/// Logs a move from a source to a place, in the step of a stamp.
 fn tell(log: &mut Log, stamp: Stamp, from: Source, to: Target) -> Result<(), NoMemory>
     requires { log.old.count + 1 < 2 ^ 64 }
     ensures told { (moves : List MoveOf) → IsLog log.old moves → OnOk result (IsLog log.new (moves ++ record { event = stamp.event; site = stamp.site; from = from; to = to } ∷ [])) }
@@ -127,26 +128,33 @@ pub fn tell_param(
     tell(log, stamp, moved, to)
 }
 
-/// A word with a mask moves from a return, in the call that was left, to the result of the call that it goes back to.
-pub fn tell_return(
+/// A word with a mask moves from the operand with a place, in the call `inner`, to the result of an instruction in the call
+/// `frame`, if that has one: from a return to a call that it goes back to, or from an argument to what is answered.
+pub fn tell_back(
     alloc: Global,
     log: &mut Log,
     stamp: Stamp,
     inner: u64,
     row: InstRow<'_>,
+    from: usize,
     frame: u64,
-    call: &Inst,
+    inst: &Inst,
     mask: u64,
 ) -> Result<(), NoMemory>
     requires roots { row.roots + count_undefs (operands row.inst.now.op) < 2 ^ 32 }
     requires few { log.old.count + 1 < 2 ^ 64 }
-    ensures told { (moves : List MoveOf) → IsLog log.old moves → OnOk result (IsLog log.new (moves ++ masked_move stamp.event stamp.site mask (source_in 0 (sources inner (operands row.entry.inst.now.op) row.entry.roots)) (place.Value frame (unwrap_or call.now.result (Name.Number 0))))) }
+    ensures told { (moves : List MoveOf) → IsLog log.old moves → OnOk result (IsLog log.new (moves ++ returned_told stamp.event stamp.site frame inst.now.result mask (source_in from (sources inner (operands row.entry.inst.now.op) row.entry.roots)))) }
     ensures count { log.new.count ≤ log.old.count + 1 }
 {
     if mask == 0 {
         return Ok(());
     }
-    let moved = source_at(alloc, inner, row.roots, &row.inst.op, 0)?;
-    let to = result_target(alloc, frame, call)?;
-    tell(log, stamp, moved, to)
+    match &inst.result {
+        Some(_) => {
+            let moved = source_at(alloc, inner, row.roots, &row.inst.op, from)?;
+            let to = result_target(alloc, frame, inst)?;
+            tell(log, stamp, moved, to)
+        }
+        None => Ok(()),
+    }
 }

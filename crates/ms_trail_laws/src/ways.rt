@@ -31,9 +31,9 @@ pub fn moves_are_complete()
 {}
 
 /// What a move of a step reads, each byte of it, is a root, or it was poisoned in the state before the step. Where a run has a
-/// report, what the report's use reads is so in the reported state, and over the way there each place keeps the bits that the hop
-/// wrote, some of them poisoned, in every state up to the one in which the next hop, or the use, reads it: no clean write stands
-/// between.
+/// report, what the report's use reads is so in the reported state, and over the way there the same bits of each place, of which
+/// there are some, stay poisoned in every state from the one after its hop up to the one in which the next hop, or the use, reads
+/// it: no clean write stands between.
 pub fn moves_read_poison()
     ensures steps { (s : Setting) (m : Module) → s.func ≡ func_index m.funcs → is_threaded m ≡ false → (event : ℕ) (numbers : Numbers) (c d : ShadowState) → length numbers.standing ≡ length c.frames → shadow_step by_completions s m c ≡ More d → ReadsPoison s m event numbers c d }
     ensures ways { (m : Module) → is_threaded m ≡ false → (setup : Setup) (moves : List AMove) (at : ASource) → trace m setup ≡ Found moves at → (hops : List AHop) → Leads moves at hops → ReadsToReport m (to_first_report setup) moves at hops }

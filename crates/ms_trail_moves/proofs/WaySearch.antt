@@ -105,8 +105,8 @@ module _ (moves : List Move) (at : Source) where
     pub at_root : is_root s ≡ true → IsWay moves at (Some (reverse hops))
     at_root e = record {
       leads = λ hs f.
-      subst (Leads moves at) (same_Some (reverse hops) hs f)
-      (subst (LeadsBack AnyRoot moves None at) (append_nil hops ∙ sym (reverse-reverse hops)) (g.on [] (root_is s e)));
+          subst (Leads moves at) (same_Some (reverse hops) hs f)
+          (subst (LeadsBack AnyRoot moves None at) (append_nil hops ∙ sym (reverse-reverse hops)) (g.on [] (root_is s e)));
       only = λ hs h. ap Some (sym (sym (reverse-reverse hs) ∙ ap reverse (whole (reverse hs) (g.back (reverse hs) h))));
     }
       where
@@ -140,7 +140,7 @@ module _ (moves : List Move) (at : Source) where
               (
                 f ∙ ap (λ y. hops ++ y ∷ rest) same.0 ∙ joined hops rest hop,
                 subst (λ (y : Hop). LeadsBack AnyRoot moves (Some m.event) (came_from m.from m.to y.byte) rest) same.0
-                (subst (λ (z : Move). LeadsBack AnyRoot moves (Some z.event) (came_from z.from z.to x.byte) rest) same.1 h.2),
+                    (subst (λ (z : Move). LeadsBack AnyRoot moves (Some z.event) (came_from z.from z.to x.byte) rest) same.1 h.2),
               ),
             )
 

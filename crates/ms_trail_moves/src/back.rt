@@ -1,4 +1,4 @@
-//! The way to a use, found from the last move back.
+//! The way to a use, found from the last move back. `event` is the step that reads; none at the report's use.
 ghost use Rattle.std.specs.Prelude.{◌≡◌, ◌≤◌, ◌<◌, ◌+◌, ◌^◌, length, IfOk, option_map};
 ghost use Rattle.ms_ir.specs.Names.{name_eq};
 ghost use Rattle.ms_trail_moves.specs.Scanned.{Ascending, byte_in as byte_of_target, is_root as is_root_source, counted_byte as counted, trail_of};
@@ -34,13 +34,14 @@ pub(crate) fn place_of(source: &Source) -> Reading<'_>
     }
 }
 
+/// Whether two names are one.
 fn same_name(a: &Name, b: &Name) -> bool
     ensures { result ≡ name_eq a.now b.now }
 {
     a == b
 }
 
-/// Which byte of a target is read, if it is one.
+/// Which byte of a target is read, counted from 0, if what is read is part of the target; 0 for a value.
 fn byte_in(target: &Target, reading: Reading<'_>) -> Option<u64>
     ensures { result ≡ byte_of_target target.now (source_of reading.entry) }
 {

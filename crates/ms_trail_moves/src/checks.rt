@@ -1,4 +1,6 @@
-//! Whether hops are a way over moves, told from what a way is: nothing but the types is shared with how one is found.
+//! Whether hops are a way over moves, told from what a way is: nothing but the types is shared with how one is found. The way is gone
+//! back from its end. What is read is a source and a distance: where the source is a byte, the byte so far after it. `event` is the
+//! step that reads it; none at the report's use.
 ghost use Rattle.std.specs.Prelude.{◌≡◌, ◌≤◌, ◌&&◌, MatchBool, eqb, length, slice_get, Some as Held};
 ghost use Rattle.ms_ir.specs.Names.{name_eq};
 ghost use Rattle.ms_trail_moves.specs.{Leads.{Leads}, Scanned.{is_before}};
@@ -7,7 +9,7 @@ ghost use Rattle.ms_trail_moves.specs.Checked.{distance_in, is_reached, is_writt
 use crate::moves::{Hop, Move, Source, Target};
 use ms_ir::Name;
 
-/// Whether a value of a frame is another one.
+/// Whether two values are one: the frame and the name of the one, then those of the other.
 fn is_value(frame: u64, name: &Name, other: u64, read: &Name) -> bool
     ensures { result ≡ (eqb frame other && name_eq name.now read.now) }
 {
@@ -90,13 +92,7 @@ fn none_writes(
 }
 
 /// Whether a hop's move is the last one, of the steps before one, that writes what is read.
-fn is_next(
-    moves: &[Move],
-    event: Option<u64>,
-    read: &Source,
-    distance: u64,
-    hop: Hop,
-) -> bool
+fn is_next(moves: &[Move], event: Option<u64>, read: &Source, distance: u64, hop: Hop) -> bool
     ensures { MatchBool result (IsNext moves.now event read.now distance hop) (IsNext moves.now event read.now distance hop → ⊥) }
 {
     let index = hop.index as usize;
@@ -109,7 +105,7 @@ fn is_next(
         && none_writes(moves, index + 1, event, read, distance)
 }
 
-/// The distance of what a byte of a target comes from.
+/// How far after its move's source stands what a byte of a target comes from: a byte comes from that at its own distance.
 fn distance_of(target: &Target, byte: u64) -> u64
     ensures { result ≡ distance_in target.now byte }
 {
@@ -119,6 +115,7 @@ fn distance_of(target: &Target, byte: u64) -> u64
     }
 }
 
+/// Whether a source is a root, at which a way begins.
 fn is_root(source: &Source) -> bool
     ensures { result ≡ is_root_at source.now }
 {

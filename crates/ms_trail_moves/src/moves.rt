@@ -22,19 +22,20 @@ pub enum Target {
     Bytes { addr: u64, len: u64 },
 }
 
-/// Poisoned bits are written.
+/// A step that writes poisoned bits: which one, where they go, and where they come from.
 #[derive(Debug, PartialEq, Eq, Drop)]
 pub struct Move {
     /// The number of the step, from 0.
     pub event: u64,
     /// The site of the step's instruction, or of a phi.
     pub site: u32,
-    /// Where they come from; where bytes come from a byte, each one comes from the byte at its distance.
+    /// Where they come from; where bytes come from a byte, each one comes from the byte at its distance: the k-th of the target
+    /// from that k bytes after the source.
     pub from: Source,
     pub to: Target,
 }
 
-/// A move on a way, and which byte of its target is meant; 0 for a value.
+/// One step of a way: a move, and which byte of its target is meant; 0 for a value.
 #[derive(Clone, Copy, Debug, PartialEq, Eq)]
 pub struct Hop {
     /// The place of the move, counted from 0.

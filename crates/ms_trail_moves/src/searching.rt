@@ -73,11 +73,7 @@ fn search(alloc: Global, moves: &[Move], at: &Source) -> Result<Option<List<Hop>
 ///
 /// The moves may stand in any order. Where none is of an earlier step than one before it, one pass from the last one back finds the
 /// way; else each hop takes a pass.
-pub fn trail(
-    alloc: Global,
-    moves: &[Move],
-    at: &Source,
-) -> Result<Option<List<Hop>>, NoMemory>
+pub fn trail(alloc: Global, moves: &[Move], at: &Source) -> Result<Option<List<Hop>>, NoMemory>
     requires { length moves.now < 2 ^ 32 }
     ensures { IfOk result (IsWay moves.now at.now) }
 {

@@ -1,4 +1,5 @@
-//! What each operand of an instruction is read from.
+//! What each operand of an instruction is read from. `frame` is the number of the call, and `before` that of the roots before it in
+//! the text.
 ghost use Rattle.std.specs.Prelude.{◌≡◌, ◌<◌, ◌+◌, ◌^◌, take, IfOk};
 ghost use Rattle.ms_ir.specs.Instructions.{operands, one_undef, count_undefs};
 ghost use Rattle.ms_trail_moves.specs.Sources.{operand_source as source_of_operand, sources, source_at as source_in};
@@ -42,7 +43,7 @@ pub fn roots_before(op: &Op, count: usize) -> u32
     roots
 }
 
-/// What an operand is read from, before which so many roots stand.
+/// What an operand is read from, before which so many roots stand; the root 0 of a constant, which is never poisoned.
 pub fn operand_source(
     alloc: Global,
     frame: u64,

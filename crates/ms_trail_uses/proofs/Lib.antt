@@ -6,3 +6,4 @@ pub mod Stepping
 pub mod Placing
 pub mod Jumping
 pub mod Asked
+pub mod CleanUses

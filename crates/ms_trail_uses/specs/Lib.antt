@@ -4,3 +4,4 @@ pub mod Taken
 pub mod Origins
 pub mod Stepping
 pub mod Used
+pub mod CleanUses

@@ -2,6 +2,7 @@
 #![tactic(auto)]
 
 pub mod checked;
+pub mod clean_uses;
 pub mod edges;
 pub mod frame_masks;
 pub mod loads;

@@ -14,7 +14,7 @@ use ms_ir::{Block, External, Inst, Module, Name, Op};
 use ms_trail_moves::sources::roots_before;
 use std::alloc::Global;
 
-/// An instruction, how many roots stand before it, and the name of its block.
+/// An instruction, how many roots stand before it in the text, and the name of its block.
 #[derive(Clone, Copy)]
 pub struct InstRow<'m> {
     pub inst: &'m Inst,
@@ -61,7 +61,7 @@ fn own_roots(functions: &NameTable<'_>, op: &Op) -> u32
     }
 }
 
-/// How many roots stand after an instruction, before which so many stand.
+/// How many roots stand after an instruction; `first` stand before it.
 fn roots_after(functions: &NameTable<'_>, first: u32, inst: &Inst) -> u32
     requires { first + roots_in (first_place functions.now) inst.now < 2 ^ 32 }
     ensures { result ≡ first + roots_in (first_place functions.now) inst.now }

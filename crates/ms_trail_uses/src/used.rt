@@ -1,4 +1,5 @@
-//! Whether one checked use is poisoned, and what it then reads: an operand, or a byte.
+//! Whether one checked use is poisoned, and what it then reads: an operand, or a byte. Each answer is none where nothing that is used
+//! is poisoned. `args` are the words that a call hands over, by their places.
 ghost use Rattle.std.specs.Prelude.{◌≡◌, length, get_or, All};
 ghost use Rattle.ms_runs.specs.{World.{World as Meant}, Masks.{word_at}};
 ghost use Rattle.ms_machine_code.specs.Fits.{IsSource};
@@ -13,7 +14,7 @@ use ms_printf::asks_string;
 use ms_runs_uses::uses::CheckedUse;
 use ms_trail_masks::{View, mask_of, value_of};
 
-/// What a use that is reported reads.
+/// What a use that is reported reads: the first of it that is poisoned.
 #[derive(Clone, Copy, Debug, PartialEq, Eq)]
 pub enum Used {
     /// An operand, by its place.
@@ -34,7 +35,7 @@ fn arg(args: &[WordSource], k: usize) -> WordSource
     }
 }
 
-/// A use of an argument as a word.
+/// The use of an argument's word.
 fn word(view: &View<'_>, args: &[WordSource], k: usize) -> Option<Used>
     requires view { IsView view.now }
     requires args { All (IsSource (length view.now.values.now) 64) args.now }
@@ -69,7 +70,7 @@ fn byte_found(start: u64, found: Option<PoisonedByte>) -> Option<Used>
     }
 }
 
-/// A use of bytes, where they are good.
+/// The use of `n` bytes from an address on, where they are good: the first one that is poisoned.
 pub fn range(world: &World, addr: u64, n: u64) -> Option<Used>
     ensures { (beside : Beside) (meant : Meant) → Shows world.now beside meant → result ≡ range_read meant addr n }
 {
@@ -83,7 +84,7 @@ pub fn range(world: &World, addr: u64, n: u64) -> Option<Used>
     }
 }
 
-/// A use of a string.
+/// The use of the string at an address: the first of its bytes that is poisoned.
 fn text(world: &World, addr: u64) -> Option<Used>
     ensures { (beside : Beside) (meant : Meant) → Shows world.now beside meant → result ≡ string_read meant addr }
 {
@@ -93,7 +94,7 @@ fn text(world: &World, addr: u64) -> Option<Used>
     byte_found(addr, found)
 }
 
-/// A use of as many bytes as an argument says, at another one.
+/// The use of the bytes to which argument `at` points; argument `size` says how many.
 fn bytes(
     view: &View<'_>,
     world: &World,
@@ -110,7 +111,7 @@ fn bytes(
     range(world, addr, n)
 }
 
-/// A use of the string at an argument.
+/// The use of the string to which argument `at` points.
 fn line(view: &View<'_>, world: &World, args: &[WordSource], at: usize) -> Option<Used>
     requires view { IsView view.now }
     requires args { All (IsSource (length view.now.values.now) 64) args.now }
@@ -120,7 +121,7 @@ fn line(view: &View<'_>, world: &World, args: &[WordSource], at: usize) -> Optio
     text(world, addr)
 }
 
-/// A use of the string at an argument, where the format at the first one asks for it.
+/// The use of the string to which argument `at` points, where the format to which the first one points asks for it.
 fn asked(view: &View<'_>, world: &World, args: &[WordSource], at: usize) -> Option<Used>
     requires view { IsView view.now }
     requires args { All (IsSource (length view.now.values.now) 64) args.now }

@@ -23,7 +23,7 @@ use Rattle.ms_words.specs.declared.reading.Next.TheVariants.{AnOption}
 use Rattle.ms_words.specs.declared.topics.Topic.{Topic}
 use Rattle.ms_words.specs.declared.topics.Topic.TheVariants as topic
 use Rattle.ms_words.specs.Accepted.{Whole}
-use Rattle.ms_words.specs.Limits.{RunsWithinLimits, SchedulesWithinLimits, ExplainsWithinLimits, CorpusWithinLimits, MadeWithinLimits, IsWithinLimits}
+use Rattle.ms_words.specs.Limits.{RunsWithinLimits, ExplainsWithinLimits, CorpusWithinLimits, MadeWithinLimits, IsWithinLimits}
 use Rattle.ms_words.proofs.GoodValues.{good_value, hex_tests, number_tests}
 use Rattle.ms_words.proofs.Keeping.{whole_given}
 

@@ -44,6 +44,7 @@ pub enum Takes {
     Number { least: u64, most: u64 },
 }
 
+/// The commands, in the order of the usage.
 pub static COMMANDS: [CommandName; 6] = [
     CommandName::Instrument,
     CommandName::Run,

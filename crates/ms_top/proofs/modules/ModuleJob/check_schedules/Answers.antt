@@ -5,7 +5,7 @@ use Rattle.ms_top.proofs.modules.ModuleJob.check_schedules.Goals as goal
 use Rattle.ms_runtime.proofs.Fitting.{if_ok}
 
 pub explore-requires-clause-limits : goal.explore-requires-clause-limits
-explore-requires-clause-limits g c =
+explore-requires-clause-limits g c κs here =
     within c.args.options.now (only_input c.args.self.now.inputs.now) c.in_ok-setup.setup c.requires.limits.options c.requires.input
     (c.in_ok-setup.ensures ∙ ap (setup_of c.args.options.now) c.input.ensures)
 
