@@ -13,12 +13,12 @@ use Rattle.ms_trail_moves.specs.declared.moves.Move.{Move}
 use Rattle.ms_trail_moves.specs.declared.moves.Hop.{Hop}
 use Rattle.ms_report.specs.RunTexts.{line, end_text, verdict_text, verdict_line}
 use Rattle.ms_report.specs.ReportTexts.{origin_line, origin_text, earlier, report_line}
-use Rattle.ms_report.specs.SchedulesTexts.{tried_line, schedule_line, schedules_text}
+use Rattle.ms_report.specs.SchedulesTexts.{extent_text, tried_line, schedule_line, schedules_text}
 use Rattle.ms_report.specs.WithLines.{no_lines, under_line, origin_site, end_site, chain_with, origins_with, closing_text_with}
 use Rattle.ms_report.specs.CallTexts.{most_calls, called_line, started_line, called_with, further_line, started_with, calls_if, reports_calling}
 use Rattle.ms_report.specs.TrailTexts.{move_line, hop_with, hops_with, use_line, trail_with}
 use Rattle.ms_report.specs.Uncalled.{tells_call, unless_call, uncalled}
-use Rattle.ms_report.proofs.Singles.{Single, literal, joined, of_number, of_hex, of_extent, of_end, of_verdict, of_origin, of_use, of_bits, of_site}
+use Rattle.ms_report.proofs.Singles.{Single, literal, joined, of_number, of_hex, of_end, of_verdict, of_origin, of_use, of_bits, of_site}
 use Rattle.ms_report.proofs.Indents.{IsLine, newline, line_after, first_cut}
 use Rattle.ms_report.proofs.TrailLines.{of_move, of_way, of_source}
 
@@ -126,6 +126,10 @@ closing_stays m r verdict =
     (stays (line (codes "blind") (decimal r.blind)) (value_line (codes "blind") _ (literal _ refl) (of_number r.blind)) refl))
     (verdict_stays verdict r)
 
+extent_ends : (all_tried : Bool) → IsLine (extent_text all_tried)
+extent_ends true = record { ends = refl }
+extent_ends false = record { ends = refl }
+
 schedule_stays : (shown : Bool) (schedule : List ℕ) → Lacks (schedule_line shown schedule) (schedule_line shown schedule)
 schedule_stays false schedule = nothing
 schedule_stays true schedule = stays (schedule_line true schedule) (value_line (codes "schedule") _ (literal _ refl) (of_hex schedule)) refl
@@ -135,7 +139,7 @@ schedules_stay : (tried : ℕ) (all_tried : Bool) (outcomes : ℕ) (shown : Bool
 schedules_stay tried all_tried outcomes shown schedule =
     both
     (both
-    (stays (tried_line tried all_tried) (value_line (codes "schedules") _ (literal _ refl) (joined (of_number tried) (of_extent all_tried))) refl)
+    (stays (tried_line tried all_tried) (line_after (joined (literal (codes "schedules: ") refl) (of_number tried)) (extent_ends all_tried)) refl)
     (stays (line (codes "outcomes") (decimal outcomes)) (value_line (codes "outcomes") _ (literal _ refl) (of_number outcomes)) refl))
     (schedule_stays shown schedule)
 
