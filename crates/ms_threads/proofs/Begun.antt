@@ -1,5 +1,5 @@
 -- A thread that begins goes on as its fiber does, and so does `main`'s at the start of a run.
-use Rattle.std.proofs.Common.{◌≡◌, ◌<◌, ◌+◌, ◌-◌, ◌*◌, ◌^◌, ℕ, zero, suc, true, not, eqb, List, [], ◌∷◌, length, reverse, map, slice_get, sym, ap, subst, ◌∙◌, arith, Some, None, option_map, inr}
+use Rattle.std.proofs.Common.{◌≡◌, ◌<◌, ◌+◌, ◌-◌, ◌*◌, ◌^◌, ℕ, zero, suc, true, not, eqb, List, [], ◌∷◌, refl, length, reverse, map, slice_get, sym, ap, subst, ◌∙◌, arith, Some, None, option_map, inr}
 use Rattle.std.proofs.lemmas.Bool.{ne_eqb}
 use Rattle.std.proofs.lemmas.Option.{slice_get-map}
 use Rattle.std.proofs.Math.Nat.{mod-eq_of_lt}
