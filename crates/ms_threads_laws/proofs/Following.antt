@@ -426,9 +426,11 @@ module _ (s : Setting) (numbers : ℕ → Numbering) (m : Module) (known : Known
 
     pub says : SaysSame left right relation laws counts late (call_sites m) (call_sites (pass numbers m))
     says = record {
-      go = λ f w g t h. frames_sites s numbers m f w g t.slots t.world h.0;
-      site = site_followed;
-      at = stand_calls;
+      act = record {
+        go = λ f w g t h. frames_sites s numbers m f w g t.slots t.world h.0;
+        site = site_followed;
+        at = stand_calls;
+      };
       go_reports = λ f w g t h. frames_reports s numbers m f w g t.slots t.world h.0;
       go_threads = λ f w g t h. threads_same s numbers m known f w g t.slots t.world h.0;
       reports = λ w t h. ap (λ (u : World). u.reports) (sym h.0);

@@ -28,6 +28,7 @@ pub enum OptionName {
     Functions,
     Run,
     Where,
+    Calls,
 }
 
 /// What an option takes.
@@ -54,7 +55,7 @@ pub static COMMANDS: [CommandName; 6] = [
 ];
 
 /// The options, in the order of the usage.
-pub static OPTIONS: [OptionName; 11] = [
+pub static OPTIONS: [OptionName; 12] = [
     OptionName::Input,
     OptionName::Fill,
     OptionName::Steps,
@@ -66,20 +67,22 @@ pub static OPTIONS: [OptionName; 11] = [
     OptionName::Functions,
     OptionName::Run,
     OptionName::Where,
+    OptionName::Calls,
 ];
 
 static NO_OPTIONS: [OptionName; 0] = [];
 
-static RUN_OPTIONS: [OptionName; 6] = [
+static RUN_OPTIONS: [OptionName; 7] = [
     OptionName::Input,
     OptionName::Fill,
     OptionName::Steps,
     OptionName::Reports,
     OptionName::Schedule,
     OptionName::Where,
+    OptionName::Calls,
 ];
 
-static CHECK_OPTIONS: [OptionName; 8] = [
+static CHECK_OPTIONS: [OptionName; 9] = [
     OptionName::Input,
     OptionName::Fill,
     OptionName::Steps,
@@ -88,21 +91,24 @@ static CHECK_OPTIONS: [OptionName; 8] = [
     OptionName::Schedules,
     OptionName::Workers,
     OptionName::Where,
+    OptionName::Calls,
 ];
 
-static EXPLAIN_OPTIONS: [OptionName; 4] = [
+static EXPLAIN_OPTIONS: [OptionName; 5] = [
     OptionName::Input,
     OptionName::Fill,
     OptionName::Steps,
     OptionName::Where,
+    OptionName::Calls,
 ];
 
-static CORPUS_OPTIONS: [OptionName; 5] = [
+static CORPUS_OPTIONS: [OptionName; 6] = [
     OptionName::Workers,
     OptionName::Fill,
     OptionName::Steps,
     OptionName::Reports,
     OptionName::Where,
+    OptionName::Calls,
 ];
 
 static GEN_OPTIONS: [OptionName; 3] = [OptionName::Seed, OptionName::Functions, OptionName::Run];
@@ -234,6 +240,7 @@ impl OptionName {
             OptionName::Functions => "functions",
             OptionName::Run => "run",
             OptionName::Where => "where",
+            OptionName::Calls => "calls",
         }
     }
 
@@ -268,6 +275,7 @@ impl OptionName {
             },
             OptionName::Run => Takes::Nothing,
             OptionName::Where => Takes::Nothing,
+            OptionName::Calls => Takes::Nothing,
         }
     }
 
