@@ -2,7 +2,7 @@
 use Rattle.std.proofs.Common.{◌≡◌, ◌≢◌, ◌⊎◌, inl, inr, ◌<◌, ◌≤◌, ◌+◌, ◌-◌, ◌/◌, ◌++◌, ◌&&◌, ℕ, zero, suc, List, [], ◌∷◌, length, map, Bool, true, false, true≢false, eqb, leb, ltb, Option, Some, None, refl, sym, ap, ◌∙◌, subst, arith, append-nil, length-append, if◌then◌else◌}
 use Rattle.std.specs.Prelude.{take}
 use Rattle.std.specs.List.{list_any}
-use Rattle.std.proofs.lemmas.Bool.{cases_Bool, leb-true, leb-false, ltb-false}
+use Rattle.std.proofs.lemmas.Bool.{leb-true, leb-false, ltb-false}
 use Rattle.std.proofs.lemmas.List.{take_all, take-append-le}
 use Rattle.ms_bits.specs.Maps.{first_nonzero}
 use Rattle.ms_ir.specs.declared.syntax.Ty.{Ty}
@@ -15,11 +15,11 @@ use Rattle.ms_runs.specs.declared.runs.End.TheVariants as «end»
 use Rattle.ms_runs.specs.declared.runs.Report.{Report}
 use Rattle.ms_runs.specs.declared.runs.RunResult.{RunResult}
 use Rattle.ms_runs.specs.declared.runs.Setup.{Setup}
-use Rattle.ms_runs.specs.World.{World, Setting, Here, Effect, Gives, Does, Goes, Enters, Leaves, Ends, then_does, stuck}
+use Rattle.ms_runs.specs.World.{World, Setting, Here, Effect, Gives, Does, Goes, Enters, Leaves, Ends, then_does}
 use Rattle.ms_runs.specs.Memory.{is_good, bytes_left}
 use Rattle.ms_runs.specs.Globals.{address_of}
 use Rattle.ms_runs.specs.Control.{Frame, Outcome, On, Over, here, rest_of, read_all}
-use Rattle.ms_runs.specs.Plain.{Stepped, More, Stop, run, go_on, setting_of, plain}
+use Rattle.ms_runs.specs.Plain.{run, go_on, setting_of, plain}
 use Rattle.ms_runs.specs.Origins.{same_use, is_hidden, trail, add_report, check, check_byte, first_in_string, asks_string_at, count_blind}
 use Rattle.ms_runs.specs.Poisoned.{Poisoned}
 use Rattle.ms_runs.specs.Masks.{by_formulas, union, word_at}
@@ -32,7 +32,7 @@ use Rattle.ms_runs_laws.proofs.ExactRules.{computed}
 use Rattle.ms_runs_fills_laws.specs.Once.{each_time}
 use Rattle.ms_runs_fills_laws.proofs.Firsts.{firsts_push, firsts_begin}
 use Rattle.ms_runs_fills_laws.proofs.Kept.{uses_kept, ChecksAfter, StartsWith, globals_kept}
-use Rattle.ms_runs_fills_laws.proofs.Runs.{KeptOutcome, GrownOutcome, act_moves_kept, after_grown}
+use Rattle.ms_runs_fills_laws.proofs.Runs.{GrownOutcome, act_moves_kept, after_grown}
 use Rattle.ms_runs_fills_laws.proofs.LimitFree.{relimited}
 use Rattle.ms_runs_fills_laws.proofs.LimitFreeSteps.{read_free, act_same}
 use Rattle.ms_runs_fills_laws.proofs.FirstReport.{effect_world, checks_world, outcome_world, kept_reports, count_reports, by_itself, stepped_world, run_leads}

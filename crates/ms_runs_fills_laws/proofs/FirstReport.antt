@@ -5,29 +5,22 @@ use Rattle.ms_bits.specs.Maps.{first_nonzero}
 use Rattle.ms_ir.specs.declared.syntax.Name.{Name}
 use Rattle.ms_ir.specs.declared.syntax.Ty.{Ty}
 use Rattle.ms_ir.specs.declared.syntax.Operand.{Operand}
-use Rattle.ms_ir.specs.declared.syntax.Operand.TheVariants as operand
-use Rattle.ms_ir.specs.declared.syntax.Op.{Op}
-use Rattle.ms_ir.specs.declared.syntax.Op.TheVariants as op
 use Rattle.ms_ir.specs.declared.syntax.Inst.{Inst}
 use Rattle.ms_ir.specs.declared.syntax.Module.{Module}
 use Rattle.ms_runs.specs.declared.runs.End.TheVariants as «end»
 use Rattle.ms_runs.specs.declared.runs.Report.{Report}
-use Rattle.ms_ir.specs.declared.calls.External.{External}
-use Rattle.ms_ir.specs.declared.calls.External.TheVariants.{Malloc, Calloc, Realloc, Free, Memcpy, Memmove, Memset, Memcmp, Strlen, Putchar, Puts, Getchar, Read, Write, Exit, Abort, LlvmMemcpy, LlvmMemmove, LlvmMemset, LifetimeStart, LifetimeEnd, Printf, LlvmTrap, LlvmAssume, LlvmObjectSize, PthreadCreate, PthreadJoin, SchedYield}
-use Rattle.ms_ir.specs.declared.calls.External.TheVariants as called
 use Rattle.ms_ir.specs.Layout.{width_of}
 use Rattle.ms_runs.specs.World.{World, Setting, Here, Effect, Gives, Does, Goes, Enters, Leaves, Ends, then_does, result}
 use Rattle.ms_runs.specs.Memory.{is_good}
-use Rattle.ms_ir.specs.Instructions.{operands, count_undefs, external_named, root_at, block_index, blocks_at, insts_at}
-use Rattle.ms_runs.specs.Control.{Frame, Outcome, On, Over, here, rest_of, read_all, phis, count_phis, block_name, keeping, after_effect}
-use Rattle.ms_runs.specs.Act.{operand_word, act}
+use Rattle.ms_ir.specs.Instructions.{operands}
+use Rattle.ms_runs.specs.Control.{Frame, Outcome, On, Over, here, rest_of, read_all}
 use Rattle.ms_runs.specs.Origins.{trail, is_hidden, add_report, check, check_byte, first_in_string, count_blind, asks_string_at}
 use Rattle.ms_runs.specs.Memory.{bytes_left}
 use Rattle.ms_runs.specs.Plain.{Stepped, More, Stop, go_on, run}
-use Rattle.ms_runs.specs.Poisoned.{Poisoned, clean}
+use Rattle.ms_runs.specs.Poisoned.{Poisoned}
 use Rattle.ms_runs.specs.Masks.{by_formulas, union, word_at}
 use Rattle.ms_runs.specs.Uses.{CheckedUse, Word, Bytes, Line, type_at, uses, check_use, check_uses, blinded, Asked}
-use Rattle.ms_runs.specs.Shadow.{read_poisoned, shadow_reading, operand_mask, operand_origin, external_planes, callee_planes, planes, ShadowState, shadow_moved, poisoned_result, shadow_act, after_checks, shadow_inst, shadow_first, shadow_frames, shadow_step}
+use Rattle.ms_runs.specs.Shadow.{read_poisoned, ShadowState, shadow_moved, shadow_act, after_checks, shadow_inst, shadow_first, shadow_frames, shadow_step}
 use Rattle.ms_runs.proofs.NoneHidden.{none_before}
 use Rattle.ms_runs_fills_laws.specs.First.{FirstOf}
 use Rattle.ms_runs_fills_laws.proofs.Kept.{uses_kept, ChecksAfter, StartsWith, FirstIs, Checks}

@@ -1,7 +1,6 @@
 -- A step of a shadow run looks at the limit of reports, and whether each use is reported once, in its checks alone.
-use Rattle.std.proofs.Common.{◌≡◌, ℕ, ◌+◌, List, [], ◌∷◌, Bool, Option, Some, None, refl, ap, ◌∙◌, map}
+use Rattle.std.proofs.Common.{◌≡◌, ℕ, ◌+◌, List, ◌∷◌, Bool, Option, Some, None, refl, ap, ◌∙◌, map}
 use Rattle.ms_ir.specs.declared.syntax.Name.{Name}
-use Rattle.ms_ir.specs.declared.syntax.Ty.{Ty}
 use Rattle.ms_ir.specs.declared.syntax.Operand.{Operand}
 use Rattle.ms_ir.specs.declared.syntax.Operand.TheVariants as operand
 use Rattle.ms_ir.specs.declared.syntax.Op.{Op}
@@ -15,7 +14,7 @@ use Rattle.ms_ir.specs.Layout.{width_of}
 use Rattle.ms_ir.specs.Instructions.{operands, count_undefs, external_named, root_at, block_index, blocks_at, insts_at}
 use Rattle.ms_runs.specs.World.{World, Setting, Here, Effect, Gives, Does, Goes, Enters, Leaves, Ends}
 use Rattle.ms_runs.specs.Act.{operand_word, act}
-use Rattle.ms_runs.specs.Control.{Frame, Outcome, On, phis, count_phis, block_name, keeping, after_effect}
+use Rattle.ms_runs.specs.Control.{Frame, On, phis, count_phis, block_name, keeping, after_effect}
 use Rattle.ms_runs.specs.Poisoned.{Poisoned, clean}
 use Rattle.ms_runs.specs.Masks.{by_formulas}
 use Rattle.ms_runs.specs.Shadow.{read_poisoned, shadow_reading, operand_mask, operand_origin, external_planes, callee_planes, planes, poisoned_result, shadow_act}

@@ -8,9 +8,9 @@ use Rattle.ms_runs.specs.World.{World, Setting}
 use Rattle.ms_runs.specs.Globals.{address_of}
 use Rattle.ms_runs.specs.Plain.{PlainState, Stepped, More, Stop, run, go_on, plain_step, plain_start, plain, setting_of}
 use Rattle.ms_runs.specs.Masks.{by_formulas}
-use Rattle.ms_runs.specs.Shadow.{ShadowState, shadow_step, shadow_start, shadow, shadow_by}
+use Rattle.ms_runs.specs.Shadow.{ShadowState, shadow_step, shadow_start, shadow}
 use Rattle.ms_runs.specs.Faithful.{Fair, Faithful}
-use Rattle.ms_runs.specs.Calls.{main_calls, innermost_site, tell_to, said_after, said_in, tell, told_after, told_in, plain_calls, plain_blind, shadow_calls, shadow_blind, shadow_blind_by, SameCalls}
+use Rattle.ms_runs.specs.Calls.{main_calls, innermost_site, tell_to, said_after, said_in, tell, told_after, told_in, plain_calls, plain_blind, shadow_calls, shadow_blind, SameCalls}
 use Rattle.ms_runs.proofs.Telling.{told_count, tell_count}
 use Rattle.ms_runs_laws.proofs.ExactRules.{computed}
 use Rattle.ms_runs_laws.proofs.SameCalls.{computed_blind}

@@ -21,7 +21,7 @@ use Rattle.ms_bits.specs.Maps.{bytes_at, byte_of, with_cell}
 use Rattle.ms_runs.specs.declared.runs.End.TheVariants as «end»
 use Rattle.ms_runs.specs.declared.runs.Report.{Report}
 use Rattle.ms_runs.specs.Threads.{fiber_limit, thread_at, has_ended, join_answer}
-use Rattle.ms_runs.specs.World.{World, Setting, Here, Effect, Gives, Does, Goes, Enters, Leaves, Ends, stuck, word, gives}
+use Rattle.ms_runs.specs.World.{World, Setting, Here, Effect, Gives, Does, Goes, Enters, Leaves, Ends, word, gives}
 use Rattle.ms_runs.specs.Memory.{local_area, fits, is_good, heap_size, set_shadow, set_cells, copy_shadow, end_block, end_blocks}
 use Rattle.ms_runs.specs.Externals.{external, malloc, reallocated, where_good, string_at, printed, next_byte, formatted, prints}
 use Rattle.ms_runs.specs.Act.{act, truth}

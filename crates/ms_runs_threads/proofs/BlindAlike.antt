@@ -1,5 +1,5 @@
 -- Two runs of fibers that are alike, of which neither ends alone, have their blind uses at the same sites.
-use Rattle.std.proofs.Common.{◌≡◌, Option, None, Some, ℕ, List, [], ◌∷◌, length, refl, sym, ap, ◌∙◌, subst}
+use Rattle.std.proofs.Common.{◌≡◌, Option, None, Some, ℕ, List, [], ◌∷◌, length, refl, ap, ◌∙◌}
 use Rattle.std.specs.Prelude.{◌%◌, get_or}
 use Rattle.ms_runs.specs.declared.runs.End.{End}
 use Rattle.ms_runs.specs.World.{World, Thread}
