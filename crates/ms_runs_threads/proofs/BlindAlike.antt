@@ -11,8 +11,8 @@ use Rattle.ms_runs_threads.specs.Alike.{SteppedAlike, count_of, left_world, Rela
 use Rattle.ms_runs_threads.specs.Blind.{after_call, going_on, going_of, going, fibers_blind}
 use Rattle.ms_runs_threads.proofs.Follow.{runnable_same, fibers_alike}
 
-module _ {F S G T : Type 0} (left : Meaning F S) (right : Meaning G T) (r : Relation left right) (laws : Laws left right r) (counts : Counts left right r) (late : LateLaws left right r) (none : (w v : World) → r.count w ≡ r.count v) where
-  -- what alike fibers and worlds have in common
+module _ {F S G T : Type 0} (left : Meaning F S) (right : Meaning G T) (r : Relation left right) where
+  -- what alike fibers and worlds have in common, where neither run ends alone
   pub record SaysBlind : Type 0 where
     pub site : (f : F) (s : S) (g : G) (t : T) → r.Go f s g t → left.site f ≡ right.site g
     pub go : (f : F) (s : S) (g : G) (t : T) → r.Go f s g t → (left.world s).blind ≡ (right.world t).blind
@@ -20,18 +20,19 @@ module _ {F S G T : Type 0} (left : Meaning F S) (right : Meaning G T) (r : Rela
     pub ends : (e : End) (w : World) (x : End) (v : World) → r.Ends e w x v → w.blind ≡ v.blind
     pub never : (e : End) (w v : World) → r.Early e w v → ⊥
 
+module _ {F S G T : Type 0} (left : Meaning F S) (right : Meaning G T) (r : Relation left right) (laws : Laws left right r) (counts : Counts left right r) (late : LateLaws left right r) (none : (w v : World) → r.count w ≡ r.count v) where
   quiet : (s : S) (a : Stepped (Going F S)) → Quiet left right r s a
   quiet s (More g) = none (left.world g.shared) (left.world s)
   quiet s (Stop e w) = none w (left.world s)
 
-  quiet_step : (schedule : List ℕ) (c : Fibers F S) → QuietStep left right r schedule c
+  pub quiet_step : (schedule : List ℕ) (c : Fibers F S) → QuietStep left right r schedule c
   quiet_step schedule c = by_step (fibers_step left schedule c)
     where
       by_step : (x : Stepped (Fibers F S)) → count_of r.count (left_world left right r) x ≡ r.count (left_world left right r c)
       by_step (More d) = none (left_world left right r d) (left_world left right r c)
       by_step (Stop e w) = none w (left_world left right r c)
 
-  module _ (says : SaysBlind) where
+  module _ (says : SaysBlind left right r) where
     after_same : (f : F) (g : G) → r.At f g → (x : Stepped (Going F S)) (y : Stepped (Going G T)) → SteppedAlike (GoBoth left right r) r.Ends (EarlyGoing left right r) x y
         → site_at left (after_call left f x) ≡ site_at right (after_call right g y)
     after_same f g at (More a) (More b) h = says.site a.fiber a.shared b.fiber b.shared h

@@ -29,7 +29,7 @@ start_goes f s = Goes f s (record { stands = λ n. None; picks = 0 })
 
 pub followed_blind : (d : Rules) (m j : Module) → strip j ≡ m → (setup : Setup) (schedule : List ℕ)
     → (r : Relation (shadow_fiber d (setting_of m setup) m) (plain_fiber (setting_of m setup) j)) → (h : Followed d m j setup r)
-    → SaysBlind (shadow_fiber d (setting_of m setup) m) (plain_fiber (setting_of m setup) j) r h.laws h.counts h.late h.none
+    → SaysBlind (shadow_fiber d (setting_of m setup) m) (plain_fiber (setting_of m setup) j) r
     → plain_threads_blind j setup schedule ≡ shadow_threads_blind_by d m setup schedule
 followed_blind d m j strips setup schedule r h says =
     let s = setting_of m setup in

@@ -438,7 +438,7 @@ module _ (s : Setting) (numbers : ℕ → Numbering) (m : Module) (known : Known
       never = λ e w v h. h;
     }
 
-    pub says_blind : SaysBlind left right relation laws counts late (λ w v. refl)
+    pub says_blind : SaysBlind left right relation
     says_blind = record {
       site = site_followed;
       go = λ f w g t h. frames_blind s numbers m f w g t.slots t.world h.0;
@@ -485,7 +485,6 @@ threads_calls_follow numbers m setup schedule known kept bare placed frames worl
 pub threads_blind_follow : (numbers : ℕ → Numbering) (m : Module) (setup : Setup) (schedule : List ℕ) (known : KnownModule (setting_of m setup) numbers m) (kept : Kept (setting_of m setup) numbers m known)
     → params_at m (unwrap_or (func_index m.funcs main_name) 0) ≡ [] → RangedWorld (start_world m setup) → kept.Of (start_frame shadow_reading m ∷ []) → kept.In (start_world m setup)
     → plain_threads_blind (pass numbers m) setup schedule ≡ shadow_threads_blind_by by_formulas m setup schedule
-unfolding threads_both
 threads_blind_follow numbers m setup schedule known kept bare placed frames world =
     let s = setting_of m setup in
     followed_blind by_formulas m (pass numbers m) known.strips setup schedule (relation s numbers m known kept) (threads_both numbers m setup known kept bare placed frames world) (says_blind s numbers m known kept)
