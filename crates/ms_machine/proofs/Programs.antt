@@ -75,7 +75,7 @@ module _ (m : Module) (p : Program) (compiled : Compiled m p) where
   -- a run that goes on after an answer does so whatever program it is
   pub resumed_from : (u : Setup) (beside : Beside) (call : Asked) (within : PlainState) (fiber : Fiber) (w : WorldState) → HasResumed (IsState m p u beside) m u call within fiber w
       → HasResumed (IsRunning m u beside) m u call within fiber w
-  resumed_from u beside call within fiber w h = record { next = h.next; goes = h.goes; stands = state_from u beside fiber w h.next h.stands }
+  resumed_from u beside call within fiber w h = record { next = h.next; goes = h.goes; stands = state_from u beside fiber w h.next h.stands; calls = h.calls }
 
   -- a fiber and a world that run stand for some state of the program
   pub standing_to : Formed m → Valid m → (fiber : Fiber) (w : WorldState) → Runs m fiber w → Standing p fiber w

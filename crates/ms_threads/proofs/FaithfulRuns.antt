@@ -28,7 +28,8 @@ use Rattle.ms_threads_schedules_laws.specs.Picks.{plain_picks, shadow_picks}
 use Rattle.ms_threads_schedules_laws.proofs.PicksFollowed.{picks_followed}
 use Rattle.ms_threads_laws.proofs.UnderFills.{first_threads, alone_threads, first_same, same_threads, same_threads_calls, shown_threads}
 use Rattle.ms_threads.specs.Faithful.{ThreadsUnderFills, FaithfulThreads}
-use Rattle.ms_threads.specs.Fills.{ThreadsHoldUnderFills}
+use Rattle.ms_threads.specs.Fills.{ThreadsHoldUnderFills, ThreadsCallsUnderFills}
+use Rattle.ms_threads_laws.proofs.FirstCalls.{first_calls}
 use Rattle.ms_threads.proofs.Stripped as stripped
 
 -- ---- runs under other fills
@@ -71,6 +72,15 @@ module _ (m : Module) (formed : Formed m) (valid : Valid m) (can : CanInstrument
             shown_threads m formed valid can setup bytes schedule (quiet_first r q first none.1) (none_first r q first none.0) fill h;
         first = λ quiet report rest some. one_first r q first report rest some;
         same = λ quiet fill h. same_threads m formed valid can setup bytes schedule (quiet_first r q first quiet) fill h;
+      }
+
+  pub shadow_calls_hold : ThreadsCallsUnderFills m setup schedule (shadow_threads m setup schedule).blind (shadow_threads_calls m setup schedule)
+  shadow_calls_hold =
+      let r = shadow_threads m (to_first_report setup) schedule in
+      let q = shadow_threads m setup schedule in
+      record {
+        first = λ quiet one rest some. first_calls m setup schedule one rest some;
+        same = λ quiet fill h. same_threads_calls m formed valid can setup bytes schedule (quiet_first r q (first_threads m setup schedule) quiet) fill h;
       }
 
 -- ---- the instrumented form

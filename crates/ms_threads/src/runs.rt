@@ -1,26 +1,27 @@
 //! Whole runs of programs with threads: one thread goes on at a time, up to its next thread call or its end, and then the schedule
 //! picks.
-ghost use Rattle.std.specs.Prelude.{◌≡◌, ◌<◌, ◌≤◌, ◌^◌, ℕ, List, suc, None, length, IfOk, OnOk, MatchBool};
+ghost use Rattle.std.specs.Prelude.{◌≡◌, ◌<◌, ◌≤◌, ◌^◌, ℕ, List, suc, true, None, [], length, if◌then◌else◌, IfOk, OnOk, MatchBool};
 ghost use Rattle.ms_ir.specs.declared.syntax.Module.{Module as ModuleOf};
 ghost use Rattle.ms_ir.specs.declared.calls.RuntimeFn.TheVariants.{ThreadResult as ResultOf};
 ghost use Rattle.ms_runs.specs.{declared.runs.Setup.{Setup as SetupOf}, Limits.{WithinLimits}};
-ghost use Rattle.ms_runs_threads.specs.PlainFibers.{plain_threads};
+ghost use Rattle.ms_runs_threads.specs.{PlainFibers.{plain_threads}, Calls.{plain_threads_calls}};
 ghost use Rattle.ms_host.specs.declared.calls.Answer.TheVariants.{Resumed as ResumedOf};
+ghost use Rattle.ms_machine.specs.Standing.{RunsSomewhere};
 ghost use Rattle.ms_runtime.specs.{Answering.{AnsweredFor}, Going.{ahead}, Served.{Fits, limit_of}};
 ghost use Rattle.ms_threads_schedules_laws.specs.Picks.{plain_picks};
-ghost use Rattle.ms_threads.specs.{Faithful.{IsSchedule}, Recording.{Records}, ThreadTables.{IsThreadCall, IsResult, standing_of}};
-ghost use Rattle.ms_threads.specs.Going.{Asking, After, Picking, Performing, Beginning, Going, HasEnded, Turned, IsGoing, IsAsking, IsAfter, IsPicking, IsPerforming, IsBeginning, most_ahead, far_of};
+ghost use Rattle.ms_threads.specs.{Faithful.{IsSchedule}, Recording.{Records}, ToldThreads.{plain_threads_told}, ThreadTables.{IsThreadCall, IsResult, standing_of}};
+ghost use Rattle.ms_threads.specs.Going.{KeepsCalls, Noted, Asking, After, Picking, Performing, Beginning, Going, HasEnded, Turned, IsGoing, IsAsking, IsAfter, IsPicking, IsPerforming, IsBeginning, most_ahead, far_of};
 
 use crate::recorder::Recorder;
 use crate::thread_table::{ThreadTable, exchange, word};
-use ms_bits::{NoMemory, Trap};
+use ms_bits::{List, NoMemory, Trap};
 use ms_check::CheckedModule;
 use ms_host::{Answer, Asked, HostCall};
 use ms_ir::RuntimeFn;
 use ms_machine::{advance, resume, spawn};
 use ms_machine_frames::{Pause, no_fiber};
-use ms_runs::{End, RunResult, Setup};
-use ms_runtime::{ReportLimit, Running, start_run, thread_result};
+use ms_runs::{Calls, End, RunResult, Setup};
+use ms_runtime::{ReportLimit, Running, ToldRun, note_calls, start_run, thread_result, told_calls};
 use std::alloc::Global;
 
 /// A run of threads between two pauses.
@@ -29,6 +30,10 @@ pub struct ThreadedRun {
     /// The thread that runs, with what all share.
     pub running: Running,
     pub table: ThreadTable,
+    /// Whether the calls at its reports are wanted.
+    pub wanted: bool,
+    /// Where they are wanted, the calls that stood at each report so far, in order; else none.
+    pub calls: Vec<Calls>,
 }
 
 /// Whether a call is a thread call.
@@ -67,6 +72,7 @@ impl ThreadedRun {
         requires fits { Fits ResultOf call.now.args }
         ensures answered { (m : ModuleOf) (u : SetupOf) (schedule : List ℕ) → (q : Asking m u schedule call.now self.old) → OnOk result (AnsweredFor m u call.now q.within (ResumedOf None) self.old.running self.new.running) }
         ensures table { self.new.table ≡ self.old.table }
+        ensures calls { KeepsCalls self.old self.new }
     {
         let args = call.args.as_slice();
         let addr = word(args, 0);
@@ -103,6 +109,7 @@ impl ThreadedRun {
         requires other { ¬ IsThreadCall call.now.asked }
         ensures answered { (u : SetupOf) (schedule : List ℕ) → limit_of u ≡ limit → (q : Asking m.now u schedule call.now self.old) → IfOk result (λ a. AnsweredFor m.now u call.now q.within a self.old.running self.new.running) }
         ensures table { self.new.table ≡ self.old.table }
+        ensures calls { KeepsCalls self.old self.new }
     {
         m.law_valid();
         if asks_result(call) {
@@ -112,10 +119,28 @@ impl ThreadedRun {
         self.running.answer_of(alloc, m, call, limit)
     }
 
+    /// Records the calls that stand at an answered call, if they are wanted: once for each report that was made there.
+    fn note_calls(&mut self, alloc: Global, m: &CheckedModule) -> Result<(), NoMemory>
+        requires { RunsSomewhere m.now self.old.running.fiber }
+        ensures noted { self.old.wanted ≡ true → OnOk result (Noted m.now self.old self.new) }
+        ensures same { self.new ≡ (record self.old { calls = self.new.calls }) }
+    {
+        let started = self.table.start();
+        note_calls(
+            alloc,
+            m,
+            &self.running,
+            started,
+            self.wanted,
+            &mut self.calls,
+        )
+    }
+
     /// Goes on after a call with its answer. Returns how the run ends, if it does.
     #[inline(always)]
     fn after_answer(&mut self, m: &CheckedModule, call: HostCall, answer: Answer) -> Option<End>
         requires after { IsAfter m.now call answer self.old }
+        ensures wanted { self.new.wanted ≡ self.old.wanted }
         ensures turned { (u : SetupOf) (schedule : List ℕ) → After m.now u schedule call answer self.old → Turned m.now u schedule (ahead m.now self.old.running) result self.new }
     {
         m.law_valid();
@@ -135,6 +160,7 @@ impl ThreadedRun {
         requires turn { self.old.table.turn < length self.old.table.parked.items }
         ensures picking { (m : ModuleOf) (u : SetupOf) (schedule : List ℕ) → IsThreadCall call.asked → Asking m u schedule call self.old → Picking m u schedule self.new }
         ensures budget { self.new.running.budget ≡ self.old.running.budget }
+        ensures wanted { self.new.wanted ≡ self.old.wanted }
     {
         self.table.park(&mut self.running.fiber, call);
     }
@@ -145,6 +171,7 @@ impl ThreadedRun {
         requires turn { self.old.table.turn ≤ length self.old.table.threads.items }
         ensures ended { HasEnded answer self.old self.new }
         ensures running { self.new.running ≡ (record self.old.running { fiber = self.new.running.fiber }) }
+        ensures calls { KeepsCalls self.old self.new }
     {
         let mask = self.running.world.result_mask();
         let origin = self.running.world.result_origin();
@@ -162,6 +189,7 @@ impl ThreadedRun {
         call: HostCall,
     ) -> Result<Option<End>, NoMemory>
         requires performing { IsPerforming m.now call self.old }
+        ensures wanted { self.new.wanted ≡ self.old.wanted }
         ensures turned { (u : SetupOf) (schedule : List ℕ) → Performing m.now u schedule (standing_of self.old.running.fiber call) self.old → IfOk result (λ end. Turned m.now u schedule (suc (most_ahead m.now self.old.running)) end self.new) }
     {
         m.law_valid();
@@ -172,6 +200,7 @@ impl ThreadedRun {
     /// Begins the picked thread, which hasn't run yet: a fiber with a call of its function, whose argument is clean.
     fn begin(&mut self, alloc: Global, m: &CheckedModule) -> Result<(), NoMemory>
         requires beginning { IsBeginning m.now self.old }
+        ensures wanted { self.new.wanted ≡ self.old.wanted }
         ensures turned { (u : SetupOf) (schedule : List ℕ) → Beginning m.now u schedule self.old → OnOk result (Turned m.now u schedule (suc (most_ahead m.now self.old.running)) None self.new) }
     {
         m.law_valid();
@@ -196,6 +225,7 @@ impl ThreadedRun {
     ) -> Result<Option<End>, NoMemory>
         requires scheduled { IsSchedule schedule.now }
         requires picking { IsPicking m.now schedule.now self.old }
+        ensures wanted { self.new.wanted ≡ self.old.wanted }
         ensures turned { (u : SetupOf) → Picking m.now u schedule.now self.old → IfOk result (λ end. Turned m.now u schedule.now (suc (most_ahead m.now self.old.running)) end self.new) }
     {
         if self.running.budget.left == 0 {
@@ -228,6 +258,7 @@ impl ThreadedRun {
     ) -> Result<Option<End>, NoMemory>
         requires scheduled { IsSchedule schedule.now }
         requires asking { (u : SetupOf) × ((limit_of u ≡ limit) × Asking m.now u schedule.now call self.old) }
+        ensures wanted { self.new.wanted ≡ self.old.wanted }
         ensures turned { (u : SetupOf) → limit_of u ≡ limit → Asking m.now u schedule.now call self.old → IfOk result (λ end. Turned m.now u schedule.now (far_of m.now call.asked self.old.running) end self.new) }
     {
         if is_thread_call(&call) {
@@ -235,6 +266,7 @@ impl ThreadedRun {
             return self.pick(alloc, m, schedule);
         }
         let answer = self.answer_of(alloc, m, &call, limit)?;
+        self.note_calls(alloc, m)?;
         Ok(self.after_answer(m, call, answer))
     }
 
@@ -249,6 +281,7 @@ impl ThreadedRun {
     ) -> Result<Option<End>, NoMemory>
         requires scheduled { IsSchedule schedule.now }
         requires going { IsGoing m.now limit schedule.now self.old }
+        ensures wanted { self.new.wanted ≡ self.old.wanted }
         ensures turned { (u : SetupOf) → limit_of u ≡ limit → Going m.now u schedule.now self.old → IfOk result (λ end. Turned m.now u schedule.now (ahead m.now self.old.running) end self.new) }
     {
         m.law_valid();
@@ -278,6 +311,50 @@ pub struct RecordedRun {
     pub recorder: Recorder,
 }
 
+/// Runs a checked module with threads to its end. Ok is what its plain run answers and its first 2048 picks, and the calls that stood
+/// at each of its reports, in order, where they are wanted.
+fn run_to_end(
+    alloc: Global,
+    m: &CheckedModule,
+    setup: &Setup,
+    schedule: &[u8],
+    wanted: bool,
+) -> Result<(RecordedRun, List<Calls>), NoMemory>
+    requires limits { WithinLimits setup.now }
+    requires scheduled { IsSchedule schedule.now }
+    ensures result { IfOk result (λ r. r.0.result ≡ plain_threads m.now setup.now schedule.now) }
+    ensures picks { IfOk result (λ r. Records r.0.recorder (plain_picks m.now setup.now schedule.now)) }
+    ensures calls { IfOk result (λ r. r.1 ≡ (if wanted then plain_threads_calls m.now setup.now schedule.now else [])) }
+{
+    let limit = ReportLimit {
+        count: setup.reports,
+        once: setup.once,
+    };
+    let running = start_run(alloc, m, setup)?;
+    let table = ThreadTable::new(alloc)?;
+    let mut threads = ThreadedRun {
+        running,
+        table,
+        wanted,
+        calls: Vec::new(alloc),
+    };
+    loop {
+        if let Some(end) = threads.run_to_pause(alloc, m, limit, schedule)? {
+            let ThreadedRun {
+                running,
+                table,
+                calls,
+                ..
+            } = threads;
+            let recorded = RecordedRun {
+                result: running.into_result(end),
+                recorder: table.recorder,
+            };
+            return Ok((recorded, told_calls(alloc, calls, wanted)));
+        }
+    }
+}
+
 /// Runs a checked module with threads, as `run_threads` does, and keeps its first 2048 picks.
 pub fn record_threads(
     alloc: Global,
@@ -290,21 +367,8 @@ pub fn record_threads(
     ensures result { IfOk result (λ r. r.result ≡ plain_threads m.now setup.now schedule.now) }
     ensures picks { IfOk result (λ r. Records r.recorder (plain_picks m.now setup.now schedule.now)) }
 {
-    let running = start_run(alloc, m, setup)?;
-    let table = ThreadTable::new(alloc)?;
-    let limit = ReportLimit {
-        count: setup.reports,
-        once: setup.once,
-    };
-    let mut threads = ThreadedRun { running, table };
-    loop {
-        if let Some(end) = threads.run_to_pause(alloc, m, limit, schedule)? {
-            return Ok(RecordedRun {
-                result: threads.running.into_result(end),
-                recorder: threads.table.recorder,
-            });
-        }
-    }
+    let (recorded, _) = run_to_end(alloc, m, setup, schedule, false)?;
+    Ok(recorded)
 }
 
 /// Runs a checked module with threads, under a schedule that isn't empty: the k-th pick of the run, counted from 0, takes of
@@ -324,4 +388,25 @@ pub fn run_threads(
 {
     let recorded = record_threads(alloc, m, setup, schedule)?;
     Ok(recorded.result)
+}
+
+/// The same, and the calls that stood at each of its reports, in order, where they are wanted.
+///
+/// A report takes as long as calls stand there; nothing else takes longer than in `run_threads`.
+pub fn run_threads_told(
+    alloc: Global,
+    m: &CheckedModule,
+    setup: &Setup,
+    schedule: &[u8],
+    wanted: bool,
+) -> Result<ToldRun, NoMemory>
+    requires limits { WithinLimits setup.now }
+    requires scheduled { IsSchedule schedule.now }
+    ensures { IfOk result (λ r. r ≡ plain_threads_told wanted m.now setup.now schedule.now) }
+{
+    let (recorded, calls) = run_to_end(alloc, m, setup, schedule, wanted)?;
+    Ok(ToldRun {
+        result: recorded.result,
+        calls,
+    })
 }

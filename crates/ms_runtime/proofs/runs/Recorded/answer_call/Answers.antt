@@ -1,0 +1,52 @@
+use Rattle.std.proofs.Common.{List, ◌∷◌, refl, sym, subst, ◌∙◌}
+use Rattle.ms_host.specs.declared.calls.Answer.{Answer}
+use Rattle.ms_machine_frames.specs.declared.frames.Frame.{Frame as Kept}
+use Rattle.ms_machine_frames.specs.Standing.{frames_of}
+use Rattle.ms_machine_steps.specs.Waiting.{answered}
+use Rattle.ms_machine.specs.Running.{AllStandFor}
+use Rattle.ms_runtime.specs.declared.runs.Recorded.{Recorded}
+use Rattle.ms_runtime.specs.Answering.{AnsweredFor}
+use Rattle.ms_runtime.specs.Going.{ahead}
+use Rattle.ms_runtime.proofs.RecordedRuns.{runs_there, answer_ended, answer_goes}
+use Rattle.ms_runtime.proofs.runs.Recorded.answer_call.Goals as goal
+
+pub answer_of-requires : goal.answer_of-requires
+answer_of-requires c = let q = c.requires.paused in record { asking = (q.0, (q.1.0, q.1.1.paused.asking)) }
+
+pub note_calls-requires : goal.note_calls-requires
+note_calls-requires c =
+    let q = c.requires.paused in
+    runs_there c.args.m.now q.0 c.program-code.result.now c.program-code.ensures c.law_valid.ensures.formed c.law_valid.ensures.valid c.args.call c.args.self.now q.1.1 c.answer_of.new.self c.in_ok-answer.answer
+    (c.in_ok-answer.ensures.answered q.0 q.1.0 q.1.1.paused.asking)
+
+pub resume-requires : goal.resume-requires
+resume-requires c =
+    let m = c.args.m.now in
+    let q = c.requires.paused in
+    let a = q.1.1.paused.asking in
+    let x = c.in_ok-answer.ensures.answered q.0 q.1.0 a in
+    (q.0, a.within.frames, c.args.call, (subst (λ f. AllStandFor m (frames_of f) a.within.frames) (sym x.fiber) a.stands.frames, a.waits))
+
+pub returns-in-Ended : goal.returns-in-Ended
+returns-in-Ended c = record {
+  wanted = refl;
+  turned = λ u same b.
+      let m = c.args.m.now in
+      let after : Recorded = record c.args.self.now { running = c.answer_of.new.self; calls = c.note_calls.new.recorded } in
+      answer_ended m u c.program-code.result.now c.program-code.ensures c.law_valid.ensures.formed c.law_valid.ensures.valid c.args.call c.args.self.now b c.answer_of.new.self c.in-Ended.end
+      (subst (λ (x : Answer). AnsweredFor m u c.args.call b.paused.asking.within x c.args.self.now.running c.answer_of.new.self) c.in-Ended.is (c.in_ok-answer.ensures.answered u same b.paused.asking))
+      after refl refl c.in_ok-note_calls.ensures (ahead m c.args.self.now.running);
+}
+
+pub returns-in-Resumed : goal.returns-in-Resumed
+returns-in-Resumed c = record {
+  wanted = refl;
+  turned = λ u same b.
+      let m = c.args.m.now in
+      answer_goes m u c.program-code.result.now c.program-code.ensures c.law_valid.ensures.formed c.law_valid.ensures.valid c.args.call c.args.self.now b c.answer_of.new.self c.in-Resumed.value
+      (subst (λ (x : Answer). AnsweredFor m u c.args.call b.paused.asking.within x c.args.self.now.running c.answer_of.new.self) c.in-Resumed.is (c.in_ok-answer.ensures.answered u same b.paused.asking))
+      _ refl c.in_ok-note_calls.ensures
+      refl refl refl refl (c.keep.ensures.at ∙ c.resume.ensures.at)
+      (record { spawned = c.keep.ensures.own.spawned ∙ c.resume.ensures.own.spawned; heap = c.keep.ensures.own.heap ∙ c.resume.ensures.own.heap })
+      (λ frame below stands waits. subst (λ (ks : List Kept). AllStandFor m ks (answered m c.in-Resumed.value frame ∷ below)) (sym c.keep.ensures.frames) (c.resume.ensures.stands u frame below c.args.call stands waits));
+}
