@@ -153,7 +153,7 @@ module _ (m : Module) (u : Setup) where
         told_over «end».Spent h.last.world g.beside r' (sym g.same ∙ run_spent (λ (s : PlainState). s.world) (step_of m u) r.budget.left g.state h.last h.came) h.stands.shows still_beside still_few
 
     -- a step ended it
-    pub going_ended : (e : End) → HasEnded m u g.beside g.state r.budget.left e r'.world → Over m u e r'
+    pub going_ended : (e : End) → HasEnded m u g.beside g.state r.budget.left e r'.fiber r'.world → Over m u e r'
     going_ended e h =
         told_over e h.last g.beside r' (sym g.same ∙ run_ends (λ (s : PlainState). s.world) (step_of m u) r.budget.left h.done g.state h.before e h.last h.few h.came h.ends.step) h.shows still_beside still_few
 
@@ -224,7 +224,7 @@ module _ (m : Module) (u : Setup) where
     pub spent_tells : (calls : List Calls) → length calls ≡ length r.told.reports → IsSpent (IsRunning m u g.beside) m u g.state r.budget.left r'.fiber r'.world r'.budget.left → tells m u r.budget.left g.state calls ≡ calls
     spent_tells calls count h = told_spent m u r.budget.left g.state h.last calls h.came (told_as calls count h.last.world h.stands.shows.reports)
 
-    pub ended_tells : (calls : List Calls) → length calls ≡ length r.told.reports → (e : End) → HasEnded m u g.beside g.state r.budget.left e r'.world → tells m u r.budget.left g.state calls ≡ calls
+    pub ended_tells : (calls : List Calls) → length calls ≡ length r.told.reports → (e : End) → HasEnded m u g.beside g.state r.budget.left e r'.fiber r'.world → tells m u r.budget.left g.state calls ≡ calls
     ended_tells calls count e h = told_ends m u r.budget.left h.done g.state h.before e h.last calls h.few h.came h.ends.step (told_as calls count h.last h.shows.reports)
 
     pub finished_tells : (calls : List Calls) → length calls ≡ length r.told.reports → (word : ℕ) → HasFinished m u g.beside g.state r.budget.left word r'.world r'.budget.left → tells m u r.budget.left g.state calls ≡ calls

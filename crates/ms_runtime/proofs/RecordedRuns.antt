@@ -57,7 +57,7 @@ module _ (m : Module) (u : Setup) where
       λ wanted. sym (spent_tells m u r.running g.going r' depot told r.calls.items (g.counted wanted) h) ∙ g.same wanted,
     )
 
-    pub turn_ended : (e : End) → HasEnded m u g.going.beside g.going.state r.running.budget.left e r'.world → TurnedTold m u (ahead m r.running) (Some e) (with_running r r')
+    pub turn_ended : (e : End) → HasEnded m u g.going.beside g.going.state r.running.budget.left e r'.fiber r'.world → TurnedTold m u (ahead m r.running) (Some e) (with_running r r')
     turn_ended e h = (
       going_ended m u r.running g.going r' depot told e h,
       λ wanted. sym (ended_tells m u r.running g.going r' depot told r.calls.items (g.counted wanted) e h) ∙ g.same wanted,
