@@ -238,6 +238,7 @@ fn setup(alloc: Global) -> Result<Setup, NoMemory>
         fill: Bytes::from_vec(fill),
         steps: 1000,
         reports: 1,
+        once: false,
     })
 }
 

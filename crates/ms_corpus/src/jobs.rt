@@ -33,6 +33,7 @@ impl<'a> InputRuns<'a> {
             fill: self.setup.fill.copy(alloc)?,
             steps: self.setup.steps,
             reports: self.setup.reports,
+            once: self.setup.once,
         })
     }
 }

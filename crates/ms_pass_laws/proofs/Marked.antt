@@ -18,7 +18,7 @@ use Rattle.ms_bits.specs.Maps.{first_nonzero}
 use Rattle.ms_ir.specs.Names.{lookup, runtime_functions, slots}
 use Rattle.ms_ir.specs.Layout.{width_of, stored_size}
 use Rattle.ms_runs.specs.World.{World, Setting, Here, Effect, Gives, Does, Goes, Enters, Leaves, Ends, stuck, word, gives}
-use Rattle.ms_runs.specs.Origins.{trail, add_report, check, check_byte, check_memory, check_string, asks_string_at, check_format}
+use Rattle.ms_runs.specs.Origins.{trail, is_hidden, add_report, check, check_byte, check_memory, check_string, asks_string_at, check_format}
 use Rattle.ms_runs.specs.Memory.{is_good}
 use Rattle.ms_ir.specs.Instructions.{operands, is_phi}
 use Rattle.ms_runs.specs.Act.{act, operand_word, plain_reading}
@@ -146,11 +146,13 @@ gives_quiet site (Ok v) w = tt
 gives_quiet site (Err t) w = tt
 
 report_quiet : (s : Setting) (r : Report) (w : World) → IsQuiet (add_report s r w)
-report_quiet s r w = by_limit (leb s.limit (length (w.reports ++ r ∷ [])))
+report_quiet s r w = by_tests (is_hidden s r w) (leb s.limit (length (w.reports ++ r ∷ [])))
   where
-    by_limit : (b : Bool) → IsQuiet (if b then Ends «end».Reported (record w { reports = w.reports ++ r ∷ [] }) else Does (record w { reports = w.reports ++ r ∷ [] }))
-    by_limit true = tt
-    by_limit false = tt
+    by_tests : (h b : Bool)
+        → IsQuiet (if h then Does w else if b then Ends «end».Reported (record w { reports = w.reports ++ r ∷ [] }) else Does (record w { reports = w.reports ++ r ∷ [] }))
+    by_tests true b = tt
+    by_tests false true = tt
+    by_tests false false = tt
 
 check_quiet : (s : Setting) (mask width origin kind part site : ℕ) (w : World) → IsQuiet (check s mask width origin kind part site w)
 check_quiet s mask width origin kind part site w = by_mask (eqb mask 0)

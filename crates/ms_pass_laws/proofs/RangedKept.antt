@@ -22,7 +22,7 @@ use Rattle.ms_ir.specs.Areas.{Heap, Stack, room}
 use Rattle.ms_bits.specs.declared.traps.Trap.TheVariants as trap
 use Rattle.ms_ir.specs.Layout.{stored_size, width_of, size_in}
 use Rattle.ms_runs.specs.Memory.{make, heap_size, is_heap_block, local_area, end_block, end_blocks, copy_bytes, copy_shadow, keeps, store_number, set_shadow, used, fits, next_base, is_good, make_unset, set_cells, bytes_left}
-use Rattle.ms_runs.specs.Origins.{keeps_old, pair_index, copy_planes, fill_planes, unpoison, Chained, chain, add_report, check, check_byte, check_memory, count_blind, poison, mark_cells, store_origin, origin_within, trail, first_in_string, pair_limit, check_string, asks_string_at, check_format, thread_result}
+use Rattle.ms_runs.specs.Origins.{keeps_old, pair_index, copy_planes, fill_planes, unpoison, Chained, chain, is_hidden, add_report, check, check_byte, check_memory, count_blind, poison, mark_cells, store_origin, origin_within, trail, first_in_string, pair_limit, check_string, asks_string_at, check_format, thread_result}
 use Rattle.ms_ir.specs.Instructions.{makes_unset, external_named, operands, one_undef, count_undefs, is_root, roots_in, blocks_at, insts_at, block_index, root_at, is_phi}
 use Rattle.ms_runs.specs.Control.{Frame, here, rest_of, read_all, with_value, put, after_effect, read_edge, phis, block_name, result_at, left, release, given_back, keeping, Over, On, bind, entered, params_at, frame_limit}
 use Rattle.ms_runs.specs.Act.{act, alloca, load, store}
@@ -74,14 +74,15 @@ leaving_then : (w u z : World) → Leaving w u → Leaving u z → Leaving w z
 leaving_then w u z p q = record { allocs = q.allocs ∙ p.allocs; origins = q.origins ∙ p.origins; pairs = q.pairs ∙ p.pairs; answers = q.answers ∙ p.answers }
 
 report_quiet : (s : Setting) (r : Report) (w : World) → Quiet w (add_report s r w)
-report_quiet s r w = go (leb s.limit (length (w.reports ++ r ∷ [])))
+report_quiet s r w = go (is_hidden s r w) (leb s.limit (length (w.reports ++ r ∷ [])))
   where
     reported : World
     reported = record w { reports = w.reports ++ r ∷ [] }
 
-    go : (b : Bool) → Quiet w (if b then Ends «end».Reported reported else Does reported)
-    go true = tt
-    go false = record { allocs = refl; origins = refl; pairs = refl; answers = refl }
+    go : (h b : Bool) → Quiet w (if h then Does w else if b then Ends «end».Reported reported else Does reported)
+    go true b = same w
+    go false true = tt
+    go false false = record { allocs = refl; origins = refl; pairs = refl; answers = refl }
 
 check_quiet : (s : Setting) (mask width origin kind part site : ℕ) (w : World) → Quiet w (check s mask width origin kind part site w)
 check_quiet s mask width origin kind part site w = go (eqb mask 0)

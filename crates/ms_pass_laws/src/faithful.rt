@@ -21,8 +21,8 @@ pub fn modules_are_taken()
 {}
 
 /// Where a state of the instrumented module follows one of the shadow run, the calls that stand have the same sites in
-/// both. So at each report of a plain run of the instrumented module the calls stand that stand at that report of the
-/// shadow run.
+/// both, and the innermost frames stand at the same site. So at each report of a plain run of the instrumented module, and at
+/// its end, the calls stand that stand there in the shadow run, and the blind uses of both have the same sites.
 pub fn calls_are_the_same()
     ensures sites { (s : Setting) (numbers : ℕ → Numbering) (m : Module) (c : ShadowState) (d : PlainState) → Follows s numbers m c d → call_sites m c.frames ≡ call_sites (pass numbers m) d.frames }
     ensures taken { (numbers : ℕ → Numbering) (m : Module) → IsTaken numbers m → SameCalls m (pass numbers m) }

@@ -15,7 +15,7 @@ use Rattle.ms_runs.specs.declared.runs.Report.{Report}
 use Rattle.ms_ir.specs.Names.{name_eq}
 use Rattle.ms_ir.specs.Layout.{width_of}
 use Rattle.ms_runs.specs.World.{World, Setting, Here, Effect, Gives, Does, Goes, Enters, Leaves, Ends, then_does}
-use Rattle.ms_runs.specs.Origins.{check, check_byte, check_memory, check_string, asks_string_at, add_report, trail, count_blind, first_in_string}
+use Rattle.ms_runs.specs.Origins.{check, check_byte, check_memory, check_string, asks_string_at, is_hidden, add_report, trail, count_blind, first_in_string}
 use Rattle.ms_runs.specs.Memory.{bytes_left, is_good, heap_size}
 use Rattle.ms_runs.specs.Act.{operand_word}
 use Rattle.ms_ir.specs.Instructions.{operands, one_undef, count_undefs, external_named}
@@ -175,11 +175,13 @@ check_left : (s : Setting) (mask width o kind part site : ℕ) (w : World) → R
 check_left s mask width o kind part site w r = by_mask (eqb mask 0)
   where
     added : (report : Report) → IsLeft (add_report s report w)
-    added report = by_limit (leb s.limit (length (w.reports ++ report ∷ [])))
+    added report = by_tests (is_hidden s report w) (leb s.limit (length (w.reports ++ report ∷ [])))
       where
-        by_limit : (b : Bool) → IsLeft (if b then Ends «end».Reported (record w { reports = w.reports ++ report ∷ [] }) else Does (record w { reports = w.reports ++ report ∷ [] }))
-        by_limit true = tt
-        by_limit false = record { placed = r.placed; origins = r.origins; pairs = r.pairs; answers = r.answers }
+        by_tests : (h b : Bool)
+            → IsLeft (if h then Does w else if b then Ends «end».Reported (record w { reports = w.reports ++ report ∷ [] }) else Does (record w { reports = w.reports ++ report ∷ [] }))
+        by_tests true b = r
+        by_tests false true = tt
+        by_tests false false = record { placed = r.placed; origins = r.origins; pairs = r.pairs; answers = r.answers }
 
     by_mask : (b : Bool) → IsLeft (if b then Does w else add_report s (record { site = site; kind = kind; part = part; width = width; mask = mask; origin = o; chain = trail s w o }) w)
     by_mask true = r

@@ -15,7 +15,7 @@ use Rattle.ms_runs.specs.declared.runs.Report.{Report}
 use Rattle.ms_runs.specs.declared.runs.End.TheVariants as «end»
 use Rattle.ms_ir.specs.Layout.{width_of}
 use Rattle.ms_runs.specs.World.{World, Setting, Here, Effect, Gives, Does, Goes, Enters, Leaves, Ends, stuck, then_does}
-use Rattle.ms_runs.specs.Origins.{check, add_report, trail, check_byte, check_memory, check_string, asks_string_at, check_format, first_in_string}
+use Rattle.ms_runs.specs.Origins.{check, is_hidden, add_report, trail, check_byte, check_memory, check_string, asks_string_at, check_format, first_in_string}
 use Rattle.ms_runs.specs.Act.{operand_word}
 use Rattle.ms_runs.specs.Poisoned.{Poisoned}
 use Rattle.ms_runs.specs.Masks.{word_at}
@@ -66,12 +66,13 @@ IsCheck _ = ⊥
 pub check_is : (s : Setting) (mask width o kind part site : ℕ) (w : World) → IsCheck (check s mask width o kind part site w)
 check_is s mask width o kind part site w = by_mask (eqb mask 0)
   where
-    by_limit : (b : Bool) (u : World) → IsCheck (if b then Ends «end».Reported u else Does u)
-    by_limit true u = tt
-    by_limit false u = tt
+    by_tests : (h b : Bool) (u : World) → IsCheck (if h then Does w else if b then Ends «end».Reported u else Does u)
+    by_tests true b u = tt
+    by_tests false true u = tt
+    by_tests false false u = tt
 
     added : (r : Report) → IsCheck (add_report s r w)
-    added r = by_limit (leb s.limit (length (w.reports ++ r ∷ []))) (record w { reports = w.reports ++ r ∷ [] })
+    added r = by_tests (is_hidden s r w) (leb s.limit (length (w.reports ++ r ∷ []))) (record w { reports = w.reports ++ r ∷ [] })
 
     by_mask : (b : Bool) → IsCheck (if b then Does w else add_report s (record { site = site; kind = kind; part = part; width = width; mask = mask; origin = o; chain = trail s w o }) w)
     by_mask true = tt

@@ -1,3 +1,4 @@
 pub mod HeapBlocks
+pub mod NoneHidden
 pub mod ToldCalls
 pub mod Telling

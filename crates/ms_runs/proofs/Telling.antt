@@ -1,7 +1,14 @@
 -- What is told, one for each of some items.
 use Rattle.std.proofs.Common.{◌≡◌, ◌≤◌, ◌+◌, ◌-◌, ◌++◌, ℕ, List, [], ◌∷◌, length, replicate, refl, ap, ◌∙◌, arith, append_assoc, append-nil, length-append}
 use Rattle.std.proofs.lemmas.List.{length-replicate, replicate-append-replicate}
-use Rattle.ms_runs.specs.Calls.{tell}
+use Rattle.ms_runs.specs.Calls.{tell_to, tell}
+
+module _ {B : Type 0} (one : B) where
+  pub told_count : (n : ℕ) (told : List B) → length told ≤ n → length (tell_to one n told) ≡ n
+  told_count n told le =
+      let k = n - length told in
+      let e : length (told ++ replicate k one) ≡ length told + k = length-append told (replicate k one) ∙ ap (λ (j : ℕ). length told + j) (length-replicate k one) in
+      omega (arith, e, le)
 
 module _ {A B : Type 0} (one : B) where
   pub tell_none : (items : List A) (told : List B) → length items ≤ length told → tell one items told ≡ told
@@ -16,7 +23,4 @@ module _ {A B : Type 0} (one : B) where
       append_assoc told (replicate k one) (replicate j one) ∙ ap (λ (l : List B). told ++ l) (replicate-append-replicate k j one ∙ ap (λ (i : ℕ). replicate i one) e)
 
   pub tell_count : (items : List A) (told : List B) → length told ≤ length items → length (tell one items told) ≡ length items
-  tell_count items told le =
-      let k = length items - length told in
-      let n : length (told ++ replicate k one) ≡ length told + k = length-append told (replicate k one) ∙ ap (λ (j : ℕ). length told + j) (length-replicate k one) in
-      omega (arith, n, le)
+  tell_count items told le = told_count one (length items) told le

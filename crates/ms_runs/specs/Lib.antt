@@ -18,3 +18,4 @@ pub mod LowEqual
 pub mod Faithful
 pub mod Verdict
 pub mod Calls
+pub mod Once

@@ -2,6 +2,7 @@
 -- of uninitialized memory use in C++", Stepanov and Serebryany, CGO 2015). An origin is a root's number, from 1 to the
 -- number of roots, or that of a pair of an earlier origin and the site of a store, from there on.
 use Rattle.std.specs.Prelude.{ℕ, zero, suc, ◌+◌, ◌-◌, ◌/◌, ◌%◌, ◌^◌, Bool, false, ◌&&◌, ◌||◌, not, List, [], ◌∷◌, ◌++◌, length, eqb, leb, ltb, if◌then◌else◌, Option, Some, None, option_map, slice_get}
+use Rattle.std.specs.List.{list_any}
 use Rattle.ms_runs.specs.declared.runs.Origin.{Origin}
 use Rattle.ms_runs.specs.declared.runs.Origin.TheVariants.{Root, Chain}
 use Rattle.ms_runs.specs.declared.runs.End.TheVariants as «end»
@@ -62,10 +63,20 @@ chain setting old site world =
       | None ↦ record { id = setting.roots + 1 + length world.pairs; world = record world { pairs = world.pairs ++ (old, site) ∷ [] } }
     ]
 
--- one report more; the run ends where their number reaches the limit
+-- two reports are of one use: both have its site, kind and part
+abbrev pub same_use : Report → Report → Bool
+same_use a b = eqb a.site b.site && eqb a.kind b.kind && eqb a.part b.part
+
+-- where each use is reported once, one that was reported already is not reported again; a run that ends at its first
+-- report has none before it
+abbrev pub is_hidden : Setting → Report → World → Bool
+is_hidden setting report world = ltb 1 setting.limit && setting.once && list_any (same_use report) world.reports
+
+-- one report more, unless its use is hidden; the run ends where their number reaches the limit
 abbrev pub add_report : Setting → Report → World → Effect
 add_report setting report world =
     let reported = record world { reports = world.reports ++ report ∷ [] } in
+    if is_hidden setting report world then Does world else
     if leb setting.limit (length reported.reports) then Ends «end».Reported reported else Does reported
 
 -- a check of a word: a report where its mask isn't 0

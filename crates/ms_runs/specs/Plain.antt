@@ -131,6 +131,7 @@ setting_of m setup = record {
   func = func_index m.funcs;
   fill = setup.fill;
   limit = setup.reports;
+  once = setup.once;
   roots = count_roots m;
 }
 

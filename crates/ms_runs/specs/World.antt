@@ -66,13 +66,15 @@ first_world input = record {
 }
 
 -- what stays the same in a run, and is the same for a module and its instrumented form: the named types, where each
--- global stands, the place of each function, the fill, the limit of reports and the number of roots
+-- global stands, the place of each function, the fill, the limit of reports, whether each use is reported once, and the
+-- number of roots
 pub record Setting : Type 0 where
   pub types : Types
   pub address : Name → ℕ
   pub func : Name → Option ℕ
   pub fill : List ℕ
   pub limit : ℕ
+  pub once : Bool
   pub roots : ℕ
 
 -- where an instruction stands: its site, the number of roots before it, and whether its function is `main`

@@ -1,6 +1,6 @@
 //! Equal copies of what a run is given and what it returns.
 
-use crate::runs::{Calls, End, Origin, Report, RunResult, Setup};
+use crate::runs::{BlindPlace, Calls, End, Origin, Report, RunResult, Setup};
 use ms_bits::{Duplicate, NoMemory};
 use std::alloc::Global;
 
@@ -23,7 +23,14 @@ impl Duplicate for Setup {
             fill: self.fill.copy(alloc)?,
             steps: self.steps,
             reports: self.reports,
+            once: self.once,
         })
+    }
+}
+
+impl Duplicate for BlindPlace {
+    fn copy(&self, _alloc: Global) -> Result<Self, NoMemory> {
+        Ok(*self)
     }
 }
 

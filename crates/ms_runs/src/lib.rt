@@ -7,4 +7,4 @@ pub mod runs;
 pub mod thread_safety;
 
 pub use formats::{Cut, Piece};
-pub use runs::{Calls, End, Origin, Report, RunResult, Setup};
+pub use runs::{BlindPlace, Calls, End, Origin, Report, RunResult, Setup};

@@ -15,6 +15,9 @@ pub struct Setup {
     pub steps: u64,
     /// The number of reports at which the run ends, from 1 on.
     pub reports: u32,
+    /// Whether each use is reported once: one that has the site, kind and part of an earlier report isn't reported, and
+    /// doesn't count for `reports`.
+    pub once: bool,
 }
 
 /// How a run ends.
@@ -66,6 +69,15 @@ pub struct Calls {
     pub sites: List<u32>,
     /// The site of the call that made the thread; 0 in that of `main`.
     pub started: u32,
+}
+
+/// A place where uses lost an uninitialised bit without a report.
+#[derive(Clone, Copy, Debug, PartialEq, Eq)]
+pub struct BlindPlace {
+    /// The site of the instruction.
+    pub site: u32,
+    /// How many such uses the run made there, from 1 on.
+    pub count: u64,
 }
 
 /// What a run returns.

@@ -20,7 +20,7 @@ use Rattle.ms_runs.specs.declared.runs.Origin.TheVariants.{Root, Chain}
 
 -- a fill of one byte, and a limit of five reports
 abbrev pub five_reports : Setup
-five_reports = record { fill = 165 ∷ []; input = []; steps = 100; reports = 5 }
+five_reports = record { fill = 165 ∷ []; input = []; steps = 100; reports = 5; once = false }
 
 -- the roots on a way of origins
 abbrev pub roots_on : List Origin → List ℕ

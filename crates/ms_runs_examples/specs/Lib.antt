@@ -15,3 +15,4 @@ pub mod UndefinedTexts
 pub mod RunPrograms
 pub mod CallFrames
 pub mod Carriers
+pub mod ToldPrograms

@@ -1,5 +1,5 @@
 -- The setups that example modules run with, and what their runs answer.
-use Rattle.std.specs.Prelude.{ℕ, List, [], ◌∷◌}
+use Rattle.std.specs.Prelude.{ℕ, List, [], ◌∷◌, false}
 use Rattle.ms_bits.specs.declared.traps.Trap.{Trap}
 use Rattle.ms_runs.specs.declared.runs.End.{End}
 use Rattle.ms_runs.specs.declared.runs.End.TheVariants as «end»
@@ -8,9 +8,9 @@ use Rattle.ms_runs.specs.declared.runs.Report.{Report}
 use Rattle.ms_runs.specs.declared.runs.RunResult.{RunResult}
 use Rattle.ms_runs.specs.declared.runs.Setup.{Setup}
 
--- the setup where nothing is asked for: no input, the fill a5, ten million steps and one report
+-- the setup where nothing is asked for: no input, the fill a5, ten million steps, and one report, which ends the run
 abbrev pub defaults : Setup
-defaults = record { input = []; fill = 0xa5 ∷ []; steps = 10000000; reports = 1 }
+defaults = record { input = []; fill = 0xa5 ∷ []; steps = 10000000; reports = 1; once = false }
 
 -- the same setup with another fill
 abbrev pub filled : List ℕ → Setup

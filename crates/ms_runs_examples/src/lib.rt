@@ -21,4 +21,5 @@ pub mod texts_read;
 pub mod texts_that_fit;
 pub mod texts_written;
 pub mod thread_runs;
+pub mod told_runs;
 pub mod validity;

@@ -25,7 +25,7 @@ use Rattle.ms_runs_fills_laws.specs.Alike.{StepsAlike, CountsNone}
 use Rattle.ms_runs_fills_laws.specs.Certain.{CertainFrames, CertainWorld, CertainSteps, Untold, UntoldSteps}
 use Rattle.ms_runs_fills_laws.specs.Chosen.{steps_by, chosen_step}
 use Rattle.ms_runs_fills_laws.specs.Placed.{SoundPlaced}
-use Rattle.ms_runs_fills_laws.proofs.Kept.{FirstIs}
+use Rattle.ms_runs_fills_laws.proofs.Kept.{StartsWith}
 use Rattle.ms_runs_fills_laws.proofs.Reading.{refill}
 use Rattle.ms_runs_fills_laws.proofs.FirstReport.{first_only, MovedFirst, frames_first}
 use Rattle.ms_bits.specs.Completion.{Agrees}
@@ -38,12 +38,12 @@ use Rattle.ms_runs_fills_laws.proofs.Whole.{start_alike}
 
 -- ---- nothing is told before a state where nothing is told
 
-nothing_before : (w u : World) → w.blind ≤ u.blind → ((r : Report) → FirstIs r w → FirstIs r u) → Untold u → Untold w
+nothing_before : (w u : World) → w.blind ≤ u.blind → ((l : List Report) → StartsWith l w → StartsWith l u) → Untold u → Untold w
 nothing_before w u l leads h = record { reports = by_reports w.reports refl; blind = omega (arith, l, h.blind) }
   where
     by_reports : (rs : List Report) → w.reports ≡ rs → w.reports ≡ []
     by_reports [] e = e
-    by_reports (r ∷ rest) e = let f = leads r (rest, e) in absurd (omega (arith, ap length (sym f.1 ∙ h.reports)))
+    by_reports (r ∷ rest) e = let f = leads (r ∷ []) (rest, e) in absurd (omega (arith, ap length (sym f.1 ∙ h.reports)))
 
 grown_before : (w : World) (x : Outcome Poisoned) → GrownOutcome w x → UntoldSteps (shadow_moved x) → Untold w
 grown_before w (On fs u) g h = nothing_before w u g.blind g.leads h
@@ -120,7 +120,7 @@ module _ (m : Module) (formed : Formed m) (valid : Valid m) (calm : is_threaded 
       (step_quiet (first_only (setting_of m setup)) m c (counts_none c before.blind (shadow_step by_formulas (first_only (setting_of m setup)) m c) told_one)) in
       let shown = step_mirrors by_formulas (refill (first_only (setting_of m setup)) (fills k)) m unmarked d p a.mirrors in
       subst (λ x. AlignedSteps m x (chosen_step m setup fills k p)) same
-      (subst (λ z. AlignedSteps m (shadow_step by_formulas (first_only (setting_of m setup)) m c) z) (step_free (setting_of m (refilled setup (fills k))) 1 m unmarked p)
+      (subst (λ z. AlignedSteps m (shadow_step by_formulas (first_only (setting_of m setup)) m c) z) (step_free (setting_of m (refilled setup (fills k))) 1 setup.once m unmarked p)
       (combine (shadow_step by_formulas (first_only (setting_of m setup)) m c) (shadow_step by_formulas (refill (first_only (setting_of m setup)) (fills k)) m d)
       (plain_step (refill (first_only (setting_of m setup)) (fills k)) m p) refl refl told_one alike p.world.output shown))
     where

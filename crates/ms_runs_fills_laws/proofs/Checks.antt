@@ -1,5 +1,5 @@
 -- Checks in two worlds that differ in poisoned bytes alone, where one report ends the run.
-use Rattle.std.proofs.Common.{◌≡◌, ℕ, zero, suc, ◌+◌, ◌-◌, ◌/◌, ◌<◌, List, [], ◌∷◌, ◌++◌, length, Bool, true, false, eqb, leb, Option, Some, None, refl, sym, ap, ap₂, ◌∙◌, subst, arith, length-append, if◌then◌else◌, option_map}
+use Rattle.std.proofs.Common.{◌≡◌, ℕ, zero, suc, ◌+◌, ◌-◌, ◌/◌, ◌<◌, List, [], ◌∷◌, ◌++◌, length, Bool, true, false, eqb, leb, Option, Some, None, refl, sym, ap, ap₂, ◌∙◌, subst, arith, length-append, if◌then◌else◌, option_map, true≢false}
 use Rattle.std.proofs.lemmas.Bool.{eqb-true, eqb-false, leb-false}
 use Rattle.std.proofs.lemmas.Nat.Bits.{bit_at-zero, same_from_bits_below}
 use Rattle.std.specs.Int.{bit_at}
@@ -11,13 +11,14 @@ use Rattle.ms_runs.specs.declared.runs.Report.{Report}
 use Rattle.ms_ir.specs.Layout.{width_of}
 use Rattle.ms_runs.specs.World.{World, Setting, Effect, Gives, Does, Goes, Enters, Leaves, Ends, then_does}
 use Rattle.ms_runs.specs.Memory.{is_good}
-use Rattle.ms_runs.specs.Origins.{trail, add_report, check, check_byte, check_memory, check_string, first_in_string, asks_string_at, check_format}
+use Rattle.ms_runs.specs.Origins.{trail, is_hidden, add_report, check, check_byte, check_memory, check_string, first_in_string, asks_string_at, check_format}
 use Rattle.ms_runs.specs.Memory.{bytes_left}
 use Rattle.ms_runs.specs.Formats.{asks_string}
 use Rattle.ms_runs.specs.Externals.{string_at}
 use Rattle.ms_runs.specs.Poisoned.{Poisoned}
 use Rattle.ms_runs.specs.Masks.{word_at}
 use Rattle.ms_runs.specs.Uses.{CheckedUse, Word, Bytes, Line, type_at, check_use, check_uses, Asked}
+use Rattle.ms_runs.proofs.NoneHidden.{one_hides_none}
 use Rattle.ms_runs_fills_laws.proofs.Passed.{Passed, AllPassed}
 use Rattle.ms_runs_fills_laws.proofs.Effects.{CheckedAlike, Ready}
 use Rattle.ms_runs_fills_laws.proofs.Worlds.{Unseen, other, BytesAlike}
@@ -126,14 +127,15 @@ string_unchanged w b h l g (suc n) a e = by_test (eqb (w.shadow a) 0) (eqb (w.by
 
 module _ (s : Setting) (fill : List ℕ) (one : s.limit ≡ 1) where
   reported_alike : (P : Type 0) (r : Report) (w : World) (b : Unseen) → BytesAlike w b → CheckedAlike P w (other w b) (add_report s r w) (add_report s r (other w b))
-  reported_alike P r w b h = by_test (leb s.limit (length (w.reports ++ r ∷ []))) refl
+  reported_alike P r w b h = by_test (is_hidden s r w) (leb s.limit (length (w.reports ++ r ∷ []))) (one_hides_none s r w one) refl
     where
-      by_test : (t : Bool) → leb s.limit (length (w.reports ++ r ∷ [])) ≡ t
+      by_test : (t u : Bool) → t ≡ false → leb s.limit (length (w.reports ++ r ∷ [])) ≡ u
           → CheckedAlike P w (other w b)
-          (if t then Ends «end».Reported (record w { reports = w.reports ++ r ∷ [] }) else Does (record w { reports = w.reports ++ r ∷ [] }))
-          (if t then Ends «end».Reported (record (other w b) { reports = w.reports ++ r ∷ [] }) else Does (record (other w b) { reports = w.reports ++ r ∷ [] }))
-      by_test true e = (refl, record { allocs = refl; shadow = refl; origins = refl; pairs = refl; made = refl; input = refl; output = refl; reports = refl; blind = refl; turn = refl; threads = refl; answer_masks = refl; answer_origins = refl; bytes = h.0; answers = h.1 })
-      by_test false e = absurd (omega (arith, leb-false s.limit (length (w.reports ++ r ∷ [])) e, one, length-append w.reports (r ∷ [])))
+          (if t then Does w else if u then Ends «end».Reported (record w { reports = w.reports ++ r ∷ [] }) else Does (record w { reports = w.reports ++ r ∷ [] }))
+          (if t then Does (other w b) else if u then Ends «end».Reported (record (other w b) { reports = w.reports ++ r ∷ [] }) else Does (record (other w b) { reports = w.reports ++ r ∷ [] }))
+      by_test true u f e = absurd (true≢false f)
+      by_test false true f e = (refl, record { allocs = refl; shadow = refl; origins = refl; pairs = refl; made = refl; input = refl; output = refl; reports = refl; blind = refl; turn = refl; threads = refl; answer_masks = refl; answer_origins = refl; bytes = h.0; answers = h.1 })
+      by_test false false f e = absurd (omega (arith, leb-false s.limit (length (w.reports ++ r ∷ [])) e, one, length-append w.reports (r ∷ [])))
 
   check_alike : (mask width origin kind part site : ℕ) (w : World) (b : Unseen) → BytesAlike w b
       → CheckedAlike (mask ≡ 0) w (other w b) (check s mask width origin kind part site w) (check (refill s fill) mask width origin kind part site (other w b))

@@ -1,36 +1,30 @@
 -- A shadow run that ends at its first report is the beginning of the run that goes on.
-use Rattle.std.proofs.Common.{◌≡◌, ℕ, zero, suc, ◌+◌, ◌-◌, ◌/◌, ◌≤◌, List, [], ◌∷◌, ◌++◌, map, length, leb, Bool, true, false, eqb, Option, Some, None, refl, sym, ap, ◌∙◌, subst, arith, length-append, ◌⊎◌, inl, inr, if◌then◌else◌}
+use Rattle.std.proofs.Common.{◌≡◌, ℕ, zero, suc, ◌+◌, ◌-◌, ◌/◌, ◌≤◌, List, [], ◌∷◌, ◌++◌, map, length, leb, Bool, true, false, eqb, Option, Some, None, refl, sym, ap, ◌∙◌, subst, arith, length-append, ◌⊎◌, inl, inr, if◌then◌else◌, true≢false}
 use Rattle.std.proofs.lemmas.Bool.{le-leb}
 use Rattle.ms_bits.specs.Maps.{first_nonzero}
 use Rattle.ms_ir.specs.declared.syntax.Name.{Name}
 use Rattle.ms_ir.specs.declared.syntax.Ty.{Ty}
 use Rattle.ms_ir.specs.declared.syntax.Operand.{Operand}
-use Rattle.ms_ir.specs.declared.syntax.Operand.TheVariants as operand
-use Rattle.ms_ir.specs.declared.syntax.Op.{Op}
-use Rattle.ms_ir.specs.declared.syntax.Op.TheVariants as op
 use Rattle.ms_ir.specs.declared.syntax.Inst.{Inst}
 use Rattle.ms_ir.specs.declared.syntax.Module.{Module}
 use Rattle.ms_runs.specs.declared.runs.End.TheVariants as «end»
 use Rattle.ms_runs.specs.declared.runs.Report.{Report}
-use Rattle.ms_ir.specs.declared.calls.External.{External}
-use Rattle.ms_ir.specs.declared.calls.External.TheVariants.{Malloc, Calloc, Realloc, Free, Memcpy, Memmove, Memset, Memcmp, Strlen, Putchar, Puts, Getchar, Read, Write, Exit, Abort, LlvmMemcpy, LlvmMemmove, LlvmMemset, LifetimeStart, LifetimeEnd, Printf, LlvmTrap, LlvmAssume, LlvmObjectSize, PthreadCreate, PthreadJoin, SchedYield}
-use Rattle.ms_ir.specs.declared.calls.External.TheVariants as called
 use Rattle.ms_ir.specs.Layout.{width_of}
 use Rattle.ms_runs.specs.World.{World, Setting, Here, Effect, Gives, Does, Goes, Enters, Leaves, Ends, then_does, result}
 use Rattle.ms_runs.specs.Memory.{is_good}
-use Rattle.ms_ir.specs.Instructions.{operands, count_undefs, external_named, root_at, block_index, blocks_at, insts_at}
-use Rattle.ms_runs.specs.Control.{Frame, Outcome, On, Over, here, rest_of, read_all, phis, count_phis, block_name, keeping, after_effect}
-use Rattle.ms_runs.specs.Act.{operand_word, act}
-use Rattle.ms_runs.specs.Origins.{trail, add_report, check, check_byte, first_in_string, count_blind, asks_string_at}
+use Rattle.ms_ir.specs.Instructions.{operands}
+use Rattle.ms_runs.specs.Control.{Frame, Outcome, On, Over, here, rest_of, read_all}
+use Rattle.ms_runs.specs.Origins.{trail, is_hidden, add_report, check, check_byte, first_in_string, count_blind, asks_string_at}
 use Rattle.ms_runs.specs.Memory.{bytes_left}
 use Rattle.ms_runs.specs.Plain.{Stepped, More, Stop, go_on, run}
-use Rattle.ms_runs.specs.Poisoned.{Poisoned, clean}
+use Rattle.ms_runs.specs.Poisoned.{Poisoned}
 use Rattle.ms_runs.specs.Masks.{by_formulas, union, word_at}
 use Rattle.ms_runs.specs.Uses.{CheckedUse, Word, Bytes, Line, type_at, uses, check_use, check_uses, blinded, Asked}
-use Rattle.ms_runs.specs.Shadow.{read_poisoned, shadow_reading, operand_mask, operand_origin, external_planes, callee_planes, planes, ShadowState, shadow_moved, poisoned_result, shadow_act, after_checks, shadow_inst, shadow_first, shadow_frames, shadow_step}
+use Rattle.ms_runs.specs.Shadow.{read_poisoned, ShadowState, shadow_moved, shadow_act, after_checks, shadow_inst, shadow_first, shadow_frames, shadow_step}
+use Rattle.ms_runs.proofs.NoneHidden.{none_before}
 use Rattle.ms_runs_fills_laws.specs.First.{FirstOf}
-use Rattle.ms_runs_fills_laws.proofs.Kept.{uses_kept, ChecksAfter, FirstIs, Checks}
-use Rattle.ms_runs_fills_laws.proofs.LimitFree.{act_free}
+use Rattle.ms_runs_fills_laws.proofs.Kept.{uses_kept, ChecksAfter, StartsWith, FirstIs, Checks}
+use Rattle.ms_runs_fills_laws.proofs.LimitFreeSteps.{read_free as reads_free, act_same as acts_same}
 use Rattle.ms_runs_fills_laws.proofs.Runs.{KeptOutcome, GrownOutcome, act_moves_kept, after_grown, frames_grown, run_blind}
 
 -- the world of an effect
@@ -56,7 +50,7 @@ CheckedFirst w (Does u) (Does z) = (u ≡ w) × (z ≡ w)
 CheckedFirst w (Ends e u) x = (e ≡ «end».Reported) × Found w u (effect_world x)
 CheckedFirst w _ _ = ⊥
 
-checks_world : (z : World) (x : Effect) → ChecksAfter z x → Checks z (effect_world x)
+pub checks_world : (z : World) (x : Effect) → ChecksAfter z x → Checks z (effect_world x)
 checks_world z (Gives v u) h = h
 checks_world z (Does u) h = h
 checks_world z (Goes v u) h = h
@@ -65,7 +59,7 @@ checks_world z (Leaves u) h = h
 checks_world z (Ends v u) h = h
 
 further : (w u z v : World) → Found w u z → Checks z v → Found w u v
-further w u z v f c = record { report = f.report; alone = f.alone; blind = f.blind; leads = c.leads f.report f.leads; more = omega (arith, f.more, c.blind) }
+further w u z v f c = record { report = f.report; alone = f.alone; blind = f.blind; leads = c.leads (f.report ∷ []) f.leads; more = omega (arith, f.more, c.blind) }
 
 then_first : (w : World) (e x : Effect) (go one : World → Effect) → CheckedFirst w e x → CheckedFirst w (one w) (go w) → ((z : World) → ChecksAfter z (go z)) → CheckedFirst w (then_does e one) (then_does x go)
 then_first w (Does u) (Does z) go one h f keep = subst (λ k. CheckedFirst w (one k) (go z)) (sym h.0) (subst (λ k. CheckedFirst w (one w) (go k)) (sym h.1) f)
@@ -94,18 +88,19 @@ module _ (s : Setting) where
 
   module _ (w : World) (none : w.reports ≡ []) where
     report_first : (r : Report) → CheckedFirst w (add_report first_only r w) (add_report s r w)
-    report_first r = by_test (leb 1 (length (w.reports ++ r ∷ []))) (leb s.limit (length (w.reports ++ r ∷ []))) (le-leb 1 (length (w.reports ++ r ∷ [])) (omega (arith, length-append w.reports (r ∷ []))))
+    report_first r = by_test (is_hidden s r w) (leb 1 (length (w.reports ++ r ∷ []))) (leb s.limit (length (w.reports ++ r ∷ []))) (none_before s r w none) (le-leb 1 (length (w.reports ++ r ∷ [])) (omega (arith, length-append w.reports (r ∷ []))))
       where
         found : Found w (record w { reports = w.reports ++ r ∷ [] }) (record w { reports = w.reports ++ r ∷ [] })
         found = record { report = r; alone = ap (λ l. l ++ r ∷ []) none; blind = refl; leads = ([], ap (λ l. l ++ r ∷ []) none); more = omega arith }
 
-        by_test : (t u : Bool) → t ≡ true
+        by_test : (h t u : Bool) → h ≡ false → t ≡ true
             → CheckedFirst w
             (if t then Ends «end».Reported (record w { reports = w.reports ++ r ∷ [] }) else Does (record w { reports = w.reports ++ r ∷ [] }))
-            (if u then Ends «end».Reported (record w { reports = w.reports ++ r ∷ [] }) else Does (record w { reports = w.reports ++ r ∷ [] }))
-        by_test true true e = (refl, found)
-        by_test true false e = (refl, found)
-        by_test false u e = grind arith
+            (if h then Does w else if u then Ends «end».Reported (record w { reports = w.reports ++ r ∷ [] }) else Does (record w { reports = w.reports ++ r ∷ [] }))
+        by_test false true true f e = (refl, found)
+        by_test false true false f e = (refl, found)
+        by_test false false u f e = grind arith
+        by_test true t u f e = absurd (true≢false f)
 
     check_first : (mask width origin kind part site : ℕ) → CheckedFirst w (check first_only mask width origin kind part site w) (check s mask width origin kind part site w)
     check_first mask width origin kind part site = by_test (eqb mask 0)
@@ -141,83 +136,12 @@ module _ (s : Setting) where
 
   -- ---- instructions don't look at the limit
 
-  external_planes_free : (site root : ℕ) (e : External) (ps : List Poisoned) (before : World) (v : ℕ) (w : World) → external_planes first_only site root e ps before v w ≡ external_planes s site root e ps before v w
-  external_planes_free site root Malloc ps before v w = refl
-  external_planes_free site root Calloc ps before v w = refl
-  external_planes_free site root Realloc ps before v w = refl
-  external_planes_free site root Free ps before v w = refl
-  external_planes_free site root Memcpy ps before v w = refl
-  external_planes_free site root Memmove ps before v w = refl
-  external_planes_free site root Memset ps before v w = refl
-  external_planes_free site root Memcmp ps before v w = refl
-  external_planes_free site root Strlen ps before v w = refl
-  external_planes_free site root Putchar ps before v w = refl
-  external_planes_free site root Puts ps before v w = refl
-  external_planes_free site root Getchar ps before v w = refl
-  external_planes_free site root Read ps before v w = refl
-  external_planes_free site root Write ps before v w = refl
-  external_planes_free site root Exit ps before v w = refl
-  external_planes_free site root Abort ps before v w = refl
-  external_planes_free site root LlvmMemcpy ps before v w = refl
-  external_planes_free site root LlvmMemmove ps before v w = refl
-  external_planes_free site root LlvmMemset ps before v w = refl
-  external_planes_free site root LifetimeStart ps before v w = refl
-  external_planes_free site root LifetimeEnd ps before v w = refl
-  external_planes_free site root LlvmTrap ps before v w = refl
-  external_planes_free site root LlvmAssume ps before v w = refl
-  external_planes_free site root LlvmObjectSize ps before v w = refl
-  external_planes_free site root PthreadCreate ps before v w = refl
-  external_planes_free site root PthreadJoin ps before v w = refl
-  external_planes_free site root SchedYield ps before v w = refl
-  external_planes_free site root Printf ps before v w = refl
-  external_planes_free site root (called.Word f n) ps before v w = refl
-
-  callee_planes_free : (site root : ℕ) (o : Option External) (ps : List Poisoned) (before : World) (v : ℕ) (w : World) → callee_planes first_only site root o ps before v w ≡ callee_planes s site root o ps before v w
-  callee_planes_free site root None ps before v w = refl
-  callee_planes_free site root (Some e) ps before v w = external_planes_free site root e ps before v w
-
-  planes_free : (site root : ℕ) (o : Op) (ps : List Poisoned) (before : World) (v : ℕ) (w : World) → planes first_only site root o ps before v w ≡ planes s site root o ps before v w
-  planes_free site root (op.Alloca t u c) ps before v w = refl
-  planes_free site root (op.Store t x a) ps before v w = refl
-  planes_free site root (op.Call r x args) ps before v w = callee_planes_free site root (external_named s.func x) ps before v w
-  planes_free site root _ ps before v w = refl
-
-  word_free : (values : Name → ℕ) (w : ℕ) (o : Operand) → operand_word first_only values w o ≡ operand_word s values w o
-  word_free values w (operand.Int n) = refl
-  word_free values w operand.Null = refl
-  word_free values w operand.Undef = refl
-  word_free values w operand.Poison = refl
-  word_free values w (operand.Local x) = refl
-  word_free values w (operand.Global x) = refl
-  word_free values w (operand.Offset x steps) = refl
-
   pub read_free : (values : Name → Poisoned) → read_poisoned first_only values ≡ read_poisoned s values
-  read_free values = λ i root t o. record { value = word_free (λ x. (values x).value) (width_of t) o i; mask = operand_mask values (width_of t) o; origin = operand_origin values root o }
+  read_free values = reads_free s 1 s.once values
 
   module _ (m : Module) where
-    moves_free : (site : ℕ) (x : Option Name) (ps : List Poisoned) (lift : ℕ → World → Poisoned) (after : ℕ → World → World) (fr : Frame Poisoned) (below : List (Frame Poisoned)) (e : Effect)
-        → after_effect shadow_reading first_only m site x ps lift after fr below e ≡ after_effect shadow_reading s m site x ps lift after fr below e
-    moves_free site x ps lift after fr below (Gives v w) = refl
-    moves_free site x ps lift after fr below (Does w) = refl
-    moves_free site x ps lift after fr below (Goes to w) =
-        ap (λ read. On (record fr {
-          block = block_index (blocks_at m fr.func) to;
-          place = count_phis (insts_at m fr.func (block_index (blocks_at m fr.func) to));
-          values =
-              phis read clean s.func (block_name m fr.func fr.block) (insts_at m fr.func (block_index (blocks_at m fr.func) to))
-              (root_at s.func m fr.func (block_index (blocks_at m fr.func) to) 0) fr.values;
-        } ∷ below) w) (read_free fr.values)
-    moves_free site x ps lift after fr below (Enters f w) = refl
-    moves_free site x ps lift after fr below (Leaves w) = refl
-    moves_free site x ps lift after fr below (Ends e w) = refl
-
     pub act_same : (i : Inst) (h : Here) (ps : List Poisoned) (fr : Frame Poisoned) (below : List (Frame Poisoned)) (w : World) → shadow_act by_formulas first_only m i h ps fr below w ≡ shadow_act by_formulas s m i h ps fr below w
-    act_same i h ps fr below w =
-        ap (λ after. after_effect shadow_reading first_only m h.site i.result ps (poisoned_result by_formulas i.op ps) after (keeping i.op (act first_only h i.op (map (λ p. p.value) ps) w) fr) below (act first_only h i.op (map (λ p. p.value) ps) w))
-        (λ j v u. planes_free h.site (h.root + count_undefs (operands i.op) + 1) i.op ps w v u j)
-        ∙ ap (λ e. after_effect shadow_reading first_only m h.site i.result ps (poisoned_result by_formulas i.op ps) (planes s h.site (h.root + count_undefs (operands i.op) + 1) i.op ps w) (keeping i.op e fr) below e)
-        (act_free s 1 h i.op (map (λ p. p.value) ps) w)
-        ∙ moves_free h.site i.result ps (poisoned_result by_formulas i.op ps) (planes s h.site (h.root + count_undefs (operands i.op) + 1) i.op ps w) (keeping i.op (act s h i.op (map (λ p. p.value) ps) w) fr) below (act s h i.op (map (λ p. p.value) ps) w)
+    act_same i h ps fr below w = acts_same s 1 s.once m i h ps fr below w
 
     -- the world of an outcome
     abbrev pub outcome_world : Outcome Poisoned → World
@@ -228,11 +152,11 @@ module _ (s : Setting) where
     abbrev pub MovedFirst : World → Outcome Poisoned → Outcome Poisoned → Type 0
     MovedFirst w x y = ((x ≡ y) × ((outcome_world y).reports ≡ [])) ⊎ ((u : World) × (x ≡ Over «end».Reported u) × Found w u (outcome_world y))
 
-    kept_reports : (w : World) (x : Outcome Poisoned) → KeptOutcome w x → (outcome_world x).reports ≡ w.reports
+    pub kept_reports : (w : World) (x : Outcome Poisoned) → KeptOutcome w x → (outcome_world x).reports ≡ w.reports
     kept_reports w (On fs u) h = h.reports
     kept_reports w (Over e u) h = h.reports
 
-    count_reports : (k : ℕ) (w : World) → (count_blind k w).reports ≡ w.reports
+    pub count_reports : (k : ℕ) (w : World) → (count_blind k w).reports ≡ w.reports
     count_reports k w = by_test (eqb k 0)
       where
         by_test : (t : Bool) → (if t then w else record w { blind = w.blind + 1 }).reports ≡ w.reports
@@ -240,13 +164,13 @@ module _ (s : Setting) where
         by_test false = refl
 
     grown_found : (w u z : World) (x : Outcome Poisoned) → Found w u z → GrownOutcome z x → Found w u (outcome_world x)
-    grown_found w u z (On fs v) f g = record { report = f.report; alone = f.alone; blind = f.blind; leads = g.leads f.report f.leads; more = omega (arith, f.more, g.blind) }
-    grown_found w u z (Over e v) f g = record { report = f.report; alone = f.alone; blind = f.blind; leads = g.leads f.report f.leads; more = omega (arith, f.more, g.blind) }
+    grown_found w u z (On fs v) f g = record { report = f.report; alone = f.alone; blind = f.blind; leads = g.leads (f.report ∷ []) f.leads; more = omega (arith, f.more, g.blind) }
+    grown_found w u z (Over e v) f g = record { report = f.report; alone = f.alone; blind = f.blind; leads = g.leads (f.report ∷ []) f.leads; more = omega (arith, f.more, g.blind) }
 
     unchanged : (w : World) → Checks w w
     unchanged w = record { blind = refl; leads = λ r h. h; placed = λ h. h }
 
-    by_itself : (x : Effect) → ChecksAfter (effect_world x) x
+    pub by_itself : (x : Effect) → ChecksAfter (effect_world x) x
     by_itself (Gives v w) = unchanged w
     by_itself (Does w) = unchanged w
     by_itself (Goes to w) = unchanged w
@@ -291,25 +215,25 @@ module _ (s : Setting) where
     -- ---- runs
 
     -- the world that a step leads to
-    abbrev stepped_world : Stepped ShadowState → World
+    abbrev pub stepped_world : Stepped ShadowState → World
     stepped_world (More c) = c.world
     stepped_world (Stop e w) = w
 
-    grown_leads : (r : Report) (w : World) (x : Outcome Poisoned) → GrownOutcome w x → FirstIs r w → FirstIs r (stepped_world (shadow_moved x))
-    grown_leads r w (On fs u) g h = g.leads r h
-    grown_leads r w (Over e u) g h = g.leads r h
+    pub grown_leads : (l : List Report) (w : World) (x : Outcome Poisoned) → GrownOutcome w x → StartsWith l w → StartsWith l (stepped_world (shadow_moved x))
+    grown_leads l w (On fs u) g h = g.leads l h
+    grown_leads l w (Over e u) g h = g.leads l h
 
-    run_leads : (r : Report) (n : ℕ) (x : Stepped ShadowState) → FirstIs r (stepped_world x) → (rest : List Report) × ((go_on (run (λ c. c.world) (shadow_step by_formulas s m) n) x).reports ≡ r ∷ rest)
-    run_leads r n (Stop e w) h = h
-    run_leads r zero (More c) h = h
-    run_leads r (suc n) (More c) h = run_leads r n (shadow_step by_formulas s m c) (grown_leads r c.world (shadow_frames by_formulas s m c.frames c.world) (frames_grown s m c.frames c.world) h)
+    pub run_leads : (l : List Report) (n : ℕ) (x : Stepped ShadowState) → StartsWith l (stepped_world x) → (rest : List Report) × ((go_on (run (λ c. c.world) (shadow_step by_formulas s m) n) x).reports ≡ l ++ rest)
+    run_leads l n (Stop e w) h = h
+    run_leads l zero (More c) h = h
+    run_leads l (suc n) (More c) h = run_leads l n (shadow_step by_formulas s m c) (grown_leads l c.world (shadow_frames by_formulas s m c.frames c.world) (frames_grown s m c.frames c.world) h)
 
     run_from : (n : ℕ) (w u : World) (x : Outcome Poisoned) → Found w u (outcome_world x) → FirstOf (result «end».Reported u) (go_on (run (λ c. c.world) (shadow_step by_formulas s m) n) (shadow_moved x))
     run_from n w u (On fs z) f = inr (record {
       report = f.report;
-      rest = (run_leads f.report n (More (record { frames = fs; world = z })) f.leads).0;
+      rest = (run_leads (f.report ∷ []) n (More (record { frames = fs; world = z })) f.leads).0;
       one = f.alone;
-      more = (run_leads f.report n (More (record { frames = fs; world = z })) f.leads).1;
+      more = (run_leads (f.report ∷ []) n (More (record { frames = fs; world = z })) f.leads).1;
       blind = omega (arith, f.blind, f.more, run_blind s m n (More (record { frames = fs; world = z })));
       ends = refl;
     })

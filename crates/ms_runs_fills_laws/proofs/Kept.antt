@@ -1,5 +1,5 @@
 -- What instructions leave of a world: the number of blind uses, and heap blocks in their places.
-use Rattle.std.proofs.Common.{◌≡◌, ℕ, zero, suc, ◌+◌, ◌-◌, ◌*◌, ◌/◌, ◌%◌, ◌^◌, ◌≤◌, min, List, [], ◌∷◌, ◌++◌, map, filter, length, get_or, All, Bool, true, false, not, ◌&&◌, ◌||◌, eqb, leb, ltb, Option, Some, None, unwrap_or, is_some, Result, Ok, Err, refl, sym, ap, ◌∙◌, subst, arith, if◌then◌else◌}
+use Rattle.std.proofs.Common.{◌≡◌, ℕ, zero, suc, ◌+◌, ◌-◌, ◌*◌, ◌/◌, ◌%◌, ◌^◌, ◌≤◌, min, List, [], ◌∷◌, ◌++◌, map, filter, length, get_or, All, Bool, true, false, not, ◌&&◌, ◌||◌, eqb, leb, ltb, Option, Some, None, unwrap_or, is_some, Result, Ok, Err, refl, sym, ap, ◌∙◌, subst, arith, append_assoc, if◌then◌else◌}
 use Rattle.std.proofs.lemmas.List.Elements.{All-push, All-map, All-filter}
 use Rattle.ms_bits.specs.declared.traps.Trap.{Trap}
 use Rattle.ms_bits.specs.declared.traps.Trap.TheVariants as trap
@@ -25,7 +25,7 @@ use Rattle.ms_ir.specs.Areas.{area_eq, area_base, room}
 use Rattle.ms_runs.specs.Memory.{used, fits, next_base, is_good, is_heap_block, heap_size, local_area, end_block, end_blocks, set_shadow, copy_bytes, copy_shadow, make, make_unset, keeps}
 use Rattle.ms_bits.specs.WordFunctions.{bits_of, word_answer}
 use Rattle.ms_ir.specs.Instructions.{external_named}
-use Rattle.ms_runs.specs.Origins.{Chained, keeps_old, pair_index, chain, add_report, check, check_byte, first_in_string, poison, unpoison, copy_planes, fill_planes, mark_cells, store_origin, asks_string_at}
+use Rattle.ms_runs.specs.Origins.{Chained, keeps_old, pair_index, chain, is_hidden, add_report, check, check_byte, first_in_string, poison, unpoison, copy_planes, fill_planes, mark_cells, store_origin, asks_string_at}
 use Rattle.ms_runs.specs.Memory.{bytes_left}
 use Rattle.ms_runs.specs.Externals.{malloc, reallocated, realloc, where_good, string_at, printed, next_byte, external, output_limit, formatted, prints}
 use Rattle.ms_runs.specs.Act.{act}
@@ -44,14 +44,18 @@ pub record Keeps (w u : World) : Type 0 where
   pub reports : u.reports ≡ w.reports
   pub placed : HeapPlaced w → HeapPlaced u
 
+-- the reports of a world begin with some
+abbrev pub StartsWith : List Report → World → Type 0
+StartsWith l w = (rest : List Report) × (w.reports ≡ l ++ rest)
+
 -- the first report of a world
 abbrev pub FirstIs : Report → World → Type 0
-FirstIs r w = (rest : List Report) × (w.reports ≡ r ∷ rest)
+FirstIs r w = StartsWith (r ∷ []) w
 
 -- what checks leave of a world: the number of blind uses, the first report, and heap blocks in their places
 pub record Checks (w u : World) : Type 0 where
   pub blind : u.blind ≡ w.blind
-  pub leads : (r : Report) → FirstIs r w → FirstIs r u
+  pub leads : (l : List Report) → StartsWith l w → StartsWith l u
   pub placed : HeapPlaced w → HeapPlaced u
 
 -- what an instruction leaves of the world of its effect
@@ -319,17 +323,17 @@ unchecked : (w : World) → Checks w w
 unchecked w = record { blind = refl; leads = λ r h. h; placed = λ h. h }
 
 one_more : (r : Report) (w : World) → Checks w (record w { reports = w.reports ++ r ∷ [] })
-one_more r w = record { blind = refl; leads = λ q h. (h.0 ++ r ∷ [], ap (λ l. l ++ r ∷ []) h.1); placed = λ h. h }
+one_more r w = record { blind = refl; leads = λ l h. (h.0 ++ r ∷ [], ap (λ k. k ++ r ∷ []) h.1 ∙ append_assoc l h.0 (r ∷ [])); placed = λ h. h }
 
 then_checked : (w u v : World) → Checks w u → Checks u v → Checks w v
-then_checked w u v h g = record { blind = g.blind ∙ h.blind; leads = λ r k. g.leads r (h.leads r k); placed = λ k. g.placed (h.placed k) }
+then_checked w u v h g = record { blind = g.blind ∙ h.blind; leads = λ l k. g.leads l (h.leads l k); placed = λ k. g.placed (h.placed k) }
 
 either_checked : (t : Bool) (w : World) (e x : Effect) → ChecksAfter w e → ChecksAfter w x → ChecksAfter w (if t then e else x)
 either_checked true w e x h g = h
 either_checked false w e x h g = g
 
 report_kept : (s : Setting) (r : Report) (w : World) → ChecksAfter w (add_report s r w)
-report_kept s r w = either_checked (leb s.limit (length (w.reports ++ r ∷ []))) w _ _ (one_more r w) (one_more r w)
+report_kept s r w = either_checked (is_hidden s r w) w _ _ (unchecked w) (either_checked (leb s.limit (length (w.reports ++ r ∷ []))) w _ _ (one_more r w) (one_more r w))
 
 check_kept : (s : Setting) (mask width origin kind part site : ℕ) (w : World) → ChecksAfter w (check s mask width origin kind part site w)
 check_kept s mask width origin kind part site w = either_checked (eqb mask 0) w _ _ (unchecked w) (report_kept s _ w)

@@ -13,6 +13,7 @@ pub mod FirstReport
 pub mod Formats
 pub mod Kept
 pub mod LimitFree
+pub mod LimitFreeSteps
 pub mod Moves
 pub mod Ops
 pub mod Passed
@@ -24,5 +25,8 @@ pub mod Sure
 pub mod Whole
 pub mod SameCalls
 pub mod OneEach
+pub mod Retold
+pub mod Firsts
+pub mod FirstOfEach
 pub mod Words
 pub mod Worlds

@@ -1,4 +1,5 @@
--- The plain run of a module without marked instructions doesn't depend on the limit of reports.
+-- Instructions don't look at the limit of reports, nor whether each use is reported once; so the plain run of a module
+-- without marked instructions depends on neither.
 use Rattle.std.proofs.Common.{◌≡◌, ℕ, List, [], ◌∷◌, Bool, false, Option, Some, None, refl, sym, ap, ◌∙◌, if◌then◌else◌, map}
 use Rattle.ms_ir.specs.declared.syntax.Ty.{Ty}
 use Rattle.ms_ir.specs.declared.syntax.Name.{Name}
@@ -20,10 +21,10 @@ use Rattle.ms_runs.specs.Control.{Frame, On, here, rest_of, read_all, phis, coun
 use Rattle.ms_runs.specs.Plain.{act_marked, slots_after, PlainState, Stepped, More, and_then, plain_state, plain_inst, through, plain_first, plain_step, run, setting_of, start_world, start_frame, plain}
 use Rattle.ms_ir.specs.Instructions.{HeadUnmarked, NoMarks}
 
-module _ (s : Setting) (k : ℕ) where
-  -- the setting with another limit of reports
-  abbrev relimited : Setting
-  relimited = record s { limit = k }
+module _ (s : Setting) (k : ℕ) (each : Bool) where
+  -- the setting with another limit of reports, and each use reported once or not
+  abbrev pub relimited : Setting
+  relimited = record s { limit = k; once = each }
 
   external_free : (site : ℕ) (e : External) (ts : List Ty) (vs : List ℕ) (w : World) → external relimited site e ts vs w ≡ external s site e ts vs w
   external_free site Malloc ts vs w = refl
@@ -158,4 +159,4 @@ module _ (s : Setting) (k : ℕ) where
 pub plain_free : (m : Module) → NoMarks m → (setup : Setup) (k : ℕ) → plain m (record setup { reports = k }) ≡ plain m setup
 plain_free m bare setup k =
     ap (λ step. run (λ c. c.world) step setup.steps (record { frames = start_frame plain_reading m ∷ []; slots = λ a. 0; world = start_world m setup }))
-    (λ i c. step_free (setting_of m setup) k m bare c i)
+    (λ i c. step_free (setting_of m setup) k setup.once m bare c i)

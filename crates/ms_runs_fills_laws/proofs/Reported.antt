@@ -16,7 +16,7 @@ use Rattle.ms_ir.specs.Layout.{width_of}
 use Rattle.ms_runs.specs.World.{World, Setting, Here, Effect, Gives, Does, Goes, Enters, Leaves, Ends, then_does}
 use Rattle.ms_runs.specs.Memory.{is_good}
 use Rattle.ms_ir.specs.Instructions.{operands, count_undefs}
-use Rattle.ms_runs.specs.Origins.{add_report, check, check_byte, first_in_string, count_blind, asks_string_at}
+use Rattle.ms_runs.specs.Origins.{is_hidden, add_report, check, check_byte, first_in_string, count_blind, asks_string_at}
 use Rattle.ms_runs.specs.Memory.{bytes_left}
 use Rattle.ms_runs.specs.Act.{act}
 use Rattle.ms_runs.specs.Control.{Frame, Outcome, On, Over, here, rest_of, read_all, entered, left, keeping, after_effect, frame_limit}
@@ -59,7 +59,8 @@ act_told s h o vs w = told (act s h o vs w) (act_unreported s h o vs w)
 -- ---- checks end with a report
 
 reported_told : (s : Setting) (r : Report) (w : World) → ToldAfter (add_report s r w)
-reported_told s r w = either_told (leb s.limit (length (w.reports ++ r ∷ []))) _ _ (λ e z. omega (arith, ap length z, length-append w.reports (r ∷ []))) tt
+reported_told s r w =
+    either_told (is_hidden s r w) _ _ tt (either_told (leb s.limit (length (w.reports ++ r ∷ []))) _ _ (λ e z. omega (arith, ap length z, length-append w.reports (r ∷ []))) tt)
 
 check_told : (s : Setting) (mask width origin kind part site : ℕ) (w : World) → ToldAfter (check s mask width origin kind part site w)
 check_told s mask width origin kind part site w = either_told (eqb mask 0) _ _ tt (reported_told s _ w)

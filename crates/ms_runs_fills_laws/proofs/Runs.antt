@@ -23,7 +23,7 @@ use Rattle.ms_runs.specs.declared.runs.Report.{Report}
 use Rattle.ms_runs_fills_laws.specs.Placed.{HeapPlaced}
 use Rattle.ms_runs_fills_laws.proofs.Reading.{refill}
 use Rattle.ms_runs_fills_laws.proofs.Worlds.{FitWorld}
-use Rattle.ms_runs_fills_laws.proofs.Kept.{then_kept, given_back_kept, act_kept, planes_kept, uses_kept, KeepsAfter, ChecksAfter, Keeps, FirstIs, Checks}
+use Rattle.ms_runs_fills_laws.proofs.Kept.{then_kept, given_back_kept, act_kept, planes_kept, uses_kept, KeepsAfter, ChecksAfter, Keeps, StartsWith, Checks}
 use Rattle.ms_runs_fills_laws.proofs.Steps.{QuietAt, DueQuiet, TopQuiet, TopStands, step_alike}
 
 -- ---- what a step leaves
@@ -31,7 +31,7 @@ use Rattle.ms_runs_fills_laws.proofs.Steps.{QuietAt, DueQuiet, TopQuiet, TopStan
 -- the number of blind uses doesn't fall, and heap blocks stay in their places
 pub record Grows (w u : World) : Type 0 where
   pub blind : w.blind ≤ u.blind
-  pub leads : (r : Report) → FirstIs r w → FirstIs r u
+  pub leads : (l : List Report) → StartsWith l w → StartsWith l u
   pub placed : HeapPlaced w → HeapPlaced u
 
 -- an outcome keeps what instructions keep
@@ -49,12 +49,12 @@ abbrev pub outcome_blind : Outcome Poisoned → ℕ
 outcome_blind (On fs u) = u.blind
 outcome_blind (Over e u) = u.blind
 
-still : (r : Report) (u z : World) → z.reports ≡ u.reports → FirstIs r u → FirstIs r z
-still r u z e h = (h.0, e ∙ h.1)
+still : (l : List Report) (u z : World) → z.reports ≡ u.reports → StartsWith l u → StartsWith l z
+still l u z e h = (h.0, e ∙ h.1)
 
 grown : (w u : World) (x : Outcome Poisoned) → Grows w u → KeptOutcome u x → GrownOutcome w x
-grown w u (On fs z) h g = record { blind = omega (arith, h.blind, g.blind); leads = λ r k. still r u z g.reports (h.leads r k); placed = λ k. g.placed (h.placed k) }
-grown w u (Over e z) h g = record { blind = omega (arith, h.blind, g.blind); leads = λ r k. still r u z g.reports (h.leads r k); placed = λ k. g.placed (h.placed k) }
+grown w u (On fs z) h g = record { blind = omega (arith, h.blind, g.blind); leads = λ l k. still l u z g.reports (h.leads l k); placed = λ k. g.placed (h.placed k) }
+grown w u (Over e z) h g = record { blind = omega (arith, h.blind, g.blind); leads = λ l k. still l u z g.reports (h.leads l k); placed = λ k. g.placed (h.placed k) }
 
 kept_blind : (w : World) (x : Outcome Poisoned) → KeptOutcome w x → outcome_blind x ≡ w.blind
 kept_blind w (On fs z) g = g.blind
@@ -89,7 +89,7 @@ module _ (s : Setting) (m : Module) where
     where
       by_test : (t : Bool) → Grows w (if t then u else record u { blind = u.blind + 1 })
       by_test true = record { blind = omega (arith, h.blind); leads = h.leads; placed = h.placed }
-      by_test false = record { blind = omega (arith, h.blind); leads = λ r k. h.leads r k; placed = λ k. h.placed k }
+      by_test false = record { blind = omega (arith, h.blind); leads = λ l k. h.leads l k; placed = λ k. h.placed k }
 
   pub after_grown : (i : Inst) (h : Here) (ps : List Poisoned) (fr : Frame Poisoned) (below : List (Frame Poisoned)) (w : World) (e : Effect) → ChecksAfter w e → GrownOutcome w (after_checks by_formulas s m i h ps fr below e)
   after_grown i h ps fr below w (Does u) k =
@@ -101,13 +101,13 @@ module _ (s : Setting) (m : Module) where
   after_grown i h ps fr below w (Leaves u) k = record { blind = omega (arith, k.blind); leads = k.leads; placed = k.placed }
 
   first_grown : (is : List Inst) (fr : Frame Poisoned) (below : List (Frame Poisoned)) (w : World) → GrownOutcome w (shadow_first by_formulas s m is fr below w)
-  first_grown [] fr below w = record { blind = omega arith; leads = λ r k. k; placed = λ k. k }
+  first_grown [] fr below w = record { blind = omega arith; leads = λ l k. k; placed = λ k. k }
   first_grown (i ∷ is) fr below w =
       after_grown i (here s m fr) (read_all (read_poisoned s fr.values) (operands i.op) (here s m fr).root) fr below w _
       (uses_kept s (here s m fr).site (operands i.op) (read_all (read_poisoned s fr.values) (operands i.op) (here s m fr).root) (uses s.func (here s m fr).main i.op) w)
 
   pub frames_grown : (fs : List (Frame Poisoned)) (w : World) → GrownOutcome w (shadow_frames by_formulas s m fs w)
-  frames_grown [] w = record { blind = omega arith; leads = λ r k. k; placed = λ k. k }
+  frames_grown [] w = record { blind = omega arith; leads = λ l k. k; placed = λ k. k }
   frames_grown (fr ∷ below) w = first_grown (rest_of m fr) fr below w
 
   -- ---- no blind use at all

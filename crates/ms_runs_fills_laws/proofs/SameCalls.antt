@@ -18,8 +18,8 @@ use Rattle.ms_runs.specs.Poisoned.{Poisoned}
 use Rattle.ms_runs.specs.Masks.{by_formulas}
 use Rattle.ms_runs.specs.Shadow.{ShadowState, shadow_moved, shadow_frames, shadow_step, shadow_start, shadow, shadow_by}
 use Rattle.ms_runs.specs.LowEqual.{LowFrames, LowEqual}
-use Rattle.ms_runs.specs.Calls.{call_sites, main_calls, tell, told_after, told_in, shadow_calls, shadow_calls_by}
-use Rattle.ms_runs.proofs.ToldCalls.{BothTell, Tells, told_alike}
+use Rattle.ms_runs.specs.Calls.{call_sites, main_calls, reports_made, tell, told_after, told_in, shadow_calls, shadow_calls_by}
+use Rattle.ms_runs.proofs.ToldCalls.{BothSay, said_alike}
 use Rattle.ms_runs_laws.proofs.ExactRules.{computed}
 use Rattle.ms_runs_laws.proofs.SameCalls.{computed_calls}
 use Rattle.ms_check_valid.specs.Formed.{Formed}
@@ -65,7 +65,7 @@ module _ (Good : ShadowState → Type 0) (s : Setting) (fill : List ℕ) (one : 
   none c n (More x) g l e = omega (arith, g, l, e)
   none c n (Stop x w) g l e = omega (arith, g, l, e)
 
-  low_tells : (n : ℕ) (c d : ShadowState) → LowBoth (suc n) c d → BothTell (LowBoth n) (shadow_step by_formulas s m c) (shadow_step by_formulas (refill s fill) m d)
+  low_tells : (n : ℕ) (c d : ShadowState) → LowBoth (suc n) c d → BothSay reports_made (LowBoth n) (shadow_step by_formulas s m c) (shadow_step by_formulas (refill s fill) m d)
   low_tells n c d r =
       by_steps (shadow_step by_formulas s m c) (shadow_step by_formulas (refill s fill) m d) refl refl
       (step_alike s fill one m c d r.2 (sure.stands c r.0) (sure.fit c r.0) (sure.fit d r.1).bytes
@@ -73,9 +73,9 @@ module _ (Good : ShadowState → Type 0) (s : Setting) (fill : List ℕ) (one : 
       r.3
     where
       by_steps : (x y : Stepped ShadowState) → shadow_step by_formulas s m c ≡ x → shadow_step by_formulas (refill s fill) m d ≡ y → StepsAlike x y
-          → (go_on (run (λ (c : ShadowState). c.world) (shadow_step by_formulas s m) n) x).blind ≡ 0 → BothTell (LowBoth n) x y
+          → (go_on (run (λ (c : ShadowState). c.world) (shadow_step by_formulas s m) n) x).blind ≡ 0 → BothSay reports_made (LowBoth n) x y
       by_steps (More c') (More d') e f a q = (kept.more c c' r.0 e, kept_too.more d d' r.1 f, a, q)
-      by_steps (Stop x w) (Stop y v) e f a q = a.1.reports
+      by_steps (Stop x w) (Stop y v) e f a q = ap length a.1.reports
       by_steps (More c') (Stop y v) e f a q = absurd a
       by_steps (Stop x w) (More d') e f a q = absurd a
 
@@ -83,11 +83,11 @@ module _ (Good : ShadowState → Type 0) (s : Setting) (fill : List ℕ) (one : 
       → told_in (λ (c : ShadowState). c.world) (λ (c : ShadowState). main_calls m c.frames) (shadow_step by_formulas s m) n c told
       ≡ told_in (λ (c : ShadowState). c.world) (λ (c : ShadowState). main_calls m c.frames) (shadow_step by_formulas (refill s fill) m) n d told
   calls_alike n c d g k h z told =
-      told_alike (λ (c : ShadowState). c.world) (λ (c : ShadowState). main_calls m c.frames) (shadow_step by_formulas s m)
+      said_alike reports_made (λ (c : ShadowState). c.world) (λ (c : ShadowState). main_calls m c.frames) (shadow_step by_formulas s m)
       (λ (c : ShadowState). c.world) (λ (c : ShadowState). main_calls m c.frames) (shadow_step by_formulas (refill s fill) m) LowBoth
       (record {
-        says = λ n c d r. ap (λ (l : List ℕ). let x : Calls = record { sites = l; started = 0 } in x) (low_calls m c.frames d.frames r.2.frames);
-        reports = λ n c d r. r.2.world.reports;
+        same = λ n c d r. ap (λ (l : List ℕ). let x : Calls = record { sites = l; started = 0 } in x) (low_calls m c.frames d.frames r.2.frames);
+        counts = λ n c d r. ap length r.2.world.reports;
         steps = low_tells;
       })
       n c d (g, k, h, z) told

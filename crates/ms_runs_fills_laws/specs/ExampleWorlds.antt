@@ -1,5 +1,5 @@
 -- Worlds that no run reaches, in which a step under two fills would not lead to low equal states (own).
-use Rattle.std.specs.Prelude.{ℕ, true, List, [], ◌∷◌, None}
+use Rattle.std.specs.Prelude.{ℕ, true, List, [], ◌∷◌, None, false}
 use Rattle.ms_ir.specs.declared.calls.External.TheVariants.{Realloc}
 use Rattle.ms_ir.specs.Areas.{Heap}
 use Rattle.ms_runs.specs.World.{World, Setting, Effect, Gives, Does, Goes, Enters, Leaves, Ends, first_world}
@@ -13,7 +13,7 @@ block_at_zero = record (first_world []) { allocs = record { base = 0; size = 8; 
 
 -- a setting without a module
 abbrev pub bare_setting : List ℕ → Setting
-bare_setting fill = record { types = []; address = λ x. 0; func = λ x. None; fill = fill; limit = 1; roots = 1 }
+bare_setting fill = record { types = []; address = λ x. 0; func = λ x. None; fill = fill; limit = 1; once = false; roots = 1 }
 
 -- the world after an instruction with its shadow
 abbrev pub with_planes : (ℕ → World → World) → Effect → World

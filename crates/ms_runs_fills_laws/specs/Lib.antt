@@ -6,4 +6,5 @@ pub mod Checked
 pub mod Chosen
 pub mod ExampleWorlds
 pub mod First
+pub mod Once
 pub mod Placed

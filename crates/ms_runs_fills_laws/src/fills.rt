@@ -4,7 +4,8 @@ ghost use Rattle.ms_ir.specs.{ThreadCalls.{is_threaded}, declared.syntax.Module.
 ghost use Rattle.ms_runs.specs.{declared.runs.Setup.{Setup}, declared.runs.Report.{Report}, Plain.{setting_of, plain}};
 ghost use Rattle.ms_runs.specs.{Masks.{by_completions}, Shadow.{ShadowState, shadow_step, shadow}, LowEqual.{LowEqual}};
 ghost use Rattle.ms_runs.specs.{Faithful.{Fair, Faithful}, Shadow.{shadow_start}};
-ghost use Rattle.ms_runs.specs.Calls.{call_sites, plain_calls, shadow_calls, SameCalls};
+ghost use Rattle.ms_runs.specs.Calls.{call_sites, plain_calls, plain_blind, places_of, shadow_calls, shadow_blind, SameCalls};
+ghost use Rattle.ms_runs_laws.specs.Places.{uses_at};
 ghost use Rattle.ms_check_valid.specs.{Formed.{Formed}, Valid.{Valid}};
 ghost use Rattle.ms_runs_good_laws.specs.Fills.{IsFill, refilled, to_first_report, NoBlindUse, SameShown, SameUnderFills, InsertedUnderFills};
 ghost use Rattle.ms_runs_good_laws.specs.{GoodWorlds.{GivesBytes}, GoodRuns.{LeadsTo}};
@@ -59,8 +60,12 @@ pub fn first_calls()
 {}
 
 /// Each report of a plain run has its calls, and so has each report of the shadow run of a module, where a faithful form
-/// tells the same calls.
+/// tells the same calls. Each blind use of a shadow run has a site, and so has each of a faithful form that tells the same
+/// sites; so the counts of the places of blind uses sum to their number.
 pub fn one_each()
     ensures plain_runs { (m : Module) (setup : Setup) → length (plain_calls m setup) ≡ length (plain m setup).reports }
     ensures shadow_runs { (m j : Module) → Faithful m j → SameCalls m j → (setup : Setup) → Fair setup → length (shadow_calls m setup) ≡ length (shadow m setup).reports }
+    ensures shadow_blind { (m : Module) (setup : Setup) → length (shadow_blind m setup) ≡ (shadow m setup).blind }
+    ensures plain_blind { (m j : Module) → Faithful m j → SameCalls m j → (setup : Setup) → Fair setup → length (plain_blind j setup) ≡ (plain j setup).blind }
+    ensures places { (m : Module) (setup : Setup) → uses_at (places_of (shadow_blind m setup)) ≡ (shadow m setup).blind }
 {}

@@ -21,7 +21,7 @@ use Rattle.ms_runs.specs.World.{World, Setting, Effect, Gives, Does, Goes, Enter
 use Rattle.ms_runs.specs.Threads.{fibers_of, thread_at, has_ended}
 use Rattle.ms_runs.specs.Memory.{fits, is_good, heap_size, bytes_left, set_shadow, local_area}
 use Rattle.ms_runs.specs.Externals.{malloc, reallocated, where_good, string_at, printed, prints, formatted, next_byte, external}
-use Rattle.ms_runs.specs.Origins.{Chained, trail, pair_index, keeps_old, chain, add_report, check, check_byte, first_in_string, check_string, asks_string_at, count_blind, poison, unpoison, copy_planes, fill_planes, mark_cells, store_origin, thread_result}
+use Rattle.ms_runs.specs.Origins.{Chained, trail, pair_index, keeps_old, chain, is_hidden, add_report, check, check_byte, first_in_string, check_string, asks_string_at, count_blind, poison, unpoison, copy_planes, fill_planes, mark_cells, store_origin, thread_result}
 use Rattle.ms_runs.specs.Runtime.{runtime}
 use Rattle.ms_runs.specs.Act.{truth}
 use Rattle.ms_runs.specs.Plain.{act_marked, in_slots, shadow_bits}
@@ -150,7 +150,7 @@ does : (w v : World) → Same w v → Kept w (Does v)
 does w v h = record { kept = h.same }
 
 by_report : (s : Setting) (r : Report) (w : World) → Kept w (add_report s r w)
-by_report s r w = by_if w (leb s.limit (length (w.reports ++ r ∷ []))) (record { kept = refl }) (record { kept = refl })
+by_report s r w = by_if w (is_hidden s r w) (record { kept = refl }) (by_if w (leb s.limit (length (w.reports ++ r ∷ []))) (record { kept = refl }) (record { kept = refl }))
 
 by_check : (s : Setting) (mask width origin kind part site : ℕ) (w : World) → Kept w (check s mask width origin kind part site w)
 by_check s mask width origin kind part site w =

@@ -20,7 +20,7 @@ use Rattle.ms_runs.specs.World.{World, Setting, Effect, Gives, Does, Goes, Enter
 use Rattle.ms_runs.specs.Threads.{fiber_limit, thread_at, has_ended, join_answer}
 use Rattle.ms_runs.specs.Memory.{fits, is_good, heap_size, bytes_left, set_shadow, local_area}
 use Rattle.ms_runs.specs.Externals.{malloc, reallocated, where_good, string_at, printed, prints, formatted, next_byte, external}
-use Rattle.ms_runs.specs.Origins.{Chained, trail, pair_index, keeps_old, chain, add_report, check, check_byte, first_in_string, check_string, asks_string_at, count_blind, poison, unpoison, copy_planes, fill_planes, mark_cells, store_origin, thread_result}
+use Rattle.ms_runs.specs.Origins.{Chained, trail, pair_index, keeps_old, chain, is_hidden, add_report, check, check_byte, first_in_string, check_string, asks_string_at, count_blind, poison, unpoison, copy_planes, fill_planes, mark_cells, store_origin, thread_result}
 use Rattle.ms_runs.specs.Runtime.{runtime}
 use Rattle.ms_runs.specs.Act.{truth, act, plain_reading}
 use Rattle.ms_runs.specs.Plain.{PlainState, Stepped, More, Stop, act_marked, slots_after, in_slots, shadow_bits, and_then, plain_state, plain_inst, through, plain_first, plain_step, steps}
@@ -165,7 +165,9 @@ does : (w v : World) → Same w v → Kept w (Does v)
 does w v h = let e : length v.reports ≡ length w.reports = ap length h.same in record { kept = omega (arith, e) }
 
 by_report : (s : Setting) (r : Report) (w : World) → Kept w (add_report s r w)
-by_report s r w = by_if w (leb s.limit (length (w.reports ++ r ∷ []))) (record { kept = one_more r w }) (record { kept = one_more r w })
+by_report s r w =
+    by_if w (is_hidden s r w) (record { kept = itself w.reports })
+    (by_if w (leb s.limit (length (w.reports ++ r ∷ []))) (record { kept = one_more r w }) (record { kept = one_more r w }))
   where
     one_more : (r : Report) (w : World) → length w.reports ≤ length (w.reports ++ r ∷ [])
     one_more r w = omega (arith, length-append w.reports (r ∷ []))

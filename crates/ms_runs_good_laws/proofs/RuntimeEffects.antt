@@ -10,7 +10,7 @@ use Rattle.ms_ir.specs.declared.calls.RuntimeFn.{RuntimeFn}
 use Rattle.ms_ir.specs.declared.calls.RuntimeFn.TheVariants.{Check, CheckMemory, CheckString, Blind, Poison, Unpoison, Copy, Fill, StoreOrigin, LoadOrigin, Size, CheckFormat, ThreadResult, Move}
 use Rattle.ms_runs.specs.World.{World, Setting, Effect, Gives, Does, Goes, Enters, Leaves, Ends, then_does, word}
 use Rattle.ms_runs.specs.Memory.{is_good, heap_size, bytes_left}
-use Rattle.ms_runs.specs.Origins.{add_report, check, check_byte, check_memory, check_string, asks_string_at, check_format, count_blind, trail, first_in_string, origin_within, load_origin}
+use Rattle.ms_runs.specs.Origins.{is_hidden, add_report, check, check_byte, check_memory, check_string, asks_string_at, check_format, count_blind, trail, first_in_string, origin_within, load_origin}
 use Rattle.ms_runs.specs.Runtime.{runtime}
 use Rattle.ms_ir.specs.Signatures.{runtime_signature}
 use Rattle.ms_runs_good_laws.specs.GoodWorlds.{GoodWorld, FitsCell}
@@ -35,7 +35,8 @@ module _ (P : ℕ → Type 0) (setting : Setting) (w : World) (g : GoodWorld P w
   reported report =
       let next = record w { reports = w.reports ++ report ∷ [] } in
       let good = with_reports P w g (w.reports ++ report ∷ []) in
-      either (Answers (GoodWorld P) None) (leb setting.limit (length next.reports)) (Ends «end».Reported next) (Does next) good (refl, good)
+      either (Answers (GoodWorld P) None) (is_hidden setting report w) (Does w) _ (refl, g)
+      (either (Answers (GoodWorld P) None) (leb setting.limit (length next.reports)) (Ends «end».Reported next) (Does next) good (refl, good))
 
   pub check_answers : (mask width origin kind part site : ℕ) → Answers (GoodWorld P) None (check setting mask width origin kind part site w)
   check_answers mask width origin kind part site =

@@ -23,7 +23,7 @@ use Rattle.ms_ir.specs.Layout.{width_of, stored_size, size_in}
 use Rattle.ms_ir.specs.Areas.{Heap}
 use Rattle.ms_runs.specs.World.{World, Setting, Here, Effect, Gives, Does, Goes, Enters, Leaves, Ends, traps, stuck, word, gives}
 use Rattle.ms_runs.specs.Memory.{fits, next_base, local_area, is_good, heap_size, end_block, make, make_unset, copy_bytes, copy_shadow, set_shadow, store_number, bytes_left}
-use Rattle.ms_runs.specs.Origins.{trail, add_report, check, check_byte, check_memory, check_string, asks_string_at, check_format, first_in_string}
+use Rattle.ms_runs.specs.Origins.{trail, is_hidden, add_report, check, check_byte, check_memory, check_string, asks_string_at, check_format, first_in_string}
 use Rattle.ms_runs.specs.Externals.{minus_one, malloc, reallocated, realloc, free, where_good, string_at, printed, taken, next_byte, formatted, prints, external, joined}
 use Rattle.ms_runs.specs.Runtime.{runtime}
 use Rattle.ms_ir.specs.Instructions.{external_named, is_phi}
@@ -145,7 +145,7 @@ module _ (setting : Setting) (w : World) where
   reported : (report : Report) → Checks (add_report setting report w)
   reported report =
       let next = record w { reports = w.reports ++ report ∷ [] } in
-      either Checks (leb setting.limit (length next.reports)) (Ends «end».Reported next) (Does next) refl tt
+      either Checks (is_hidden setting report w) (Does w) _ tt (either Checks (leb setting.limit (length next.reports)) (Ends «end».Reported next) (Does next) refl tt)
 
   pub check_checks : (mask width origin kind part site : ℕ) → Checks (check setting mask width origin kind part site w)
   check_checks mask width origin kind part site =

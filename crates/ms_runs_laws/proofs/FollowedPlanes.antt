@@ -9,12 +9,13 @@ use Rattle.ms_runs.specs.declared.runs.End.TheVariants as «end»
 use Rattle.ms_ir.specs.declared.calls.External.{External}
 use Rattle.ms_ir.specs.declared.calls.External.TheVariants.{Malloc, Calloc, Realloc, Free, Memcpy, Memmove, Memset, Memcmp, Strlen, Putchar, Puts, Getchar, Read, Write, Exit, Abort, LlvmMemcpy, LlvmMemmove, LlvmMemset, LifetimeStart, LifetimeEnd, Printf, LlvmTrap, LlvmAssume, LlvmObjectSize, PthreadCreate, PthreadJoin, SchedYield}
 use Rattle.ms_ir.specs.declared.calls.External.TheVariants as external
+use Rattle.ms_runs.specs.declared.runs.Report.{Report}
 use Rattle.ms_runs.specs.World.{World, Setting, Effect, Gives, Does, Goes, Enters, Leaves, Ends, then_does}
 use Rattle.ms_ir.specs.Layout.{stored_size, size_in}
 use Rattle.ms_runs.specs.Memory.{is_good, heap_size, set_shadow}
 use Rattle.ms_bits.specs.Maps.{byte_of}
 use Rattle.ms_ir.specs.Instructions.{external_named}
-use Rattle.ms_runs.specs.Origins.{Chained, keeps_old, pair_index, chain, check, check_byte, asks_string_at, count_blind, poison, unpoison, copy_planes, fill_planes, mark_cells, store_origin, thread_result}
+use Rattle.ms_runs.specs.Origins.{Chained, keeps_old, pair_index, chain, is_hidden, check, check_byte, asks_string_at, count_blind, poison, unpoison, copy_planes, fill_planes, mark_cells, store_origin, thread_result, trail}
 use Rattle.ms_runs.specs.Threads.{thread_at, has_ended}
 use Rattle.ms_runs.specs.Poisoned.{Poisoned}
 use Rattle.ms_runs.specs.Masks.{word_at}
@@ -225,7 +226,9 @@ pass_if v false x y p q = q
 
 check_passes : (s : Setting) (mask width origin kind part site : ℕ) (w : World) → Passes w (check s mask width origin kind part site w)
 check_passes s mask width origin kind part site w =
-    pass_if w (eqb mask 0) _ _ (here w) (pass_if w (leb s.limit (length (w.reports ++ _ ∷ []))) _ _ (refl, record { same = refl }) (record { same = refl }))
+    let r : Report = record { site = site; kind = kind; part = part; width = width; mask = mask; origin = origin; chain = trail s w origin } in
+    pass_if w (eqb mask 0) _ _ (here w)
+    (pass_if w (is_hidden s r w) _ _ (here w) (pass_if w (leb s.limit (length (w.reports ++ r ∷ []))) _ _ (refl, record { same = refl }) (record { same = refl })))
 
 byte_passes : (s : Setting) (kind site a : ℕ) (x : Option ℕ) (w : World) → Passes w (check_byte s kind site a x w)
 byte_passes s kind site a None w = here w

@@ -16,3 +16,4 @@ pub mod FollowedParts
 pub mod FollowedFrames
 pub mod FollowedPlanes
 pub mod FollowedSteps
+pub mod BlindPlaces

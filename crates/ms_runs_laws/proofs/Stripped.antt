@@ -154,6 +154,7 @@ setting_kept m s = λ i. record {
   func = λ x. func_kept m.funcs x i;
   fill = s.fill;
   limit = s.reports;
+  once = s.once;
   roots = roots_kept m i;
 }
 

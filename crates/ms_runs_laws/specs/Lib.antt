@@ -2,3 +2,4 @@ pub mod Formulas
 pub mod Inside
 pub mod Marks
 pub mod Follows
+pub mod Places

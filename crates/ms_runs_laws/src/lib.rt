@@ -6,6 +6,7 @@
 pub mod followed;
 pub mod numbered;
 pub mod outputs;
+pub mod places;
 pub mod rules;
 pub mod safety;
 pub mod stripping;

@@ -10,7 +10,7 @@ use Rattle.ms_runs.specs.declared.runs.Report.{Report}
 use Rattle.ms_ir.specs.Layout.{width_of}
 use Rattle.ms_runs.specs.World.{World, Setting, Effect, Gives, Does, Goes, Enters, Leaves, Ends, then_does}
 use Rattle.ms_runs.specs.Memory.{is_good, bytes_left}
-use Rattle.ms_runs.specs.Origins.{trail, trail_within, add_report, check, check_byte, first_in_string, count_blind, asks_string_at}
+use Rattle.ms_runs.specs.Origins.{trail, trail_within, is_hidden, add_report, check, check_byte, first_in_string, count_blind, asks_string_at}
 use Rattle.ms_runs.specs.Poisoned.{Poisoned}
 use Rattle.ms_runs.specs.Masks.{word_at}
 use Rattle.ms_runs.specs.Uses.{CheckedUse, Word, Bytes, Line, type_at, check_use, check_uses, Asked}
@@ -34,7 +34,7 @@ module _ (site root told : ℕ → Type 0) (s : Setting) (known : (id : ℕ) →
   itself w b = (refl, refl, b)
 
   reported : (r : Report) (w : World) → LeadsBack site told r.chain → trail s w r.origin ≡ r.chain → Backed site root told s.roots NoneFree w → Checked w (add_report s r w)
-  reported r w h same_chain b = by_test (leb s.limit (length (w.reports ++ r ∷ [])))
+  reported r w h same_chain b = by_tests (is_hidden s r w) (leb s.limit (length (w.reports ++ r ∷ [])))
     where
       added : Backed site root told s.roots NoneFree (record w { reports = w.reports ++ r ∷ [] })
       added = record {
@@ -45,9 +45,10 @@ module _ (site root told : ℕ → Type 0) (s : Setting) (known : (id : ℕ) →
         reports_back = λ q within. ⊎_elim (λ before. b.reports_back q before) (λ same. subst (λ x. LeadsBack site told x.chain × (trail_within (length w.pairs + 1) s.roots w.pairs x.origin ≡ x.chain)) same (h, same_chain)) (Contains-push_cases w.reports r q within);
       }
 
-      by_test : (t : Bool) → Checked w (if t then Ends «end».Reported (record w { reports = w.reports ++ r ∷ [] }) else Does (record w { reports = w.reports ++ r ∷ [] }))
-      by_test true = (refl, refl, added)
-      by_test false = (refl, refl, added)
+      by_tests : (h t : Bool) → Checked w (if h then Does w else if t then Ends «end».Reported (record w { reports = w.reports ++ r ∷ [] }) else Does (record w { reports = w.reports ++ r ∷ [] }))
+      by_tests true t = itself w b
+      by_tests false true = (refl, refl, added)
+      by_tests false false = (refl, refl, added)
 
   check_checked : (mask width origin kind part at : ℕ) (w : World) → (¬ (mask ≡ 0) → LeadsBack site told (trail s w origin)) → Backed site root told s.roots NoneFree w → Checked w (check s mask width origin kind part at w)
   check_checked mask width origin kind part at w h b = by_test (eqb mask 0) refl

@@ -1,5 +1,5 @@
 -- A world that no run reaches, in which an instruction takes away the origin of a byte with poisoned bits (own).
-use Rattle.std.specs.Prelude.{nat_eq, [], ◌∷◌, None, if◌then◌else◌}
+use Rattle.std.specs.Prelude.{nat_eq, [], ◌∷◌, None, if◌then◌else◌, false}
 use Rattle.ms_ir.specs.declared.calls.External.TheVariants.{Calloc}
 use Rattle.ms_runs.specs.World.{World, Setting, Effect, Gives, Does, Goes, Enters, Leaves, Ends, first_world}
 use Rattle.ms_runs.specs.Externals.{external}
@@ -10,7 +10,7 @@ poisoned_room = record (first_world []) { shadow = λ a. if nat_eq a 0x710000000
 
 -- a module with one root and nothing else
 abbrev pub bare_setting : Setting
-bare_setting = record { types = []; address = λ x. 0; func = λ x. None; fill = 0 ∷ []; limit = 1; roots = 1 }
+bare_setting = record { types = []; address = λ x. 0; func = λ x. None; fill = 0 ∷ []; limit = 1; once = false; roots = 1 }
 
 -- the world after an effect
 abbrev pub world_of : Effect → World

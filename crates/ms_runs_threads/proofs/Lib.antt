@@ -1,2 +1,3 @@
 pub mod Follow
 pub mod CallsAlike
+pub mod BlindAlike

@@ -4,3 +4,4 @@ pub mod Scripts
 pub mod PlainFibers
 pub mod ShadowFibers
 pub mod Calls
+pub mod Blind

@@ -35,7 +35,8 @@ use Rattle.ms_machine_steps.specs.Waiting.{IsAsked, FirstWaits, types_due}
 use Rattle.ms_machine_steps.proofs.Asking.{asked_types, AreArguments, are_arguments}
 use Rattle.ms_machine.specs.Running.{AllStandFor}
 use Rattle.ms_runtime.specs.declared.runs.Running.{Running}
-use Rattle.ms_runtime.specs.Served.{Fits, FitsAsked, IsWithin, CanAnswer}
+use Rattle.ms_runtime.specs.declared.reports.ReportLimit.{ReportLimit}
+use Rattle.ms_runtime.specs.Served.{limit_of, Fits, FitsAsked, IsWithin, CanAnswer}
 use Rattle.ms_runtime.specs.Answering.{HasRoom}
 use Rattle.ms_runtime.specs.Going.{Asking, HasSlack}
 
@@ -81,8 +82,8 @@ pub has_room : (u : Setup) (a : Answer) (r : Running) → length r.told.reports 
 has_room u (answer.Resumed v) r lt = lt
 has_room u (answer.Ended e) r lt = tt
 
-pub within_room : (u : Setup) (limit : ℕ) (a : Answer) (r : Running) → u.reports ≡ limit → IsWithin limit r.told a → HasRoom u a r
-within_room u limit (answer.Resumed v) r e h = subst (λ (k : ℕ). length r.told.reports < k) (sym e) h
+pub within_room : (u : Setup) (limit : ReportLimit) (a : Answer) (r : Running) → limit_of u ≡ limit → IsWithin limit.count r.told a → HasRoom u a r
+within_room u limit (answer.Resumed v) r e h = subst (λ (l : ReportLimit). length r.told.reports < l.count) (sym e) h
 within_room u limit (answer.Ended x) r e h = tt
 
 -- after the answer of a runtime function the fibers are those of before

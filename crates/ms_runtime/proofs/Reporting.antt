@@ -1,11 +1,12 @@
 -- A use that is reported, and one that is counted.
-use Rattle.std.proofs.Common.{◌≡◌, ◌≢◌, ℕ, ◌+◌, ◌-◌, ◌/◌, ◌^◌, ◌<◌, ◌≤◌, Bool, List, [], ◌∷◌, ◌++◌, length, min, sym, ap, ◌∙◌, subst, refl, arith, leb, if◌then◌else◌, Option, Some, None}
-use Rattle.std.proofs.lemmas.Bool.{ne_eqb, le-leb, lt-leb}
+use Rattle.std.proofs.Common.{◌≡◌, ◌≢◌, ℕ, ◌+◌, ◌-◌, ◌/◌, ◌^◌, ◌<◌, ◌≤◌, Bool, true, false, true≢false, ◌&&◌, List, [], ◌∷◌, ◌++◌, length, min, sym, ap, ◌∙◌, subst, refl, arith, leb, ltb, if◌then◌else◌, Option, Some, None}
+use Rattle.std.specs.List.{list_any}
+use Rattle.std.proofs.lemmas.Bool.{ne_eqb, le-leb, lt-leb, lt-ltb}
 use Rattle.ms_runs.specs.declared.runs.Report.{Report}
 use Rattle.ms_runs.specs.declared.runs.RunResult.{RunResult}
 use Rattle.ms_runs.specs.declared.runs.End.TheVariants as «end»
 use Rattle.ms_runs.specs.World.{World, Setting, Effect, Does, Ends}
-use Rattle.ms_runs.specs.Origins.{trail, add_report, check, check_byte, count_blind}
+use Rattle.ms_runs.specs.Origins.{trail, same_use, is_hidden, add_report, check, check_byte, count_blind}
 use Rattle.ms_depot.specs.Depots.{DepotState}
 use Rattle.ms_host.specs.declared.calls.Answer.{Answer}
 use Rattle.ms_host.specs.declared.calls.Answer.TheVariants.{Resumed, Ended}
@@ -14,7 +15,9 @@ use Rattle.ms_host.specs.Shows.{Shows}
 use Rattle.ms_host.specs.Poisonings.{IsFound}
 use Rattle.ms_host.specs.declared.shadows.PoisonedByte.{PoisonedByte}
 use Rattle.ms_host.specs.Answers.{Answered}
-use Rattle.ms_runtime.specs.Served.{IsFor, IsBeside, Served}
+use Rattle.ms_runtime.specs.declared.reports.ReportLimit.{ReportLimit}
+use Rattle.ms_runtime.specs.declared.reports.ReportedUse.{ReportedUse}
+use Rattle.ms_runtime.specs.Served.{is_of, IsFor, IsBeside, Served}
 
 -- ---- a report
 
@@ -43,23 +46,77 @@ shows-report w beside world report rs shows more = record {
   fibers = shows.fibers;
 }
 
--- the test of the limit
-limit-is : (setting : Setting) (world : World) (report : Report) (rs : List Report) (limit : ℕ) (b : Bool) → setting.limit ≡ limit → world.reports ++ report ∷ [] ≡ rs → leb limit (length rs) ≡ b →
+-- the test of the limit, of a use that isn't hidden
+limit-is : (setting : Setting) (world : World) (report : Report) (rs : List Report) (limit : ℕ) (b : Bool) → is_hidden setting report world ≡ false → setting.limit ≡ limit → world.reports ++ report ∷ [] ≡ rs → leb limit (length rs) ≡ b →
     add_report setting report world ≡ (if b then Ends «end».Reported (with_report report world) else Does (with_report report world))
-limit-is setting world report rs limit b same more test =
-    ap (λ (c : Bool). if c then Ends «end».Reported (with_report report world) else Does (with_report report world))
+limit-is setting world report rs limit b shown same more test =
+    ap (λ (h : Bool). if h then Does world else if leb setting.limit (length (world.reports ++ report ∷ [])) then Ends «end».Reported (with_report report world) else Does (with_report report world)) shown
+    ∙ ap (λ (c : Bool). if c then Ends «end».Reported (with_report report world) else Does (with_report report world))
     (ap (λ (l : ℕ). leb l (length (world.reports ++ report ∷ []))) same ∙ ap (λ (all : List Report). leb limit (length all)) more ∙ test)
 
-reported : (d : DepotState) (told : RunResult) (rs : List Report) (limit : ℕ) (setting : Setting) (beside : Beside) (w : WorldState) (world : World) (report : Report) (b : Bool) (answer : Answer) →
-    IsFor setting d.roots limit → IsBeside d told beside → Shows w beside world → report.mask ≢ 0 → report.chain ≡ trail setting world report.origin → rs ≡ told.reports ++ report ∷ [] → leb limit (length rs) ≡ b →
+-- ---- a use that isn't reported again
+
+module _ (setting : Setting) (world : World) (report : Report) (limit : ReportLimit) (same_limit : setting.limit ≡ limit.count) (same_once : setting.once ≡ limit.once) (rs : List Report) (same : world.reports ≡ rs) where
+  -- what is hidden, by what is told
+  hidden-by : is_hidden setting report world ≡ (ltb 1 limit.count && limit.once && list_any (same_use report) rs)
+  hidden-by = λ i. ltb 1 (same_limit i) && same_once i && list_any (same_use report) (same i)
+
+  some : (l : List Report) → list_any (same_use report) l ≡ true → 1 ≤ length l
+  some [] e = absurd (true≢false (sym e))
+  some (r ∷ l) e = omega arith
+
+  both : (b o a : Bool) → (o && a) ≡ false → (b && o && a) ≡ false
+  both true true a e = e
+  both true false a e = refl
+  both false o a e = refl
+
+  parts : (b o a : Bool) → b ≡ true → (o && a) ≡ true → (b && o && a) ≡ true
+  parts true o a f e = e
+  parts false o a f e = absurd (true≢false (sym f))
+
+  second : (o a : Bool) → (o && a) ≡ true → a ≡ true
+  second true a e = e
+  second false a e = absurd (true≢false (sym e))
+
+  -- a limit that hides nothing
+  shown-by : (limit.once && list_any (same_use report) rs) ≡ false → is_hidden setting report world ≡ false
+  shown-by e = hidden-by ∙ both (ltb 1 limit.count) limit.once (list_any (same_use report) rs) e
+
+  -- one that hides the use, before a run's end
+  hidden-is : length rs < limit.count → (limit.once && list_any (same_use report) rs) ≡ true → is_hidden setting report world ≡ true
+  hidden-is few e =
+      hidden-by
+      ∙ parts (ltb 1 limit.count) limit.once (list_any (same_use report) rs)
+      (lt-ltb 1 limit.count (omega (arith, some rs (second limit.once (list_any (same_use report) rs) e), few))) e
+
+-- the use of a report
+abbrev told_of : Report → ReportedUse
+told_of report = record { mask = report.mask; width = report.width; origin = report.origin; kind = report.kind; part = report.part; site = report.site }
+
+pub hidden : (d : DepotState) (told : RunResult) (limit : ReportLimit) (setting : Setting) (beside : Beside) (w : WorldState) (world : World) (used : ReportedUse) →
+    IsFor setting d.roots limit → IsBeside d told beside → Shows w beside world → used.mask ≢ 0 → length told.reports < limit.count → (limit.once && list_any (is_of used) told.reports) ≡ true →
+    Served (check setting used.mask used.width used.origin used.kind used.part used.site world) (Resumed None) w d told
+hidden d told limit setting beside w world used for kept shows some few any = (beside, (kept, subst (λ (e : Effect). Answered beside e (Resumed None) w) (sym does) shows))
+  where
+    report : Report
+    report = record { site = used.site; kind = used.kind; part = used.part; width = used.width; mask = used.mask; origin = used.origin; chain = trail setting world used.origin }
+
+    does : check setting used.mask used.width used.origin used.kind used.part used.site world ≡ Does world
+    does =
+        ap (λ (b : Bool). if b then Does world else add_report setting report world) (ne_eqb used.mask 0 some)
+        ∙ ap (λ (b : Bool). if b then Does world else if leb setting.limit (length (world.reports ++ report ∷ [])) then Ends «end».Reported (with_report report world) else Does (with_report report world))
+        (hidden-is setting world report limit for.same_limit for.same_once told.reports (shows.reports ∙ kept.reports) few any)
+
+reported : (d : DepotState) (told : RunResult) (rs : List Report) (limit : ReportLimit) (setting : Setting) (beside : Beside) (w : WorldState) (world : World) (report : Report) (b : Bool) (answer : Answer) →
+    IsFor setting d.roots limit → IsBeside d told beside → Shows w beside world → report.mask ≢ 0 → (limit.once && list_any (is_of (told_of report)) told.reports) ≡ false → report.chain ≡ trail setting world report.origin → rs ≡ told.reports ++ report ∷ [] → leb limit.count (length rs) ≡ b →
     (Shows w (record beside { reports = rs }) (with_report report world) → Answered (record beside { reports = rs }) (if b then Ends «end».Reported (with_report report world) else Does (with_report report world)) answer w) →
     Served (check setting report.mask report.width report.origin report.kind report.part report.site world) answer w d (record told { reports = rs })
-reported d told rs limit setting beside w world report b answer for kept shows some way is test followed = (
+reported d told rs limit setting beside w world report b answer for kept shows some fresh way is test followed = (
   record beside { reports = rs },
   (
     record { pairs = kept.pairs; reports = refl; blind = kept.blind },
     subst (λ (e : Effect). Answered (record beside { reports = rs }) e answer w)
-        (sym (check-is setting world report some way ∙ limit-is setting world report rs limit b for.same_limit more test))
+        (sym (check-is setting world report some way ∙ limit-is setting world report rs limit.count b shown for.same_limit more test))
         (followed (shows-report w beside world report rs shows more)),
   ),
 )
@@ -67,19 +124,22 @@ reported d told rs limit setting beside w world report b answer for kept shows s
     more : world.reports ++ report ∷ [] ≡ rs
     more = ap (λ (before : List Report). before ++ report ∷ []) (shows.reports ∙ kept.reports) ∙ sym is
 
+    shown : is_hidden setting report world ≡ false
+    shown = shown-by setting world report limit for.same_limit for.same_once told.reports (shows.reports ∙ kept.reports) fresh
+
 -- the last one that the limit allows
-pub reported-last : (d : DepotState) (told : RunResult) (rs : List Report) (limit : ℕ) (setting : Setting) (beside : Beside) (w : WorldState) (world : World) (report : Report) →
-    IsFor setting d.roots limit → IsBeside d told beside → Shows w beside world → report.mask ≢ 0 → report.chain ≡ trail setting world report.origin → rs ≡ told.reports ++ report ∷ [] → limit ≤ length rs →
+pub reported-last : (d : DepotState) (told : RunResult) (rs : List Report) (limit : ReportLimit) (setting : Setting) (beside : Beside) (w : WorldState) (world : World) (report : Report) →
+    IsFor setting d.roots limit → IsBeside d told beside → Shows w beside world → report.mask ≢ 0 → (limit.once && list_any (is_of (told_of report)) told.reports) ≡ false → report.chain ≡ trail setting world report.origin → rs ≡ told.reports ++ report ∷ [] → limit.count ≤ length rs →
     Served (check setting report.mask report.width report.origin report.kind report.part report.site world) (Ended «end».Reported) w d (record told { reports = rs })
-reported-last d told rs limit setting beside w world report for kept shows some way is full =
-    reported d told rs limit setting beside w world report _ (Ended «end».Reported) for kept shows some way is (le-leb limit (length rs) full) (λ after. (refl, after))
+reported-last d told rs limit setting beside w world report for kept shows some fresh way is full =
+    reported d told rs limit setting beside w world report _ (Ended «end».Reported) for kept shows some fresh way is (le-leb limit.count (length rs) full) (λ after. (refl, after))
 
 -- one after which the run goes on
-pub reported-on : (d : DepotState) (told : RunResult) (rs : List Report) (limit : ℕ) (setting : Setting) (beside : Beside) (w : WorldState) (world : World) (report : Report) →
-    IsFor setting d.roots limit → IsBeside d told beside → Shows w beside world → report.mask ≢ 0 → report.chain ≡ trail setting world report.origin → rs ≡ told.reports ++ report ∷ [] → length rs < limit →
+pub reported-on : (d : DepotState) (told : RunResult) (rs : List Report) (limit : ReportLimit) (setting : Setting) (beside : Beside) (w : WorldState) (world : World) (report : Report) →
+    IsFor setting d.roots limit → IsBeside d told beside → Shows w beside world → report.mask ≢ 0 → (limit.once && list_any (is_of (told_of report)) told.reports) ≡ false → report.chain ≡ trail setting world report.origin → rs ≡ told.reports ++ report ∷ [] → length rs < limit.count →
     Served (check setting report.mask report.width report.origin report.kind report.part report.site world) (Resumed None) w d (record told { reports = rs })
-reported-on d told rs limit setting beside w world report for kept shows some way is few =
-    reported d told rs limit setting beside w world report _ (Resumed None) for kept shows some way is (lt-leb limit (length rs) few) (λ after. after)
+reported-on d told rs limit setting beside w world report for kept shows some fresh way is few =
+    reported d told rs limit setting beside w world report _ (Resumed None) for kept shows some fresh way is (lt-leb limit.count (length rs) few) (λ after. after)
 
 -- ---- a blind use
 

@@ -18,7 +18,8 @@ use Rattle.ms_machine_steps.specs.Waiting.{FirstWaits}
 use Rattle.ms_machine_steps.specs.Advances.{step_of}
 use Rattle.ms_machine.specs.Running.{IsRunning}
 use Rattle.ms_runtime.specs.declared.runs.Running.{Running}
-use Rattle.ms_runtime.specs.Served.{IsBeside, CanAnswer}
+use Rattle.ms_runtime.specs.declared.reports.ReportLimit.{ReportLimit}
+use Rattle.ms_runtime.specs.Served.{limit_of, IsBeside, CanAnswer}
 
 -- how far it is at most to the end of a run, in instructions: each step may be as long as the code
 abbrev pub ahead : Module → Running → ℕ
@@ -93,5 +94,5 @@ abbrev pub Over : Module → Setup → End → Running → Type 0
 Over m u e r = Answers (plain m u) e r
 
 -- a run that waits
-abbrev pub IsAsking : Module → ℕ → HostCall → Running → Type 0
-IsAsking m limit call r = (u : Setup) × ((u.reports ≡ limit) × Asking m u call r)
+abbrev pub IsAsking : Module → ReportLimit → HostCall → Running → Type 0
+IsAsking m limit call r = (u : Setup) × ((limit_of u ≡ limit) × Asking m u call r)

@@ -13,7 +13,9 @@ use Rattle.ms_machine_frames.specs.declared.fibers.Fiber.{Fiber}
 use Rattle.ms_machine_steps.specs.Advances.{step_of}
 use Rattle.ms_machine.specs.Running.{IsRunning}
 use Rattle.ms_runtime.specs.Going.{ahead, Going, Paused, Over}
+use Rattle.ms_runtime.specs.declared.reports.ReportLimit.{ReportLimit}
 use Rattle.ms_runtime.specs.declared.runs.Recorded.{Recorded}
+use Rattle.ms_runtime.specs.Served.{limit_of}
 
 -- what is still to be recorded from a state on comes to the calls at all reports of the run
 abbrev pub RecordsFrom : Module → Setup → ℕ → PlainState → List Calls → Type 0
@@ -45,12 +47,12 @@ TurnedTold m u far None r = GoingTold m u r × (ahead m r.running < far)
 TurnedTold m u far (Some e) r = Over m u e r.running × (r.wanted ≡ true → r.calls.items ≡ plain_calls m u)
 
 -- a run that goes on, with some setup
-abbrev pub IsGoing : Module → ℕ → Recorded → Type 0
-IsGoing m limit r = (u : Setup) × ((u.reports ≡ limit) × GoingTold m u r)
+abbrev pub IsGoing : Module → ReportLimit → Recorded → Type 0
+IsGoing m limit r = (u : Setup) × ((limit_of u ≡ limit) × GoingTold m u r)
 
 -- a run that waits
-abbrev pub IsPaused : Module → ℕ → HostCall → Recorded → Type 0
-IsPaused m limit call r = (u : Setup) × ((u.reports ≡ limit) × PausedTold m u call r)
+abbrev pub IsPaused : Module → ReportLimit → HostCall → Recorded → Type 0
+IsPaused m limit call r = (u : Setup) × ((limit_of u ≡ limit) × PausedTold m u call r)
 
 -- the calls of frames of a fiber that the call at a site made
 abbrev pub calls_from : Module → (started : ℕ) → List (Frame ℕ) → Calls

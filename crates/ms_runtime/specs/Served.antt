@@ -1,11 +1,13 @@
 -- What a call of a runtime function comes to, where chained origins, reports and blind uses are kept beside the world.
-use Rattle.std.specs.Prelude.{◌≡◌, ◌<◌, ◌^◌, ◌-◌, ℕ, List, false, length, min, get_or, None, ◌≤◌, ◌+◌}
+use Rattle.std.specs.Prelude.{◌≡◌, ◌<◌, ◌^◌, ◌-◌, ℕ, List, Bool, false, ◌&&◌, eqb, length, min, get_or, None, ◌≤◌, ◌+◌}
 use Rattle.ms_ir.specs.declared.syntax.Ty.{Ptr}
 use Rattle.ms_ir.specs.declared.calls.RuntimeFn.{RuntimeFn}
 use Rattle.ms_ir.specs.declared.calls.RuntimeFn.TheVariants as function
 use Rattle.ms_ir.specs.Layout.{width_of}
 use Rattle.ms_ir.specs.Signatures.{runtime_signature, is_thread_call}
+use Rattle.ms_runs.specs.declared.runs.Report.{Report}
 use Rattle.ms_runs.specs.declared.runs.RunResult.{RunResult}
+use Rattle.ms_runs.specs.declared.runs.Setup.{Setup}
 use Rattle.ms_runs.specs.declared.runs.End.TheVariants.{Reported}
 use Rattle.ms_runs.specs.World.{Setting, Effect}
 use Rattle.ms_runs.specs.Threads.{no_fibers}
@@ -16,12 +18,22 @@ use Rattle.ms_host.specs.declared.calls.Answer.{Answer}
 use Rattle.ms_host.specs.declared.calls.Answer.TheVariants.{Resumed, Ended}
 use Rattle.ms_host.specs.State.{WorldState, Beside}
 use Rattle.ms_host.specs.Answers.{Answered}
+use Rattle.ms_runtime.specs.declared.reports.ReportLimit.{ReportLimit}
 use Rattle.ms_runtime.specs.declared.reports.ReportedUse.{ReportedUse}
 
--- a setting has so many roots, and ends a run at so many reports
-pub record IsFor (setting : Setting) (roots limit : ℕ) : Type 0 where
+-- what a setup says of reports
+abbrev pub limit_of : Setup → ReportLimit
+limit_of u = record { count = u.reports; once = u.once }
+
+-- a report is of a use: it has its site, kind and part
+abbrev pub is_of : ReportedUse → Report → Bool
+is_of used report = eqb used.site report.site && eqb used.kind report.kind && eqb used.part report.part
+
+-- a setting has so many roots, ends a run at so many reports, and has each use reported once where the limit has
+pub record IsFor (setting : Setting) (roots : ℕ) (limit : ReportLimit) : Type 0 where
   pub same_roots : setting.roots ≡ roots
-  pub same_limit : setting.limit ≡ limit
+  pub same_limit : setting.limit ≡ limit.count
+  pub same_once : setting.once ≡ limit.once
 
 -- what a depot and a result hold is what is kept beside a world; the count of blind uses stands still at its type's end
 pub record IsBeside (d : DepotState) (told : RunResult) (beside : Beside) : Type 0 where

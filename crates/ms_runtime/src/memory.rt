@@ -8,7 +8,7 @@ ghost use Rattle.ms_host.specs.{State.{Beside, Keeps}, Shows.{Shows}};
 ghost use Rattle.ms_runtime.specs.Served.{IsFor, IsBeside, Served, IsWithin, TellsMore, Fits, Follows};
 
 use crate::arguments::{low_byte, small, word};
-use crate::reports::check_byte;
+use crate::reports::{ReportLimit, check_byte};
 use ms_bits::NoMemory;
 use ms_depot::Depot;
 use ms_host::{Answer, World};
@@ -24,12 +24,12 @@ pub(crate) fn check_memory(
     world: &World,
     depot: &Depot,
     told: &mut RunResult,
-    limit: u32,
+    limit: ReportLimit,
 ) -> Result<Answer, NoMemory>
     requires fits { Fits CheckMemory args.now }
-    requires few { length told.old.reports < limit }
+    requires few { length told.old.reports < limit.count }
     ensures served { (setting : Setting) (beside : Beside) (meant : Meant) → IsFor setting depot.now.roots limit → IsBeside depot.now told.old beside → Shows world.now beside meant → IfOk result (λ a. Served (runtime setting CheckMemory args.now meant) a world.now depot.now told.new) }
-    ensures within { IfOk result (λ a. IsWithin limit told.new a) }
+    ensures within { IfOk result (λ a. IsWithin limit.count told.new a) }
     ensures told { TellsMore told.old told.new }
 {
     let start = word(args, 0);
@@ -51,12 +51,12 @@ pub(crate) fn check_string(
     world: &World,
     depot: &Depot,
     told: &mut RunResult,
-    limit: u32,
+    limit: ReportLimit,
 ) -> Result<Answer, NoMemory>
     requires fits { Fits CheckString args.now }
-    requires few { length told.old.reports < limit }
+    requires few { length told.old.reports < limit.count }
     ensures served { (setting : Setting) (beside : Beside) (meant : Meant) → IsFor setting depot.now.roots limit → IsBeside depot.now told.old beside → Shows world.now beside meant → IfOk result (λ a. Served (runtime setting CheckString args.now meant) a world.now depot.now told.new) }
-    ensures within { IfOk result (λ a. IsWithin limit told.new a) }
+    ensures within { IfOk result (λ a. IsWithin limit.count told.new a) }
     ensures told { TellsMore told.old told.new }
 {
     let start = word(args, 0);
@@ -74,12 +74,12 @@ pub(crate) fn check_format(
     world: &World,
     depot: &Depot,
     told: &mut RunResult,
-    limit: u32,
+    limit: ReportLimit,
 ) -> Result<Answer, NoMemory>
     requires fits { Fits CheckFormat args.now }
-    requires few { length told.old.reports < limit }
+    requires few { length told.old.reports < limit.count }
     ensures served { (setting : Setting) (beside : Beside) (meant : Meant) → IsFor setting depot.now.roots limit → IsBeside depot.now told.old beside → Shows world.now beside meant → IfOk result (λ a. Served (runtime setting CheckFormat args.now meant) a world.now depot.now told.new) }
-    ensures within { IfOk result (λ a. IsWithin limit told.new a) }
+    ensures within { IfOk result (λ a. IsWithin limit.count told.new a) }
     ensures told { TellsMore told.old told.new }
 {
     let format = word(args, 0);

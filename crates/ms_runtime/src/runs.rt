@@ -8,9 +8,10 @@ ghost use Rattle.ms_host.specs.Answers.{Answered};
 ghost use Rattle.ms_machine.specs.Standing.{RunsSomewhere};
 ghost use Rattle.ms_runtime.specs.Going.{Begins, Going, Asking, Answers, IsAsking, ahead};
 ghost use Rattle.ms_runtime.specs.Recorded.{GoingTold, PausedTold, TurnedTold, IsGoing, IsPaused, Noted};
-ghost use Rattle.ms_runtime.specs.Answering.{AnsweredFor};
+ghost use Rattle.ms_runtime.specs.{Answering.{AnsweredFor}, Served.{limit_of}};
 ghost use Rattle.ms_runtime.specs.ToldRuns.{plain_told};
 
+use crate::reports::ReportLimit;
 use crate::serving::serve;
 use ms_bits::{Bytes, List, NoMemory, Trap};
 use ms_check::CheckedModule;
@@ -69,10 +70,10 @@ impl Running {
         alloc: Global,
         m: &CheckedModule,
         call: &HostCall,
-        reports: u32,
+        limit: ReportLimit,
     ) -> Result<Answer, NoMemory>
-        requires asking { IsAsking m.now reports call.now self.old }
-        ensures answered { (u : SetupOf) → u.reports ≡ reports → (q : Asking m.now u call.now self.old) → IfOk result (λ a. AnsweredFor m.now u call.now q.within a self.old self.new) }
+        requires asking { IsAsking m.now limit call.now self.old }
+        ensures answered { (u : SetupOf) → limit_of u ≡ limit → (q : Asking m.now u call.now self.old) → IfOk result (λ a. AnsweredFor m.now u call.now q.within a self.old self.new) }
     {
         m.law_valid();
         match call.asked {
@@ -87,7 +88,7 @@ impl Running {
                 &mut self.world,
                 &mut self.depot,
                 &mut self.told,
-                reports,
+                limit,
             ),
         }
     }
@@ -177,15 +178,15 @@ impl Recorded {
         alloc: Global,
         m: &CheckedModule,
         call: HostCall,
-        reports: u32,
+        limit: ReportLimit,
     ) -> Result<Option<End>, NoMemory>
-        requires paused { IsPaused m.now reports call self.old }
+        requires paused { IsPaused m.now limit call self.old }
         ensures wanted { self.new.wanted ≡ self.old.wanted }
-        ensures turned { (u : SetupOf) → u.reports ≡ reports → PausedTold m.now u call self.old → IfOk result (λ end. TurnedTold m.now u (ahead m.now self.old.running) end self.new) }
+        ensures turned { (u : SetupOf) → limit_of u ≡ limit → PausedTold m.now u call self.old → IfOk result (λ end. TurnedTold m.now u (ahead m.now self.old.running) end self.new) }
     {
         m.law_valid();
         let _code = m.program();
-        let answer = self.running.answer_of(alloc, m, &call, reports)?;
+        let answer = self.running.answer_of(alloc, m, &call, limit)?;
         note_calls(alloc, m, &self.running, 0, self.wanted, &mut self.calls)?;
         match answer {
             Answer::Ended(end) => Ok(Some(end)),
@@ -202,11 +203,11 @@ impl Recorded {
         &mut self,
         alloc: Global,
         m: &CheckedModule,
-        reports: u32,
+        limit: ReportLimit,
     ) -> Result<Option<End>, NoMemory>
-        requires going { IsGoing m.now reports self.old }
+        requires going { IsGoing m.now limit self.old }
         ensures wanted { self.new.wanted ≡ self.old.wanted }
-        ensures turned { (u : SetupOf) → u.reports ≡ reports → GoingTold m.now u self.old → IfOk result (λ end. TurnedTold m.now u (ahead m.now self.old.running) end self.new) }
+        ensures turned { (u : SetupOf) → limit_of u ≡ limit → GoingTold m.now u self.old → IfOk result (λ end. TurnedTold m.now u (ahead m.now self.old.running) end self.new) }
     {
         let running = &mut self.running;
         match advance(
@@ -218,7 +219,7 @@ impl Recorded {
         )? {
             Pause::Spent => Ok(Some(End::Spent)),
             Pause::Ended(end) => Ok(Some(end)),
-            Pause::Asked(call) => self.answer_call(alloc, m, call, reports),
+            Pause::Asked(call) => self.answer_call(alloc, m, call, limit),
             Pause::Finished { .. } => Ok(Some(no_caller())),
         }
     }
@@ -249,6 +250,10 @@ pub fn run_told(
     requires alone { is_threaded m.now ≡ false }
     ensures { IfOk result (λ r. r ≡ plain_told wanted m.now setup.now) }
 {
+    let limit = ReportLimit {
+        count: setup.reports,
+        once: setup.once,
+    };
     let running = start_run(alloc, m, setup)?;
     let mut recorded = Recorded {
         running,
@@ -256,7 +261,7 @@ pub fn run_told(
         calls: Vec::new(alloc),
     };
     loop {
-        if let Some(end) = recorded.run_to_pause(alloc, m, setup.reports)? {
+        if let Some(end) = recorded.run_to_pause(alloc, m, limit)? {
             let Recorded { running, calls, .. } = recorded;
             return Ok(ToldRun {
                 result: running.into_result(end),

@@ -10,7 +10,7 @@ use crate::memory::{
     check_format, check_memory, check_string, copy, fill, load_origin, poison, size, store_origin,
     unpoison,
 };
-use crate::reports::{check, count_blind};
+use crate::reports::{ReportLimit, check, count_blind};
 use ms_bits::NoMemory;
 use ms_depot::Depot;
 use ms_host::{Answer, Asked, HostCall, World};
@@ -19,7 +19,7 @@ use ms_runs::RunResult;
 use std::alloc::Global;
 
 /// Answers a call of a runtime function: what it does to the world, to the chained origins and to what was told, and
-/// whether the run goes on. It ends exactly where the number of reports comes to `limit`. `__msan_thread_result` changes nothing,
+/// whether the run goes on. It ends exactly where the number of reports comes to the limit. `__msan_thread_result` changes nothing,
 /// which is its meaning where no thread was made.
 ///
 /// Where memory runs out the run is over.
@@ -29,12 +29,12 @@ pub fn serve(
     world: &mut World,
     depot: &mut Depot,
     told: &mut RunResult,
-    limit: u32,
+    limit: ReportLimit,
 ) -> Result<Answer, NoMemory>
     requires fits { FitsAsked call.now.asked call.now.args }
-    requires few { length told.old.reports < limit }
+    requires few { length told.old.reports < limit.count }
     ensures served { (setting : Setting) (types : List Ty) (beside : Beside) (meant : Meant) → IsFor setting depot.old.roots limit → IsBeside depot.old told.old beside → CanAnswer call.now.asked beside → Shows world.old beside meant → IfOk result (λ a. Served (asked_effect setting types call.now meant) a world.new depot.new told.new) }
-    ensures within { IfOk result (λ a. IsWithin limit told.new a) }
+    ensures within { IfOk result (λ a. IsWithin limit.count told.new a) }
     ensures told { TellsMore told.old told.new }
     ensures roots { depot.new.roots ≡ depot.old.roots }
     ensures keeps { Keeps world.old world.new }
@@ -62,13 +62,13 @@ fn report(
     world: &World,
     depot: &Depot,
     told: &mut RunResult,
-    limit: u32,
+    limit: ReportLimit,
 ) -> Result<Answer, NoMemory>
     requires fits { Fits function args.now }
     requires check { IsCheck function }
-    requires few { length told.old.reports < limit }
+    requires few { length told.old.reports < limit.count }
     ensures served { (setting : Setting) (beside : Beside) (meant : Meant) → IsFor setting depot.now.roots limit → IsBeside depot.now told.old beside → Shows world.now beside meant → IfOk result (λ a. Served (runtime setting function args.now meant) a world.now depot.now told.new) }
-    ensures within { IfOk result (λ a. IsWithin limit told.new a) }
+    ensures within { IfOk result (λ a. IsWithin limit.count told.new a) }
     ensures told { TellsMore told.old told.new }
 {
     match function {

@@ -30,7 +30,8 @@ use Rattle.ms_machine_steps.specs.Waiting.{FirstWaits, types_due}
 use Rattle.ms_machine_steps.specs.Advances.{Resumes, Stops}
 use Rattle.ms_machine.specs.Running.{AllStandFor, IsRunning}
 use Rattle.ms_runtime.specs.declared.runs.Running.{Running}
-use Rattle.ms_runtime.specs.Served.{IsBeside}
+use Rattle.ms_runtime.specs.declared.reports.ReportLimit.{ReportLimit}
+use Rattle.ms_runtime.specs.Served.{limit_of, IsBeside}
 use Rattle.ms_runtime.specs.Answering.{HasRoom}
 use Rattle.ms_runtime.specs.Going.{ahead, Keeping, Answers, LeftAfter, HasSlack}
 use Rattle.ms_runtime.specs.Recorded.{Noted as NotedAt}
@@ -296,11 +297,11 @@ Turned m u schedule far (Some e) t = IsOver m u schedule e t
 
 -- ---- with some setup and schedule
 
-abbrev pub IsGoing : Module → ℕ → List ℕ → ThreadedRun → Type 0
-IsGoing m limit schedule t = (u : Setup) × ((u.reports ≡ limit) × Going m u schedule t)
+abbrev pub IsGoing : Module → ReportLimit → List ℕ → ThreadedRun → Type 0
+IsGoing m limit schedule t = (u : Setup) × ((limit_of u ≡ limit) × Going m u schedule t)
 
-abbrev pub IsAsking : Module → ℕ → HostCall → ThreadedRun → Type 0
-IsAsking m limit call t = (u : Setup) × (schedule : List ℕ) × ((u.reports ≡ limit) × Asking m u schedule call t)
+abbrev pub IsAsking : Module → ReportLimit → HostCall → ThreadedRun → Type 0
+IsAsking m limit call t = (u : Setup) × (schedule : List ℕ) × ((limit_of u ≡ limit) × Asking m u schedule call t)
 
 abbrev pub IsAfter : Module → HostCall → Answer → ThreadedRun → Type 0
 IsAfter m call a t = (u : Setup) × (schedule : List ℕ) × After m u schedule call a t

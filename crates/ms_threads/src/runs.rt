@@ -6,7 +6,7 @@ ghost use Rattle.ms_runs.specs.{declared.runs.Setup.{Setup as SetupOf}, Limits.{
 ghost use Rattle.ms_runs_threads.specs.{PlainFibers.{plain_threads}, Calls.{plain_threads_calls}};
 ghost use Rattle.ms_host.specs.declared.calls.Answer.TheVariants.{Resumed as ResumedOf};
 ghost use Rattle.ms_machine.specs.Standing.{RunsSomewhere};
-ghost use Rattle.ms_runtime.specs.{Answering.{AnsweredFor}, Going.{ahead}, Served.{Fits}};
+ghost use Rattle.ms_runtime.specs.{Answering.{AnsweredFor}, Going.{ahead}, Served.{Fits, limit_of}};
 ghost use Rattle.ms_threads_schedules_laws.specs.Picks.{plain_picks};
 ghost use Rattle.ms_threads.specs.{Faithful.{IsSchedule}, Recording.{Records}, ToldThreads.{plain_threads_told}, ThreadTables.{IsThreadCall, IsResult, standing_of}};
 ghost use Rattle.ms_threads.specs.Going.{KeepsCalls, Noted, Asking, After, Picking, Performing, Beginning, Going, HasEnded, Turned, IsGoing, IsAsking, IsAfter, IsPicking, IsPerforming, IsBeginning, most_ahead, far_of};
@@ -20,7 +20,7 @@ use ms_ir::RuntimeFn;
 use ms_machine::{advance, resume, spawn};
 use ms_machine_frames::{Pause, no_fiber};
 use ms_runs::{Calls, End, RunResult, Setup};
-use ms_runtime::{Running, ToldRun, note_calls, start_run, thread_result, told_calls};
+use ms_runtime::{ReportLimit, Running, ToldRun, note_calls, start_run, thread_result, told_calls};
 use std::alloc::Global;
 
 /// A run of threads between two pauses.
@@ -96,17 +96,17 @@ impl ThreadedRun {
         thread_result(addr, thread.mask, thread.origin, site, world, depot)
     }
 
-    /// The effect of a call that is no thread call; `reports` is the limit of the run's reports.
+    /// The effect of a call that is no thread call; `limit` is that of the run's reports.
     fn answer_of(
         &mut self,
         alloc: Global,
         m: &CheckedModule,
         call: &HostCall,
-        reports: u32,
+        limit: ReportLimit,
     ) -> Result<Answer, NoMemory>
-        requires asking { IsAsking m.now reports call.now self.old }
+        requires asking { IsAsking m.now limit call.now self.old }
         requires other { ¬ IsThreadCall call.now.asked }
-        ensures answered { (u : SetupOf) (schedule : List ℕ) → u.reports ≡ reports → (q : Asking m.now u schedule call.now self.old) → IfOk result (λ a. AnsweredFor m.now u call.now q.within a self.old.running self.new.running) }
+        ensures answered { (u : SetupOf) (schedule : List ℕ) → limit_of u ≡ limit → (q : Asking m.now u schedule call.now self.old) → IfOk result (λ a. AnsweredFor m.now u call.now q.within a self.old.running self.new.running) }
         ensures table { self.new.table ≡ self.old.table }
         ensures calls { KeepsCalls self.old self.new }
     {
@@ -115,7 +115,7 @@ impl ThreadedRun {
             self.put_result(call)?;
             return Ok(Answer::Resumed(None));
         }
-        self.running.answer_of(alloc, m, call, reports)
+        self.running.answer_of(alloc, m, call, limit)
     }
 
     /// Records the calls that stand at an answered call, if they are wanted: once for each report that was made there.
@@ -251,36 +251,36 @@ impl ThreadedRun {
         alloc: Global,
         m: &CheckedModule,
         call: HostCall,
-        reports: u32,
+        limit: ReportLimit,
         schedule: &[u8],
     ) -> Result<Option<End>, NoMemory>
         requires scheduled { IsSchedule schedule.now }
-        requires asking { (u : SetupOf) × ((u.reports ≡ reports) × Asking m.now u schedule.now call self.old) }
+        requires asking { (u : SetupOf) × ((limit_of u ≡ limit) × Asking m.now u schedule.now call self.old) }
         ensures wanted { self.new.wanted ≡ self.old.wanted }
-        ensures turned { (u : SetupOf) → u.reports ≡ reports → Asking m.now u schedule.now call self.old → IfOk result (λ end. Turned m.now u schedule.now (far_of m.now call.asked self.old.running) end self.new) }
+        ensures turned { (u : SetupOf) → limit_of u ≡ limit → Asking m.now u schedule.now call self.old → IfOk result (λ end. Turned m.now u schedule.now (far_of m.now call.asked self.old.running) end self.new) }
     {
         if is_thread_call(&call) {
             self.park(call);
             return self.pick(alloc, m, schedule);
         }
-        let answer = self.answer_of(alloc, m, &call, reports)?;
+        let answer = self.answer_of(alloc, m, &call, limit)?;
         self.note_calls(alloc, m)?;
         Ok(self.after_answer(m, call, answer))
     }
 
-    /// Runs to the next pause, and does what is asked there; `reports` is the limit of the run's reports. Returns how the run ends, if it
+    /// Runs to the next pause, and does what is asked there; `limit` is that of the run's reports. Returns how the run ends, if it
     /// does.
     fn run_to_pause(
         &mut self,
         alloc: Global,
         m: &CheckedModule,
-        reports: u32,
+        limit: ReportLimit,
         schedule: &[u8],
     ) -> Result<Option<End>, NoMemory>
         requires scheduled { IsSchedule schedule.now }
-        requires going { IsGoing m.now reports schedule.now self.old }
+        requires going { IsGoing m.now limit schedule.now self.old }
         ensures wanted { self.new.wanted ≡ self.old.wanted }
-        ensures turned { (u : SetupOf) → u.reports ≡ reports → Going m.now u schedule.now self.old → IfOk result (λ end. Turned m.now u schedule.now (ahead m.now self.old.running) end self.new) }
+        ensures turned { (u : SetupOf) → limit_of u ≡ limit → Going m.now u schedule.now self.old → IfOk result (λ end. Turned m.now u schedule.now (ahead m.now self.old.running) end self.new) }
     {
         m.law_valid();
         let running = &mut self.running;
@@ -293,7 +293,7 @@ impl ThreadedRun {
         )? {
             Pause::Spent => Ok(Some(End::Spent)),
             Pause::Ended(end) => Ok(Some(end)),
-            Pause::Asked(call) => self.call(alloc, m, call, reports, schedule),
+            Pause::Asked(call) => self.call(alloc, m, call, limit, schedule),
             Pause::Finished { value } => {
                 self.end(alloc, value);
                 self.pick(alloc, m, schedule)
@@ -324,6 +324,10 @@ fn run_to_end(
     ensures picks { IfOk result (λ r. Records r.0.recorder (plain_picks m.now setup.now schedule.now)) }
     ensures calls { IfOk result (λ r. r.1 ≡ (if wanted then plain_threads_calls m.now setup.now schedule.now else [])) }
 {
+    let limit = ReportLimit {
+        count: setup.reports,
+        once: setup.once,
+    };
     let running = start_run(alloc, m, setup)?;
     let table = ThreadTable::new(alloc)?;
     let mut threads = ThreadedRun {
@@ -333,7 +337,7 @@ fn run_to_end(
         calls: Vec::new(alloc),
     };
     loop {
-        if let Some(end) = threads.run_to_pause(alloc, m, setup.reports, schedule)? {
+        if let Some(end) = threads.run_to_pause(alloc, m, limit, schedule)? {
             let ThreadedRun {
                 running,
                 table,

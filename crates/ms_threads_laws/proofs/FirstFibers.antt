@@ -24,7 +24,7 @@ use Rattle.ms_runs_threads.specs.PlainFibers.{due_inst, frames_due, frames_joins
 use Rattle.ms_runs_threads.specs.ShadowFibers.{shadow_going, checked, reach_first, perform_first, shadow_answer, shadow_fiber, shadow_threads_by}
 use Rattle.ms_runs_threads.proofs.Follow.{runs_alike}
 use Rattle.ms_runs_fills_laws.specs.First.{FirstOf}
-use Rattle.ms_runs_fills_laws.proofs.Kept.{FirstIs, Checks, ChecksAfter, uses_kept, given_back_kept, globals_kept}
+use Rattle.ms_runs_fills_laws.proofs.Kept.{StartsWith, FirstIs, Checks, ChecksAfter, uses_kept, given_back_kept, globals_kept}
 use Rattle.ms_runs_fills_laws.proofs.Runs.{KeptOutcome, GrownOutcome, after_grown, frames_grown, act_moves_kept}
 use Rattle.ms_runs_fills_laws.proofs.FirstReport.{Found, CheckedFirst, effect_world, first_only, uses_first, read_free, act_same, outcome_world, MovedFirst, frames_first}
 
@@ -41,8 +41,8 @@ Before e w v = (e ≡ «end».Reported) × Reports w v
 reports_of : (w u z : World) → Found w u z → Reports u z
 reports_of w u z f = record { report = f.report; alone = f.alone; leads = f.leads; more = omega (arith, f.blind, f.more) }
 
-further : (w v z : World) → v.blind ≤ z.blind → ((r : Report) → FirstIs r v → FirstIs r z) → Reports w v → Reports w z
-further w v z more leads h = record { report = h.report; alone = h.alone; leads = leads h.report h.leads; more = omega (arith, more, h.more) }
+further : (w v z : World) → v.blind ≤ z.blind → ((l : List Report) → StartsWith l v → StartsWith l z) → Reports w v → Reports w z
+further w v z more leads h = record { report = h.report; alone = h.alone; leads = leads (h.report ∷ []) h.leads; more = omega (arith, more, h.more) }
 
 module _ (s : Setting) (m : Module) where
   abbrev left : Meaning (List (Frame Poisoned)) World

@@ -54,7 +54,10 @@ use Rattle.ms_runs.specs.declared.runs.RunResult.{RunResult}
 use Rattle.ms_runs.specs.Calls.{call_sites}
 use Rattle.ms_runs_threads.specs.Calls.{plain_threads_calls, shadow_threads_calls_by}
 use Rattle.ms_runs_threads.proofs.CallsAlike.{SaysSame}
-use Rattle.ms_pass_laws.proofs.SameCalls.{lower_sites, frames_sites, frames_reports}
+use Rattle.ms_pass_laws.proofs.SameCalls.{lower_sites, frames_sites, frames_reports, frames_blind}
+use Rattle.ms_runs_threads.specs.Blind.{plain_threads_blind, shadow_threads_blind_by}
+use Rattle.ms_runs_threads.proofs.BlindAlike.{SaysBlind}
+use Rattle.ms_threads_laws.proofs.FollowedBlind.{followed_blind}
 
 module _ (s : Setting) (numbers : ℕ → Numbering) (m : Module) (known : KnownModule s numbers m) where
   abbrev form : Module
@@ -435,6 +438,15 @@ module _ (s : Setting) (numbers : ℕ → Numbering) (m : Module) (known : Known
       never = λ e w v h. h;
     }
 
+    pub says_blind : SaysBlind left right relation
+    says_blind = record {
+      site = site_followed;
+      go = λ f w g t h. frames_blind s numbers m f w g t.slots t.world h.0;
+      shared = λ w t h. ap (λ (u : World). u.blind) (sym h.0);
+      ends = λ e w x v h. ap (λ (k : RunResult). k.blind) (sym h);
+      never = λ e w v h. h;
+    }
+
 -- ---- a run
 
 threads_both : (numbers : ℕ → Numbering) (m : Module) (setup : Setup) (known : KnownModule (setting_of m setup) numbers m) (kept : Kept (setting_of m setup) numbers m known)
@@ -468,3 +480,11 @@ unfolding threads_both
 threads_calls_follow numbers m setup schedule known kept bare placed frames world =
     let s = setting_of m setup in
     followed_calls by_formulas m (pass numbers m) known.strips setup schedule (relation s numbers m known kept) (threads_both numbers m setup known kept bare placed frames world) (says s numbers m known kept)
+
+-- and its blind uses the sites
+pub threads_blind_follow : (numbers : ℕ → Numbering) (m : Module) (setup : Setup) (schedule : List ℕ) (known : KnownModule (setting_of m setup) numbers m) (kept : Kept (setting_of m setup) numbers m known)
+    → params_at m (unwrap_or (func_index m.funcs main_name) 0) ≡ [] → RangedWorld (start_world m setup) → kept.Of (start_frame shadow_reading m ∷ []) → kept.In (start_world m setup)
+    → plain_threads_blind (pass numbers m) setup schedule ≡ shadow_threads_blind_by by_formulas m setup schedule
+threads_blind_follow numbers m setup schedule known kept bare placed frames world =
+    let s = setting_of m setup in
+    followed_blind by_formulas m (pass numbers m) known.strips setup schedule (relation s numbers m known kept) (threads_both numbers m setup known kept bare placed frames world) (says_blind s numbers m known kept)

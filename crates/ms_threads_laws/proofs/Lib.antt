@@ -4,6 +4,7 @@ pub mod Beginning
 pub mod Performing
 pub mod SameShown
 pub mod FollowedRuns
+pub mod FollowedBlind
 pub mod ThreadCalls
 pub mod DueSame
 pub mod Following

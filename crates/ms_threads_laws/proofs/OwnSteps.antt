@@ -19,7 +19,7 @@ use Rattle.ms_runs.specs.declared.runs.Report.{Report}
 use Rattle.ms_runs.specs.World.{World, Setting, Here, Effect, Gives, Does, Goes, Enters, Leaves, Ends, then_does, stuck, word}
 use Rattle.ms_runs.specs.Memory.{heap_size, is_good, set_shadow, bytes_left, end_block, end_blocks}
 use Rattle.ms_runs.specs.Threads.{fibers_of}
-use Rattle.ms_runs.specs.Origins.{add_report, check, check_byte, check_string, first_in_string, asks_string_at, count_blind, trail}
+use Rattle.ms_runs.specs.Origins.{is_hidden, add_report, check, check_byte, check_string, first_in_string, asks_string_at, count_blind, trail}
 use Rattle.ms_runs.specs.Externals.{external}
 use Rattle.ms_runs.specs.Control.{Frame, Outcome, On, Over, here, rest_of, read_all, keeping, release, given_back}
 use Rattle.ms_runs.specs.Act.{act}
@@ -64,8 +64,10 @@ module _ (P : World → Type 0) (told : (w : World) (rs : List Report) → P w �
 
   report_passes : (s : Setting) (r : Report) (w : World) → P w → Passes (add_report s r w)
   report_passes s r w p =
-      either_passes (leb s.limit (length (w.reports ++ r ∷ []))) (Ends «end».Reported (record w { reports = w.reports ++ r ∷ [] })) (Does (record w { reports = w.reports ++ r ∷ [] }))
-      tt (told w (w.reports ++ r ∷ []) p)
+      let next = record w { reports = w.reports ++ r ∷ [] } in
+      let full = leb s.limit (length next.reports) in
+      either_passes (is_hidden s r w) (Does w) (if full then Ends «end».Reported next else Does next) p
+      (either_passes full (Ends «end».Reported next) (Does next) tt (told w next.reports p))
 
   check_passes : (s : Setting) (mask width origin kind part site : ℕ) (w : World) → P w → Passes (check s mask width origin kind part site w)
   check_passes s mask width origin kind part site w p =

@@ -3,6 +3,7 @@
 //! public function with an empty body, and what it promises is the law.
 #![tactic(auto)]
 
+pub mod blind;
 pub mod due;
 pub mod fills;
 pub mod followed;

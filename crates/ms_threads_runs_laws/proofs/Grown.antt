@@ -13,17 +13,17 @@ use Rattle.ms_runs.specs.Masks.{by_formulas}
 use Rattle.ms_runs.specs.Uses.{uses}
 use Rattle.ms_runs.specs.Shadow.{read_poisoned, shadow_moved, after_checks, shadow_frames}
 use Rattle.ms_runs_fills_laws.specs.Certain.{Untold}
-use Rattle.ms_runs_fills_laws.proofs.Kept.{FirstIs, ChecksAfter, uses_kept, given_back_kept}
+use Rattle.ms_runs_fills_laws.proofs.Kept.{StartsWith, ChecksAfter, uses_kept, given_back_kept}
 use Rattle.ms_runs_fills_laws.proofs.Runs.{GrownOutcome, after_grown, frames_grown}
 use Rattle.ms_runs_threads.specs.Fibers.{Due, Own, Asks, Returns, Going, Meaning, Others, Fibers, Goes, Waits, standing, turned, goes_on, ended, moved, moves, resumed, picked, runnable, fibers_step}
 use Rattle.ms_runs_threads.specs.ShadowFibers.{shadow_going, checked, reach_first, shadow_reach, perform_first, shadow_perform, shadow_fiber}
 use Rattle.ms_threads_runs_laws.specs.CertainThreads.{UntoldFibers}
 use Rattle.ms_threads_runs_laws.specs.ChangingThreads.{shadow_world}
 
--- no blind use is taken back, and the first report stays the first
+-- no blind use is taken back, and the first reports stay the first
 pub record Further (w u : World) : Type 0 where
   pub blind : w.blind ≤ u.blind
-  pub leads : (r : Report) → FirstIs r w → FirstIs r u
+  pub leads : (l : List Report) → StartsWith l w → StartsWith l u
 
 itself : (w : World) → Further w w
 itself w = record { blind = omega arith; leads = λ r h. h }
@@ -37,7 +37,7 @@ untold_before w u g h = record { reports = by_reports w.reports refl; blind = om
   where
     by_reports : (rs : List Report) → w.reports ≡ rs → w.reports ≡ []
     by_reports [] e = e
-    by_reports (r ∷ rest) e = let f = g.leads r (rest, e) in absurd (omega (arith, ap length (sym f.1 ∙ h.reports)))
+    by_reports (r ∷ rest) e = let f = g.leads (r ∷ []) (rest, e) in absurd (omega (arith, ap length (sym f.1 ∙ h.reports)))
 
 module _ (s : Setting) (m : Module) where
   abbrev means : Meaning (List (Frame Poisoned)) World

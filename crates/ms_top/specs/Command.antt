@@ -1,5 +1,5 @@
 -- What belongs to a command: its files, and the setup of its run.
-use Rattle.std.specs.Prelude.{ℕ, ◌^◌, List, [], ◌∷◌, if◌then◌else◌, map, Option, Some, None, option_to_list}
+use Rattle.std.specs.Prelude.{ℕ, ◌^◌, List, [], ◌∷◌, if◌then◌else◌, map, Option, Some, None, option_to_list, false}
 use Rattle.ms_runs.specs.declared.runs.Setup.{Setup}
 use Rattle.ms_ir.specs.declared.forms.Form.{Form}
 use Rattle.ms_ir.specs.declared.forms.Form.TheVariants.{Plain, Instrumented}
@@ -76,7 +76,7 @@ files_of command = elim (module_file command) [ Some file ↦ (file, module_limi
 
 -- what a run is given, with the bytes of its input
 abbrev pub setup_of : Options → List ℕ → Setup
-setup_of o input = record { input = input; fill = o.fill; steps = o.steps; reports = o.reports }
+setup_of o input = record { input = input; fill = o.fill; steps = o.steps; reports = o.reports; once = false }
 
 -- the input of a run that has one at most
 abbrev pub only_input : List (List ℕ) → List ℕ

@@ -96,6 +96,7 @@ fn default_setup(alloc: Global) -> Result<Setup, NoMemory>
         fill: Bytes::from_vec(fill),
         steps: 10000000,
         reports: 1,
+        once: false,
     })
 }
 

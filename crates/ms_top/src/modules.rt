@@ -177,6 +177,7 @@ pub fn setup_of(alloc: Global, options: &Options, input: &[u8]) -> Result<Setup,
         fill: Bytes::from_vec(fill),
         steps: options.steps,
         reports: options.reports,
+        once: false,
     })
 }
 

@@ -345,6 +345,7 @@ fn are_copied(alloc: Global) -> Result<bool, AllocError> {
         fill: Bytes::from_vec(Vec::from_slice(alloc, b"a")?),
         steps: 100,
         reports: 1,
+        once: true,
     };
     let copy = setup.copy(alloc)?;
     Ok(copy == setup)

@@ -167,6 +167,7 @@ fn default_setup(alloc: Global) -> Result<Setup, AllocError>
         fill: Bytes::from_vec(fill),
         steps: 1000,
         reports: 1,
+        once: false,
     })
 }
 

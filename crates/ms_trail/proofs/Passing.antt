@@ -1,5 +1,5 @@
 -- Where nothing is found to be used the checks of an instruction pass, and else the run ends as reported, at what was found.
-use Rattle.std.proofs.Common.{◌≡◌, ◌≢◌, ◌-◌, ◌/◌, ℕ, Bool, true, false, eqb, leb, List, [], ◌∷◌, ◌++◌, length, if◌then◌else◌, Option, Some, None, refl, ap, ◌∙◌, arith, length-append}
+use Rattle.std.proofs.Common.{◌≡◌, ◌≢◌, ◌-◌, ◌/◌, ℕ, Bool, true, false, eqb, leb, List, [], ◌∷◌, ◌++◌, length, if◌then◌else◌, Option, Some, None, refl, ap, ◌∙◌, arith, length-append, true≢false}
 use Rattle.std.proofs.lemmas.Bool.{eqb-true, leb-false}
 use Rattle.ms_bits.specs.Maps.{first_nonzero}
 use Rattle.ms_ir.specs.declared.syntax.Ty.{Ty}
@@ -9,11 +9,12 @@ use Rattle.ms_runs.specs.declared.runs.End.TheVariants as «end»
 use Rattle.ms_runs.specs.declared.runs.Report.{Report}
 use Rattle.ms_runs.specs.World.{World, Setting, Effect, Does, Ends, then_does}
 use Rattle.ms_runs.specs.Memory.{is_good, bytes_left}
-use Rattle.ms_runs.specs.Origins.{add_report, check, check_byte, trail, first_in_string, asks_string_at}
+use Rattle.ms_runs.specs.Origins.{is_hidden, add_report, check, check_byte, trail, first_in_string, asks_string_at}
 use Rattle.ms_runs.specs.Poisoned.{Poisoned}
 use Rattle.ms_runs.specs.Masks.{word_at}
 use Rattle.ms_runs.specs.Uses as use_of
 use Rattle.ms_runs.specs.Uses.{type_at, check_uses}
+use Rattle.ms_runs.proofs.NoneHidden.{one_hides_none}
 use Rattle.ms_trail_moves.specs.declared.moves.Source.{Source}
 use Rattle.ms_trail_moves.specs.Sources.{source_at}
 use Rattle.ms_trail_moves.specs.Traces.{or_byte, read_by}
@@ -57,12 +58,13 @@ read_is w ps ss (use_of.Asked a ∷ us) = by_test (asks_string_at w (word_at 0 p
 module _ (s : Setting) (one : s.limit ≡ 1) (w : World) (site : ℕ) (os : List (Ty × Operand)) (ps : List Poisoned) where
   -- the first report ends the run
   reported : (r : Report) (go : World → Effect) → (v : World) × (then_does (add_report s r w) go ≡ Ends «end».Reported v)
-  reported r go = by_test (leb s.limit (length (w.reports ++ r ∷ []))) refl
+  reported r go = by_test (is_hidden s r w) (leb s.limit (length (w.reports ++ r ∷ []))) (one_hides_none s r w one) refl
     where
-      by_test : (t : Bool) → leb s.limit (length (w.reports ++ r ∷ [])) ≡ t
-          → (v : World) × (then_does (if t then Ends «end».Reported (record w { reports = w.reports ++ r ∷ [] }) else Does (record w { reports = w.reports ++ r ∷ [] })) go ≡ Ends «end».Reported v)
-      by_test true e = (record w { reports = w.reports ++ r ∷ [] }, refl)
-      by_test false e = absurd (omega (arith, leb-false s.limit (length (w.reports ++ r ∷ [])) e, one, length-append w.reports (r ∷ [])))
+      by_test : (h t : Bool) → h ≡ false → leb s.limit (length (w.reports ++ r ∷ [])) ≡ t
+          → (v : World) × (then_does (if h then Does w else if t then Ends «end».Reported (record w { reports = w.reports ++ r ∷ [] }) else Does (record w { reports = w.reports ++ r ∷ [] })) go ≡ Ends «end».Reported v)
+      by_test true t f e = absurd (true≢false f)
+      by_test false true f e = (record w { reports = w.reports ++ r ∷ [] }, refl)
+      by_test false false f e = absurd (omega (arith, leb-false s.limit (length (w.reports ++ r ∷ [])) e, one, length-append w.reports (r ∷ [])))
 
   word_checked : (mask width origin kind part : ℕ) (found : Used) (rest : Option Used) (go : World → Effect) → Checked w rest (go w)
       → Checked w (or_used (if eqb mask 0 then None else Some found) rest) (then_does (check s mask width origin kind part site w) go)

@@ -1,5 +1,5 @@
 -- A run ends as reported at a use whose place is poisoned.
-use Rattle.std.proofs.Common.{◌≡◌, ℕ, zero, suc, ◌+◌, ◌-◌, ◌/◌, List, [], ◌∷◌, ◌++◌, map, length, leb, Bool, true, false, eqb, Option, Some, None, refl, sym, ap, ◌∙◌, ◌≢◌, arith, length-append, if◌then◌else◌}
+use Rattle.std.proofs.Common.{◌≡◌, ℕ, zero, suc, ◌+◌, ◌-◌, ◌/◌, List, [], ◌∷◌, ◌++◌, map, length, leb, Bool, true, false, eqb, Option, Some, None, refl, sym, ap, ◌∙◌, ◌≢◌, arith, length-append, if◌then◌else◌, true≢false}
 use Rattle.std.proofs.lemmas.Bool.{eqb-true, eqb-false, leb-false}
 use Rattle.std.proofs.lemmas.Option.{same_Some, none-some}
 use Rattle.ms_bits.specs.declared.traps.Trap.TheVariants as trap
@@ -15,7 +15,7 @@ use Rattle.ms_ir.specs.Layout.{width_of}
 use Rattle.ms_runs.specs.World.{World, Setting, Here, Effect, Gives, Does, Goes, Enters, Leaves, Ends, then_does}
 use Rattle.ms_runs.specs.Memory.{is_good, bytes_left}
 use Rattle.ms_ir.specs.Instructions.{operands, count_undefs}
-use Rattle.ms_runs.specs.Origins.{add_report, check, check_byte, trail, first_in_string, asks_string_at, count_blind}
+use Rattle.ms_runs.specs.Origins.{is_hidden, add_report, check, check_byte, trail, first_in_string, asks_string_at, count_blind}
 use Rattle.ms_runs.specs.Act.{act}
 use Rattle.ms_runs.specs.Control.{Frame, Outcome, On, Over, entered, left, keeping, after_effect}
 use Rattle.ms_runs.specs.Poisoned.{Poisoned}
@@ -23,6 +23,7 @@ use Rattle.ms_runs.specs.Masks.{Rules, union, word_at}
 use Rattle.ms_runs.specs.Uses.{CheckedUse, Word, Bytes, Line, Asked, type_at, check_uses, blinded}
 use Rattle.ms_runs.specs.Shadow.{shadow_reading, planes, poisoned_result, after_checks}
 use Rattle.ms_runs_laws.proofs.UnreportedEnds.{is_reported, Unreported, UnreportedAfter, trapped, act_unreported}
+use Rattle.ms_runs.proofs.NoneHidden.{one_hides_none}
 use Rattle.ms_trail_moves.specs.declared.moves.Source.{Source}
 use Rattle.ms_trail_moves.specs.declared.moves.Source.TheVariants.{Byte}
 use Rattle.ms_trail_moves.specs.Sources.{source_at}
@@ -58,12 +59,13 @@ module _ (s : Setting) (one : s.limit ≡ 1) (P : Source → Type 0) (w : World)
     (comes : (j : ℕ) → (word_at j ps).mask ≢ 0 → P (source_at j ss)) where
   -- the first report ends the run
   reported_read : (Q : Type 0) (r : Report) → Q → (go : World → Effect) → ReadAfter w Q (then_does (add_report s r w) go)
-  reported_read Q r q go = by_test (leb s.limit (length (w.reports ++ r ∷ []))) refl
+  reported_read Q r q go = by_test (is_hidden s r w) (leb s.limit (length (w.reports ++ r ∷ []))) (one_hides_none s r w one) refl
     where
-      by_test : (t : Bool) → leb s.limit (length (w.reports ++ r ∷ [])) ≡ t
-          → ReadAfter w Q (then_does (if t then Ends «end».Reported (record w { reports = w.reports ++ r ∷ [] }) else Does (record w { reports = w.reports ++ r ∷ [] })) go)
-      by_test true e = q
-      by_test false e = absurd (omega (arith, leb-false s.limit (length (w.reports ++ r ∷ [])) e, one, length-append w.reports (r ∷ [])))
+      by_test : (h t : Bool) → h ≡ false → leb s.limit (length (w.reports ++ r ∷ [])) ≡ t
+          → ReadAfter w Q (then_does (if h then Does w else if t then Ends «end».Reported (record w { reports = w.reports ++ r ∷ [] }) else Does (record w { reports = w.reports ++ r ∷ [] })) go)
+      by_test true t f e = absurd (true≢false f)
+      by_test false true f e = q
+      by_test false false f e = absurd (omega (arith, leb-false s.limit (length (w.reports ++ r ∷ [])) e, one, length-append w.reports (r ∷ [])))
 
   check_read : (mask width origin kind part : ℕ) (at rest : Source) → (mask ≢ 0 → P at) → (go : World → Effect) → ReadAfter w (P rest) (go w)
       → ReadAfter w (P (if eqb mask 0 then rest else at)) (then_does (check s mask width origin kind part site w) go)

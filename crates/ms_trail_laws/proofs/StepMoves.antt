@@ -24,7 +24,7 @@ use Rattle.ms_bits.specs.declared.word_functions.WordFn.{WordFn}
 use Rattle.ms_bits.specs.declared.word_functions.WordWidth.{WordWidth}
 use Rattle.ms_runs.specs.World.{World, Setting, Effect, Gives, Does, Goes, Enters, Leaves, Ends, traps, stuck, word, then_does, gives}
 use Rattle.ms_runs.specs.Memory.{is_good, bytes_left, end_block, end_blocks}
-use Rattle.ms_runs.specs.Origins.{count_blind, check, check_byte, first_in_string, asks_string_at, trail}
+use Rattle.ms_runs.specs.Origins.{count_blind, is_hidden, check, check_byte, first_in_string, asks_string_at, trail}
 use Rattle.ms_ir.specs.Layout.{width_of, stored_size}
 use Rattle.ms_runs.specs.Externals.{external}
 use Rattle.ms_ir.specs.Instructions.{operands, count_undefs, one_undef, one_unmarked, roots_in, root_at, site_at, insts_at, is_root, external_named}
@@ -140,7 +140,7 @@ either_reports false w e x h g = g
 check_reports : (s : Setting) (mask width origin kind part site : ℕ) (w : World) → OnlyReports w (check s mask width origin kind part site w)
 check_reports s mask width origin kind part site w =
     let r : Report = record { site = site; kind = kind; part = part; width = width; mask = mask; origin = origin; chain = trail s w origin } in
-    either_reports (eqb mask 0) w _ _ refl (either_reports (leb s.limit (length (w.reports ++ r ∷ []))) w _ _ tt refl)
+    either_reports (eqb mask 0) w _ _ refl (either_reports (is_hidden s r w) w _ _ refl (either_reports (leb s.limit (length (w.reports ++ r ∷ []))) w _ _ tt refl))
 
 byte_reports : (s : Setting) (kind site start : ℕ) (o : Option ℕ) (w : World) → OnlyReports w (check_byte s kind site start o w)
 byte_reports s kind site start None w = refl

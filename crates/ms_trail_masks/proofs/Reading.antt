@@ -35,10 +35,10 @@ use Rattle.ms_trail_masks.proofs.Fills.{ones_word, zeros_word}
 -- ---- two setups
 
 abbrev ones : Setup
-ones = record { input = []; fill = 255 ∷ []; steps = 0; reports = 0 }
+ones = record { input = []; fill = 255 ∷ []; steps = 0; reports = 0; once = false }
 
 abbrev none : Setup
-none = record { input = []; fill = 0 ∷ []; steps = 0; reports = 0 }
+none = record { input = []; fill = 0 ∷ []; steps = 0; reports = 0; once = false }
 
 abbrev zeros : List Name → List ℕ
 zeros names = map (λ x. 0) names

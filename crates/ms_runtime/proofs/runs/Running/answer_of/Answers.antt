@@ -85,7 +85,7 @@ returns-in-Runtime c = record {
         told = served.1.0;
         fibers = served_fibers (setting_of c.args.m.now u) c.args.call.now (types_due c.args.m.now q.within.frames) c.in-Runtime.field-0 c.in-Runtime.is q.within.world served.0 a c.serve.new.world served.1.1;
         answered = served.1.1;
-        few = within_room u c.args.reports a _ same within;
+        few = within_room u c.args.limit a _ same within;
         blind = c.serve.ensures.told.blind;
         roots = c.serve.ensures.roots;
         room = omega (arith, c.serve.ensures.made, q.keeping.room);
@@ -93,6 +93,6 @@ returns-in-Runtime c = record {
         fiber = refl;
         budget = refl;
       })
-      (c.serve.ensures.served (setting_of c.args.m.now u) (types_due c.args.m.now q.within.frames) q.beside q.within.world (record { same_roots = sym q.keeping.roots; same_limit = same }) q.told q.can q.stands.shows)
+      (c.serve.ensures.served (setting_of c.args.m.now u) (types_due c.args.m.now q.within.frames) q.beside q.within.world (record { same_roots = sym q.keeping.roots; same_limit = ap (λ l. l.count) same; same_once = ap (λ l. l.once) same }) q.told q.can q.stands.shows)
       c.serve.ensures.within;
 }
