@@ -1,4 +1,4 @@
-use Rattle.std.proofs.Common.{List, ◌∷◌, Vec, length, refl, sym, subst, ◌∙◌}
+use Rattle.std.proofs.Common.{List, ◌∷◌, Vec, Global, length, refl, sym, subst, ◌∙◌}
 use Rattle.ms_runs.specs.declared.runs.Calls.{Calls}
 use Rattle.ms_host.specs.declared.calls.Answer.{Answer}
 use Rattle.ms_machine_frames.specs.declared.frames.Frame.{Frame as Kept}
@@ -49,7 +49,7 @@ returns-in-Ended c = record {
       (subst (λ (x : Answer). AnsweredFor m u c.args.call b.paused.asking.within x c.args.self.now.running c.answer_of.new.self) c.in-Ended.is answered)
       c.note_end.new.self c.note_end.ensures.running c.note_end.ensures.wanted
       (λ wanted.
-          subst (λ (v : Vec Calls). Noted m c.answer_of.new.self.fiber 0 (length c.answer_of.new.self.told.reports) c.args.self.now.calls.items v.items) (sym c.note_end.ensures.calls) (c.in_ok-note_calls.ensures wanted))
+          subst (λ (v : Vec Calls Global). Noted m c.answer_of.new.self.fiber 0 (length c.answer_of.new.self.told.reports) c.args.self.now.calls.items v.items) (sym c.note_end.ensures.calls) (c.in_ok-note_calls.ensures wanted))
       (λ wanted. c.in_ok-note_end.ensures.ended b.paused.asking.within.frames there wanted) (ahead m c.args.self.now.running);
 }
 
