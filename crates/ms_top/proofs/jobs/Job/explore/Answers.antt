@@ -7,7 +7,7 @@ use Rattle.ms_top.specs.Runs.{plain_under, plain_picks_under, plain_calls_under}
 use Rattle.ms_top.proofs.jobs.Job.explore.Goals as goal
 
 pub explore_under-requires-clause-threads : goal.explore_under-requires-clause-threads
-explore_under-requires-clause-threads g c = c.has_threads-threads.ensures ∙ sym (ap is_threaded c.get-module.ensures ∙ c.in_ok-instrumented.ensures.threads)
+explore_under-requires-clause-threads g c κs within = c.has_threads-threads.ensures ∙ sym (ap is_threaded c.get-module.ensures ∙ c.in_ok-instrumented.ensures.threads)
 
 pub calls_under-requires-clause-threads : goal.calls_under-requires-clause-threads
 calls_under-requires-clause-threads g c = c.has_threads-threads.ensures ∙ sym (ap is_threaded c.get-module.ensures ∙ c.in_ok-instrumented.ensures.threads)
