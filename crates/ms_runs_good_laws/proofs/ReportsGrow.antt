@@ -1,18 +1,18 @@
 -- No step of a plain run makes a world's reports fewer, nor its blind uses, and an instruction that goes on in its function
 -- leaves the calls below it.
-use Rattle.std.proofs.Common.{◌≡◌, ◌≤◌, ◌+◌, ℕ, List, [], ◌∷◌, ◌++◌, length, Bool, true, false, Option, Some, None, refl, ap, ◌∙◌, leb, arith, length-append, if◌then◌else◌}
+use Rattle.std.proofs.Common.{◌≡◌, ◌≤◌, ◌+◌, ℕ, zero, suc, List, [], ◌∷◌, ◌++◌, length, take, drop, Bool, true, false, Option, Some, None, refl, sym, ap, ◌∙◌, leb, arith, length-append, if◌then◌else◌}
 use Rattle.ms_bits.specs.declared.traps.Trap.TheVariants as trap
 use Rattle.ms_ir.specs.declared.syntax.Name.{Name}
 use Rattle.ms_ir.specs.declared.syntax.Inst.{Inst}
 use Rattle.ms_ir.specs.declared.syntax.Module.{Module}
-use Rattle.ms_ir.specs.Instructions.{operands}
+use Rattle.ms_ir.specs.Instructions.{operands, over_insts, one_unmarked, insts_at, site_at}
 use Rattle.ms_runs.specs.declared.runs.End.TheVariants as «end»
 use Rattle.ms_runs.specs.declared.runs.Report.{Report}
 use Rattle.ms_runs.specs.World.{World, Setting, Effect, Gives, Does, Goes, Enters, Leaves, Ends}
 use Rattle.ms_runs.specs.Act.{act, plain_reading}
 use Rattle.ms_runs.specs.Plain.{PlainState, Stepped, More, Stop, act_marked, slots_after, plain_state, plain_inst, plain_step}
-use Rattle.ms_runs.specs.Control.{Frame, On, Over, here, read_all, entered, keeping, left, after_effect, frame_limit}
-use Rattle.ms_runs.specs.Calls.{call_sites}
+use Rattle.ms_runs.specs.Control.{Frame, On, Over, here, rest_of, read_all, entered, keeping, left, after_effect, frame_limit}
+use Rattle.ms_runs.specs.Calls.{call_sites, innermost_site}
 use Rattle.ms_runs_good_laws.proofs.PlainSteps.{SameTop}
 use Rattle.ms_runs_good_laws.proofs.CountsGrow.{inst_counts, step_counts}
 pub use Rattle.ms_runs_good_laws.proofs.CountsGrow.{stepped_world}
@@ -85,3 +85,25 @@ module _ (s : Setting) (m : Module) where
       counted : (fs : List (Frame ℕ)) → SameTop (frame ∷ below) fs → length fs ≡ length below + 1
       counted [] top = absurd top
       counted (f ∷ fs) top = let e = top.1 in omega (arith, e)
+
+-- ---- the site at which the innermost frame stands
+
+-- one instruction more is counted of a list
+over_take : (count : Inst → ℕ) (p : ℕ) (l : List Inst) (i : Inst) (rest : List Inst) → drop p l ≡ i ∷ rest → over_insts count (take (p + 1) l) ≡ over_insts count (take p l) + count i
+over_take count zero [] i rest e = absurd (cc)
+over_take count zero (x ∷ xs) i rest e = let same : count x + 0 ≡ count i + 0 = ap (λ (l : List Inst). over_insts count (take 1 l)) e in omega (arith, same)
+over_take count (suc p) [] i rest e = absurd (cc)
+over_take count (suc p) (x ∷ xs) i rest e =
+    let on : suc p + 1 ≡ suc (p + 1) = omega arith in
+    let more = over_take count p xs i rest e in
+    ap (λ (n : ℕ). over_insts count (take n (x ∷ xs))) on ∙ (let sum : count x + over_insts count (take (p + 1) xs) ≡ count x + over_insts count (take p xs) + count i = omega (arith, more) in sum)
+
+-- after a marked instruction a frame stands at the site at which it stood
+pub site_stays : (m : Module) (frame : Frame ℕ) (below : List (Frame ℕ)) (i : Inst) (rest : List Inst) (fs : List (Frame ℕ)) → rest_of m frame ≡ i ∷ rest → i.marked ≡ true → SameTop (frame ∷ below) fs
+    → innermost_site m (frame ∷ below) ≡ innermost_site m fs
+site_stays m frame below i rest [] due marked top = absurd top
+site_stays m frame below i rest (g ∷ lower) due marked top =
+    let more = over_take one_unmarked frame.place (insts_at m frame.func frame.block) i rest due in
+    let none : one_unmarked i ≡ 0 = ap (λ (b : Bool). if b then 0 else 1) marked in
+    let same : site_at m frame.func frame.block frame.place ≡ site_at m frame.func frame.block (frame.place + 1) = omega (arith, more, none) in
+    same ∙ sym (λ j. site_at m (top.0 j) (top.2 j) (top.3 j))
