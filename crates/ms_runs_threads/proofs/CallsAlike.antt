@@ -80,13 +80,13 @@ module _ {F S G T : Type 0} (left : Meaning F S) (right : Meaning G T) (r : Rela
     pub never : (e : End) (w v : World) → r.Early e w v → ⊥
 
   module _ (says : SaysSame) where
-    threads_same : (c : Fibers F S) (d : Fibers G T) → FibersAlike left right r c d → (world_of left c).threads ≡ (world_of right d).threads
+    pub threads_same : (c : Fibers F S) (d : Fibers G T) → FibersAlike left right r c d → (world_of left c).threads ≡ (world_of right d).threads
     threads_same (Goes f s a) (Goes g t b) h = says.go_threads f s g t h.0
     threads_same (Waits s a) (Waits t b) h = laws.threads s t h.0
     threads_same (Goes f s a) (Waits t b) h = absurd h
     threads_same (Waits s a) (Goes g t b) h = absurd h
 
-    reports_same : (c : Fibers F S) (d : Fibers G T) → FibersAlike left right r c d → (world_of left c).reports ≡ (world_of right d).reports
+    pub reports_same : (c : Fibers F S) (d : Fibers G T) → FibersAlike left right r c d → (world_of left c).reports ≡ (world_of right d).reports
     reports_same (Goes f s a) (Goes g t b) h = says.go_reports f s g t h.0
     reports_same (Waits s a) (Waits t b) h = says.reports s t h.0
     reports_same (Goes f s a) (Waits t b) h = absurd h
