@@ -76,6 +76,7 @@ pub static OPTIONS: [OptionName; 12] = [
 static NO_OPTIONS: [OptionName; 0] = [];
 
 /// The options that `run` may have.
+static RUN_OPTIONS: [OptionName; 7] = [
     OptionName::Input,
     OptionName::Fill,
     OptionName::Steps,
@@ -86,6 +87,7 @@ static NO_OPTIONS: [OptionName; 0] = [];
 ];
 
 /// The options that `check` may have.
+static CHECK_OPTIONS: [OptionName; 9] = [
     OptionName::Input,
     OptionName::Fill,
     OptionName::Steps,
@@ -98,6 +100,7 @@ static NO_OPTIONS: [OptionName; 0] = [];
 ];
 
 /// The options that `explain` may have.
+static EXPLAIN_OPTIONS: [OptionName; 5] = [
     OptionName::Input,
     OptionName::Fill,
     OptionName::Steps,
@@ -106,6 +109,7 @@ static NO_OPTIONS: [OptionName; 0] = [];
 ];
 
 /// The options that `corpus` may have.
+static CORPUS_OPTIONS: [OptionName; 6] = [
     OptionName::Workers,
     OptionName::Fill,
     OptionName::Steps,
