@@ -1,5 +1,5 @@
 //! The lines of the calls that stand at a report, or where a run ended.
-ghost use Rattle.std.specs.{Prelude.{◌≡◌, ◌++◌, ◌-◌, length, take, slice_get, IfOk, codes, decimal}, Option.{option_copied}};
+ghost use Rattle.std.specs.{Prelude.{◌≡◌, ◌++◌, ◌-◌, length, take, slice_get, IfOk, decimal}, Option.{option_copied}};
 ghost use Rattle.ms_ir.specs.Places.{HasSmallNumbers};
 ghost use Rattle.ms_report.specs.CallTexts.{most_calls, called_line, called_with, further_line, started_line, started_with, calls_with, calls_if};
 

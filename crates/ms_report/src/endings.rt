@@ -5,7 +5,7 @@ ghost use Rattle.ms_check_valid.specs.Formed.{Formed};
 ghost use Rattle.ms_runs.specs.Verdict.{verdict_of};
 ghost use Rattle.ms_report.specs.RunTexts.{end_text, verdict_text, verdict_line, line, closing_of};
 ghost use Rattle.ms_report.specs.WithLines.{end_site, closing_text_with};
-ghost use Rattle.ms_report.specs.CallTexts.{calls_if, ended_with, closing_calling as closing_calling_of};
+ghost use Rattle.ms_report.specs.CallTexts.{ended_with, closing_calling as closing_calling_of};
 
 use crate::calls::push_calls_if;
 use crate::names::name_of_trap;
