@@ -8,7 +8,7 @@ ghost use Rattle.ms_threads_explore.specs.Explorations.{IsExplored};
 ghost use Rattle.ms_top.specs.Command.{input_limit, only_input, setup_of as setup_with};
 ghost use Rattle.ms_top.specs.{Parts.{only_run as only_run_of, IsExploredOfGiven}, Runs.{plain_under, plain_picks_under, plain_calls_under, plain_end_calls_under}};
 ghost use Rattle.ms_threads.specs.Faithful.{IsSchedule};
-ghost use Rattle.ms_top.specs.Said.{answer_of_explored, explored_told, run_text, tried_text, IsAnswerOfSchedules};
+ghost use Rattle.ms_top.specs.Said.{answer_of_explored, run_text, tried_text, IsAnswerOfSchedules};
 
 use crate::jobs::Job;
 use crate::modules::{ModuleJob, run_under, setup_of, status_of, text_of_run};
