@@ -217,6 +217,9 @@ class Checks:
         for own in (['--schedule', '00'], ['--schedule=00']):
             ended = self.cc('--check', 'mutex.c', '--', '--steps', '100000', *own)
             self.is_so(f'--check FILE -- {" ".join(own)}: the user\'s own schedule', ended.status == 4 and 'end: spent' in ended.said, ended.status, ended.said)
+        for asked in (['--schedules', '3'], ['--schedules=3']):
+            ended = self.cc('--check', 'mutex.c', '--', '--steps', '100000', *asked)
+            self.is_so(f'--check FILE -- {" ".join(asked)}: schedules that are tried, no other one', 'schedules: 3, more' in ended.said, ended.status, ended.said)
         ended = self.cc('--explain', 'mutex.c')
         self.is_so('--explain of threads: refused by msan, which has no schedule there', ended.status == 5 and 'refused 18: threads' in ended.said, ended.status, ended.said)
 

@@ -28,7 +28,7 @@ static void *open_second(void *unused) {
 static void *move(void *unused) {
   for (int k = 0; k < 2; k++) {
     pthread_mutex_lock(&lock);
-    if (accounts[1].is_open && accounts[1].balance >= 10) { // P1: branch "accounts[1].balance"
+    if (accounts[1].is_open && accounts[1].balance >= 10) { // P1: branch "accounts[1].is_open"
       accounts[1].balance -= 10;
       accounts[0].balance += 10;
     }

@@ -29,7 +29,7 @@ static void *write_value(void *unused) {
 static void *read_value(void *unused) {
   sched_yield();
   pthread_rwlock_rdlock(&lock);
-  if (cell->is_there && cell->value != 3) // P1: branch "cell->value"
+  if (cell->is_there && cell->value != 3) // P1: branch "cell->is_there"
     puts("wrong");
   pthread_rwlock_unlock(&lock);
   return NULL;

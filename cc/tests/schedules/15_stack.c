@@ -30,7 +30,7 @@ static void *push(void *unused) {
 
 static void *look(void *unused) {
   for (int turn = 0; turn < 2; turn++) {
-    if (top && top->value == 4) // P1: branch "top->value"
+    if (top && top->value == 4) // P1: branch "top &&"
       putchar('4');
     sched_yield();
   }

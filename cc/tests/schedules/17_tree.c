@@ -40,7 +40,7 @@ int main(void) {
   }
   int early = 0;
   for (int k = 0; k < 2; k++) {
-    if (parts[k].is_done && parts[k].sum > 0) // P1: branch "parts[k].sum"
+    if (parts[k].is_done && parts[k].sum > 0) // P1: branch "parts[k].is_done"
       early++;
     pthread_join(threads[k], NULL);
   }

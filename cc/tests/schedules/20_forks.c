@@ -20,7 +20,7 @@ static void *dine(void *given) {
   if (own == 0)
     plates[0] = plates[1] = 2;
 #endif
-  while (plates[own] > 0) // P1: branch "plates[own]"
+  while (plates[own] > 0) // P1: branch "while"
     plates[own]--;
   pthread_mutex_unlock(&forks[1]);
   pthread_mutex_unlock(&forks[0]);

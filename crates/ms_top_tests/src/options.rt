@@ -165,7 +165,7 @@ words: OutOfRange at 1
 check --workers=2 f~
 ~
 ~
-words: UnknownOption at 1
+words: MissingOption at 3
 ~
 2
 ====
