@@ -1,4 +1,4 @@
-//! The calls that stand at a report: what `--calls` adds. Sites and calls were counted by hand.
+//! The calls that stand at a report and where a run traps: what `--calls` adds. Sites and calls were counted by hand.
 
 use ms_top_rows::calls::{Beside, Call, Case, Row, all_agree, on_text, saying};
 use ms_top_rows::told::all_told;
@@ -651,7 +651,7 @@ verdict: poisoned
 ~
 77
 ====
-# No report, no line.
+# No report and no trap, no line.
 check --calls f~
 define i32 @use(i32 %0) {
   %2 = icmp eq i32 %0, 0
@@ -676,6 +676,337 @@ blind: 0
 verdict: clean
 ~
 0
+====
+# Where a run traps, the calls that stand there are told.
+check --calls f~
+define i32 @d(i32 %n) {
+  %q = udiv i32 1, %n
+  ret i32 %q
+}
+define i32 @c(i32 %n) {
+  %q = call i32 @d(i32 %n)
+  ret i32 %q
+}
+define i32 @b(i32 %n) {
+  %q = call i32 @c(i32 %n)
+  ret i32 %q
+}
+define i32 @a(i32 %n) {
+  %q = call i32 @b(i32 %n)
+  ret i32 %q
+}
+define i32 @main() {
+  %q = call i32 @a(i32 0)
+  ret i32 %q
+}
+~
+~
+end: trap zero-divisor at site 1 in @d
+  called at site 3 in @c
+  called at site 5 in @b
+  called at site 7 in @a
+  called at site 9 in @main
+reports: 0
+blind: 0
+verdict: clean
+~
+3
+====
+# `run` tells them too.
+run --calls f~
+define i32 @d(i32 %n) {
+  %q = udiv i32 1, %n
+  ret i32 %q
+}
+define i32 @c(i32 %n) {
+  %q = call i32 @d(i32 %n)
+  ret i32 %q
+}
+define i32 @b(i32 %n) {
+  %q = call i32 @c(i32 %n)
+  ret i32 %q
+}
+define i32 @a(i32 %n) {
+  %q = call i32 @b(i32 %n)
+  ret i32 %q
+}
+define i32 @main() {
+  %q = call i32 @a(i32 0)
+  ret i32 %q
+}
+~
+~
+end: trap zero-divisor at site 1 in @d
+  called at site 3 in @c
+  called at site 5 in @b
+  called at site 7 in @a
+  called at site 9 in @main
+reports: 0
+blind: 0
+~
+3
+====
+# `explain` tells them beside.
+explain --calls f~
+define i32 @d(i32 %n) {
+  %q = udiv i32 1, %n
+  ret i32 %q
+}
+define i32 @c(i32 %n) {
+  %q = call i32 @d(i32 %n)
+  ret i32 %q
+}
+define i32 @b(i32 %n) {
+  %q = call i32 @c(i32 %n)
+  ret i32 %q
+}
+define i32 @a(i32 %n) {
+  %q = call i32 @b(i32 %n)
+  ret i32 %q
+}
+define i32 @main() {
+  %q = call i32 @a(i32 0)
+  ret i32 %q
+}
+~
+no report
+~
+end: trap zero-divisor at site 1 in @d
+  called at site 3 in @c
+  called at site 5 in @b
+  called at site 7 in @a
+  called at site 9 in @main
+reports: 0
+blind: 0
+verdict: clean
+~
+3
+====
+# A report has its calls, and so has the trap after it.
+check --reports 2 --calls f~
+define i32 @d(i32 %n) {
+  %c = icmp eq i32 undef, 0
+  br i1 %c, label %a, label %a
+a:
+  %q = udiv i32 1, %n
+  ret i32 %q
+}
+define i32 @main() {
+  %q = call i32 @d(i32 0)
+  ret i32 %q
+}
+~
+~
+report 1: branch at site 2 in @d, part 0, bits 0x1 of i1
+  called at site 5 in @main
+  origin 1: undef at site 1 in @d
+end: trap zero-divisor at site 3 in @d
+  called at site 5 in @main
+reports: 1
+blind: 0
+verdict: poisoned
+~
+77
+====
+# With places each line of a trap's calls has its own.
+check --where --calls f~
+define i32 @d(i32 %n) {
+  %q = udiv i32 1, %n
+  ret i32 %q
+}
+define i32 @main() {
+  %q = call i32 @d(i32 0)
+  ret i32 %q
+}
+~
+~
+end: trap zero-divisor at site 1 in @d
+    f:2: %q = udiv i32 1, %n
+  called at site 3 in @main
+    f:6: %q = call i32 @d(i32 0)
+reports: 0
+blind: 0
+verdict: clean
+~
+3
+====
+# A trap of `main` itself has no line.
+check --calls f~
+define i32 @main() {
+  %q = udiv i32 1, 0
+  ret i32 %q
+}
+~
+~
+end: trap zero-divisor at site 1 in @main
+reports: 0
+blind: 0
+verdict: clean
+~
+3
+====
+# A trap in a thread has its calls above the call that made it.
+check --calls f~
+declare i32 @pthread_create(ptr, ptr, ptr, ptr)
+declare i32 @pthread_join(i64, ptr)
+define i32 @d(i32 %n) {
+  %q = udiv i32 1, %n
+  ret i32 %q
+}
+define ptr @work(ptr %p) {
+  %r = call i32 @d(i32 0)
+  ret ptr null
+}
+define i32 @main() {
+  %id = alloca i64
+  %c = call i32 @pthread_create(ptr %id, ptr null, ptr @work, ptr null)
+  %t = load i64, ptr %id
+  %j = call i32 @pthread_join(i64 %t, ptr null)
+  ret i32 0
+}
+~
+~
+end: trap zero-divisor at site 1 in @d
+  called at site 3 in @work
+  started at site 6 in @main
+reports: 0
+blind: 0
+verdict: clean
+~
+3
+====
+# Where no more calls can stand, all those below the last stand: 1,023.
+check --calls f~
+define void @f() {
+  call void @f()
+  ret void
+}
+define i32 @main() {
+  call void @f()
+  ret i32 0
+}
+~
+~
+end: trap depth at site 1 in @f
+  called at site 1 in @f
+  called at site 1 in @f
+  called at site 1 in @f
+  called at site 1 in @f
+  called at site 1 in @f
+  called at site 1 in @f
+  called at site 1 in @f
+  called at site 1 in @f
+  called at site 1 in @f
+  called at site 1 in @f
+  called at site 1 in @f
+  called at site 1 in @f
+  called at site 1 in @f
+  called at site 1 in @f
+  called at site 1 in @f
+  called at site 1 in @f
+  called at site 1 in @f
+  called at site 1 in @f
+  called at site 1 in @f
+  called at site 1 in @f
+  called at site 1 in @f
+  called at site 1 in @f
+  called at site 1 in @f
+  called at site 1 in @f
+  called at site 1 in @f
+  called at site 1 in @f
+  called at site 1 in @f
+  called at site 1 in @f
+  called at site 1 in @f
+  called at site 1 in @f
+  called at site 1 in @f
+  called at site 1 in @f
+  called at site 1 in @f
+  called at site 1 in @f
+  called at site 1 in @f
+  called at site 1 in @f
+  called at site 1 in @f
+  called at site 1 in @f
+  called at site 1 in @f
+  called at site 1 in @f
+  called at site 1 in @f
+  called at site 1 in @f
+  called at site 1 in @f
+  called at site 1 in @f
+  called at site 1 in @f
+  called at site 1 in @f
+  called at site 1 in @f
+  called at site 1 in @f
+  called at site 1 in @f
+  called at site 1 in @f
+  called at site 1 in @f
+  called at site 1 in @f
+  called at site 1 in @f
+  called at site 1 in @f
+  called at site 1 in @f
+  called at site 1 in @f
+  called at site 1 in @f
+  called at site 1 in @f
+  called at site 1 in @f
+  called at site 1 in @f
+  called at site 1 in @f
+  called at site 1 in @f
+  called at site 1 in @f
+  called at site 1 in @f
+  more calls: 959
+reports: 0
+blind: 0
+verdict: clean
+~
+3
+====
+# Where the steps are spent no calls are told.
+check --steps 100 --calls f~
+define void @f() {
+  br label %on
+on:
+  br label %on
+}
+define i32 @main() {
+  call void @f()
+  ret i32 0
+}
+~
+~
+end: spent
+reports: 0
+blind: 0
+verdict: clean
+~
+4
+====
+# In a deadlock no thread takes the step, so no call is told.
+check --schedules 3 --calls f~
+define ptr @w(ptr %0) {
+  %2 = ptrtoint ptr %0 to i64
+  %3 = call i32 @pthread_join(i64 %2, ptr null)
+  ret ptr null
+}
+define i32 @main() {
+  %1 = alloca i64
+  %2 = inttoptr i64 2 to ptr
+  %3 = inttoptr i64 1 to ptr
+  %4 = call i32 @pthread_create(ptr %1, ptr null, ptr @w, ptr %2)
+  %5 = call i32 @pthread_create(ptr %1, ptr null, ptr @w, ptr %3)
+  %6 = call i32 @pthread_join(i64 1, ptr null)
+  ret i32 0
+}
+declare i32 @pthread_create(ptr, ptr, ptr, ptr)
+declare i32 @pthread_join(i64, ptr)
+~
+~
+end: trap deadlock at site 9 in @main
+reports: 0
+blind: 0
+verdict: clean
+schedules: 3, more
+outcomes: 1
+~
+3
 ====
 # What isn't valid is refused as without the option.
 check --calls f~

@@ -224,6 +224,6 @@ pub fn lines_of_options()
     ensures seed { option_line option.Seed ≡ codes "  --seed N        number that the module is made from: " ++ decimal 0 ++ codes " to " ++ decimal 18446744073709551615 ++ codes "\n" }
     ensures functions { option_line option.Functions ≡ codes "  --functions N   number of functions beside main: " ++ decimal 1 ++ codes " to " ++ decimal 1000 ++ codes "\n" }
     ensures runs { option_line option.Run ≡ codes "  --run           check the module instead of writing it\n" }
-    ensures calls { option_line option.Calls ≡ codes "  --calls         below each report, print the calls that stand there, the innermost first\n" }
+    ensures calls { option_line option.Calls ≡ codes "  --calls         below each report and trap, print the calls that stand there, the innermost first\n" }
     ensures locations { option_line option.Where ≡ codes "  --where         below each line that names a site, print where it stands in FILE and in the source\n" }
 {}

@@ -73,7 +73,7 @@ impl OptionName {
                 "below each line that names a site, print where it stands in FILE and in the source"
             }
             OptionName::Calls => {
-                "below each report, print the calls that stand there, the innermost first"
+                "below each report and trap, print the calls that stand there, the innermost first"
             }
         }
     }
