@@ -1,5 +1,5 @@
 #!/usr/bin/env bash
-# Checks the examples in C: that `msan check --where` of each text, and of those of -O0, reports what the table of examples/README.md
+# Checks the examples in C: that `msan check --where --calls` of each text, and of those of -O0, reports what the table of examples/README.md
 # says, and that the texts are those that examples/make.sh makes.
 #
 # Usage: examples.sh [PROGRAM], by default crates/msan/out/msan as `rt ci` builds it. The status is 1 if anything is wrong.

@@ -1,14 +1,15 @@
 //! The jobs of a list of inputs: each is a piece of its own, and as many threads make them as there are workers.
 ghost use Rattle.std.specs.Prelude.{◌≡◌, ℕ, ◌<◌, ◌≤◌, false, All, length, map, IfOk};
 ghost use Rattle.ms_ir.specs.ThreadCalls.{is_threaded};
-ghost use Rattle.ms_runs.specs.{Limits.{WithinLimits}, Plain.{plain}};
+ghost use Rattle.ms_runs.specs.Limits.{WithinLimits};
+ghost use Rattle.ms_runtime.specs.ToldRuns.{plain_told};
 ghost use Rattle.ms_corpus.specs.Jobs.{with_input, input_of};
 
 use ms_bits::{Bytes, Duplicate, List, NoMemory};
 use ms_check::CheckedModule;
 use ms_fork::{Gate, Split, Work, parallel_map};
-use ms_runs::{RunResult, Setup};
-use ms_runtime::run;
+use ms_runs::Setup;
+use ms_runtime::{ToldRun, run_told};
 use std::alloc::Global;
 use std::thread::Threads;
 
@@ -18,6 +19,8 @@ struct InputRuns<'a> {
     module: &'a CheckedModule,
     inputs: &'a [Bytes],
     setup: &'a Setup,
+    /// Whether the calls at reports are wanted.
+    calls: bool,
 }
 
 impl<'a> InputRuns<'a> {
@@ -36,20 +39,21 @@ impl<'a> InputRuns<'a> {
 }
 
 impl<'a> Work for InputRuns<'a> {
-    type Item = RunResult;
+    type Item = ToldRun;
 
     ghost can = { λ work k. (k < length work.inputs.now) × (is_threaded work.module.now ≡ false) × WithinLimits (with_input work.setup.now (input_of work.inputs.now k)) };
 
-    ghost answer = { λ work k. plain work.module.now (with_input work.setup.now (input_of work.inputs.now k)) };
+    ghost answer = { λ work k. plain_told work.calls work.module.now (with_input work.setup.now (input_of work.inputs.now k)) };
 
-    fn make(&self, alloc: Global, index: usize) -> Result<RunResult, NoMemory> {
+    fn make(&self, alloc: Global, index: usize) -> Result<ToldRun, NoMemory> {
         let setup = self.setup_of(alloc, &self.inputs[index])?;
-        run(alloc, self.module, &setup)
+        run_told(alloc, self.module, &setup, self.calls)
     }
 }
 
 /// Runs a module without thread calls on each of the inputs, with the fill, the bound of steps and the limit of reports of `setup`:
-/// the list of what each run alone gives, in the order of the inputs, for every number of workers and every gate.
+/// the list of what each run alone tells, in the order of the inputs, for every number of workers and every gate. With `calls` that
+/// has the calls at each report.
 ///
 /// Each job enters the gate with its number, counted from 0, before it does anything else. The list is cut in halves, and at
 /// most `workers` threads are at work at once; where no thread can be made, jobs run one after another.
@@ -59,18 +63,20 @@ pub fn run_all<R: Threads + Sync, G: Gate + Sync>(
     j: &CheckedModule,
     inputs: &[Bytes],
     setup: &Setup,
+    calls: bool,
     workers: u8,
     gate: &G,
-) -> Result<List<RunResult>, NoMemory>
+) -> Result<List<ToldRun>, NoMemory>
     requires workers { (1 ≤ workers) × (workers ≤ 8) }
     requires limits { All (λ input. WithinLimits (with_input setup.now input)) inputs.now }
     requires alone { is_threaded j.now ≡ false }
-    ensures { IfOk result (λ all. all ≡ map (λ input. plain j.now (with_input setup.now input)) inputs.now) }
+    ensures { IfOk result (λ all. all ≡ map (λ input. plain_told calls j.now (with_input setup.now input)) inputs.now) }
 {
     let work = InputRuns {
         module: j,
         inputs,
         setup,
+        calls,
     };
     let split = Split {
         most: 1,

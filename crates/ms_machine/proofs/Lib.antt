@@ -5,3 +5,4 @@ pub mod Placing
 pub mod Naming
 pub mod Typing
 pub mod FramesDue
+pub mod CallSites

@@ -5,6 +5,7 @@
 //! afterwards stand for what the definitions make of it.
 #![tactic(auto)]
 
+mod callers;
 mod inspect;
 mod names;
 mod places;
@@ -13,6 +14,7 @@ mod spawning;
 mod starting;
 mod words;
 
+pub use callers::{calls, calls_below};
 pub use inspect::{frames, place, word};
 pub use running::{advance, printed_types, resume};
 pub use spawning::spawn;

@@ -40,7 +40,7 @@ nothing_more : (b : ℕ) (bs rest : List ℕ) → is_empty bs ≡ true → (b �
 nothing_more b [] rest none = refl
 nothing_more b (c ∷ bs) rest none = absurd (true≢false (sym none))
 
-first_cut : (line rest : List ℕ) → ends_first line ≡ true → lines_of (line ++ rest) ≡ line ∷ lines_of rest
+pub first_cut : (line rest : List ℕ) → ends_first line ≡ true → lines_of (line ++ rest) ≡ line ∷ lines_of rest
 first_cut [] rest is = absurd (true≢false (sym is))
 first_cut (b ∷ bs) rest is = elim (is_newline b) as (λ t. (if t then is_empty bs else ends_first bs) ≡ true
     → (if t then (b ∷ []) ∷ lines_of (bs ++ rest) else in_front b (lines_of (bs ++ rest))) ≡ (b ∷ bs) ∷ lines_of rest) [

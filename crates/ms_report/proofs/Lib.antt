@@ -5,3 +5,6 @@ mod Indents
 pub mod Unindented
 pub mod TrailLines
 mod SiteCounts
+pub mod FewCalls
+pub mod CallLines
+pub mod Uncalled

@@ -25,7 +25,7 @@ of_value frame x = joined (joined (joined (literal (codes "%") refl) (of_name x)
 of_byte : (a : ℕ) → Single (byte_text a)
 of_byte a = joined (literal (codes "byte 0x") refl) (of_hexadecimal (a % 2 ^ 64))
 
-of_source : (s : Source) → Single (source_text s)
+pub of_source : (s : Source) → Single (source_text s)
 of_source (Root n) = joined (literal (codes "root ") refl) (of_number n)
 of_source (Value frame x) = of_value frame x
 of_source (Byte a) = of_byte a
@@ -34,10 +34,10 @@ of_target : (t : Target) (k : ℕ) → Single (target_text t k)
 of_target (target.Value frame x) k = of_value frame x
 of_target (target.Bytes a n) k = of_byte (a + k)
 
-of_way : (move : Move) (k : ℕ) → Single (way_text move k)
+pub of_way : (move : Move) (k : ℕ) → Single (way_text move k)
 of_way move k = joined (joined (of_source (came_from move.from move.to k)) (literal (codes " to ") refl)) (of_target move.to k)
 
-of_move : (m : Module) (index site : ℕ) → Single (move_text m index site)
+pub of_move : (m : Module) (index site : ℕ) → Single (move_text m index site)
 of_move m index site =
     joined (joined (joined (joined (joined (joined (literal (codes "  move ") refl) (of_number index)) (literal (codes ": site ") refl)) (of_number site))
     (literal (codes " in ") refl)) (of_function (function_of m site))) (literal (codes ", ") refl)

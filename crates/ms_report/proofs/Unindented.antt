@@ -31,7 +31,7 @@ module _ (under : Lines) (all : (site : ℕ) → IsIndented (under site)) where
   origin_stays n text single =
       stays (origin_line n text) (line_after (joined (joined (joined (literal (codes "  origin ") refl) (of_number n)) (literal (codes ": ") refl)) single) newline) refl
 
-  report_stays : (m : Module) (n : ℕ) (r : Report) → Leaves (report_line m n r) (report_line m n r)
+  pub report_stays : (m : Module) (n : ℕ) (r : Report) → Leaves (report_line m n r) (report_line m n r)
   report_stays m n r = stays (report_line m n r) (line_after (joined (of_use m n r) (of_bits r)) newline) refl
 
   chain_leaves : (m : Module) (n : ℕ) (os : List Origin) → Leaves (chain_with under m n os) (chain_text m n os)
@@ -39,7 +39,7 @@ module _ (under : Lines) (all : (site : ℕ) → IsIndented (under site)) where
   chain_leaves m n (o ∷ os) =
       both (without (origin_stays n (origin_text m o) (of_origin m o)) (goes_under under (origin_site m o) all)) (chain_leaves m (earlier n o) os)
 
-  origins_leave : (m : Module) (n : ℕ) (os : List Origin) → Leaves (origins_with under m n os) (origins_text m n os)
+  pub origins_leave : (m : Module) (n : ℕ) (os : List Origin) → Leaves (origins_with under m n os) (origins_text m n os)
   origins_leave m n [] = origin_stays n (codes "unknown") (literal _ refl)
   origins_leave m n (o ∷ os) = chain_leaves m n (o ∷ os)
 
@@ -56,18 +56,18 @@ module _ (under : Lines) (all : (site : ℕ) → IsIndented (under site)) where
   value_line : (name value : List ℕ) → Single name → Single value → IsLine (line name value)
   value_line name value named single = line_after (joined (joined named (literal (codes ": ") refl)) single) newline
 
-  verdict_leaves : (verdict : Bool) (r : RunResult) → Leaves (verdict_line verdict r) (verdict_line verdict r)
+  pub verdict_leaves : (verdict : Bool) (r : RunResult) → Leaves (verdict_line verdict r) (verdict_line verdict r)
   verdict_leaves false r = nothing
   verdict_leaves true r =
       stays (line (codes "verdict") (verdict_text (verdict_of r))) (value_line (codes "verdict") _ (literal _ refl) (of_verdict (verdict_of r))) refl
 
-  end_stays : (m : Module) (r : RunResult) → Leaves (line (codes "end") (end_text m r.«end»)) (line (codes "end") (end_text m r.«end»))
+  pub end_stays : (m : Module) (r : RunResult) → Leaves (line (codes "end") (end_text m r.«end»)) (line (codes "end") (end_text m r.«end»))
   end_stays m r = stays (line (codes "end") (end_text m r.«end»)) (value_line (codes "end") _ (literal _ refl) (of_end m r.«end»)) refl
 
-  reports_stay : (n : ℕ) → Leaves (line (codes "reports") (decimal n)) (line (codes "reports") (decimal n))
+  pub reports_stay : (n : ℕ) → Leaves (line (codes "reports") (decimal n)) (line (codes "reports") (decimal n))
   reports_stay n = stays (line (codes "reports") (decimal n)) (value_line (codes "reports") _ (literal _ refl) (of_number n)) refl
 
-  blind_stays : (n : ℕ) → Leaves (line (codes "blind") (decimal n)) (line (codes "blind") (decimal n))
+  pub blind_stays : (n : ℕ) → Leaves (line (codes "blind") (decimal n)) (line (codes "blind") (decimal n))
   blind_stays n = stays (line (codes "blind") (decimal n)) (value_line (codes "blind") _ (literal _ refl) (of_number n)) refl
 
   closing_leaves : (m : Module) (r : RunResult) (verdict : Bool) → Leaves (closing_text_with under m r verdict) (closing_of m r verdict)
@@ -94,7 +94,7 @@ module _ (under : Lines) (all : (site : ℕ) → IsIndented (under site)) where
   schedule_stays false schedule = nothing
   schedule_stays true schedule = stays (schedule_line true schedule) (value_line (codes "schedule") _ (literal _ refl) (of_hex schedule)) refl
 
-  schedules_stay : (tried : ℕ) (all_tried : Bool) (outcomes : ℕ) (shown : Bool) (schedule : List ℕ)
+  pub schedules_stay : (tried : ℕ) (all_tried : Bool) (outcomes : ℕ) (shown : Bool) (schedule : List ℕ)
       → Leaves (schedules_text tried all_tried outcomes shown schedule) (schedules_text tried all_tried outcomes shown schedule)
   schedules_stay tried all_tried outcomes shown schedule = both (both (tried_stays tried all_tried) (outcomes_stay outcomes)) (schedule_stays shown schedule)
 

@@ -22,7 +22,7 @@ chain_alone m n (o ∷ os) =
     ap₂ (λ (under rest : List ℕ). first ++ under ++ rest) (none_under (origin_site m o)) (chain_alone m (earlier n o) os)
     ∙ ap (λ (t : List ℕ). t ++ chain_text m (earlier n o) os) (append-nil first)
 
-origins_alone : (m : Module) (n : ℕ) (os : List Origin) → origins_with no_lines m n os ≡ origins_text m n os
+pub origins_alone : (m : Module) (n : ℕ) (os : List Origin) → origins_with no_lines m n os ≡ origins_text m n os
 origins_alone m n [] = refl
 origins_alone m n (o ∷ os) = chain_alone m n (o ∷ os)
 

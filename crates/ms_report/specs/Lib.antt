@@ -4,6 +4,9 @@ pub mod FaultTexts
 pub mod RefusalTexts
 pub mod WordsTexts
 pub mod WithLines
+pub mod CallTexts
+pub mod Uncalled
+pub mod BriefTexts
 pub mod TrailTexts
 pub mod SummaryTexts
 pub mod SchedulesTexts

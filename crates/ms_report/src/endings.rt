@@ -1,17 +1,19 @@
 //! The closing lines of a run: how it ended, how many reports and blind uses it has, its verdict.
-ghost use Rattle.std.specs.Prelude.{◌≡◌, ◌++◌, IfOk, codes, decimal};
+ghost use Rattle.std.specs.{Prelude.{◌≡◌, ◌++◌, IfOk, codes, decimal}, Option.{option_copied}};
 ghost use Rattle.ms_ir.specs.Places.{HasSmallNumbers};
 ghost use Rattle.ms_check_valid.specs.Formed.{Formed};
 ghost use Rattle.ms_runs.specs.Verdict.{verdict_of};
 ghost use Rattle.ms_report.specs.RunTexts.{end_text, verdict_text, verdict_line, line, closing_of};
 ghost use Rattle.ms_report.specs.WithLines.{end_site, closing_text_with};
+ghost use Rattle.ms_report.specs.CallTexts.{ended_with, closing_calling as closing_calling_of};
 
+use crate::calls::push_calls_if;
 use crate::names::name_of_trap;
 use crate::site_lines::{NoLines, SiteLines, push_under};
 use crate::sites::push_site;
 use ms_bits::NoMemory;
 use ms_ir::Module;
-use ms_runs::{End, RunResult};
+use ms_runs::{Calls, End, RunResult};
 use ms_write_values::push_number;
 use std::alloc::Global;
 
@@ -89,19 +91,39 @@ fn push_verdict(text: &mut Vec<u8>, r: &RunResult, asked: bool) -> Result<(), No
     Ok(())
 }
 
-/// Adds the closing lines of a run, with the verdict where that is asked for, and the lines under the site of a trap.
+/// Adds the lines of the calls that stand where a run ended, if it trapped and they are told.
+fn push_ended<L: SiteLines>(
+    text: &mut Vec<u8>,
+    m: &Module,
+    end: End,
+    calls: Option<&Calls>,
+    under: &L,
+) -> Result<(), NoMemory>
+    requires { HasSmallNumbers m.now }
+    ensures { IfOk result (λ _. text.new.items ≡ text.old.items ++ ended_with (L.lines under.now) m.now end (option_copied calls.entry)) }
+{
+    match end {
+        End::Trap { .. } => push_calls_if(text, m, calls, under),
+        _ => Ok(()),
+    }
+}
+
+/// Adds the closing lines of a run, with the verdict where that is asked for, and under those of a trap these lines of its site and
+/// those of its calls that are told.
 fn push_closing<L: SiteLines>(
     text: &mut Vec<u8>,
     m: &Module,
     r: &RunResult,
+    calls: Option<&Calls>,
     verdict: bool,
     under: &L,
 ) -> Result<(), NoMemory>
     requires { HasSmallNumbers m.now }
-    ensures { IfOk result (λ _. text.new.items ≡ text.old.items ++ closing_text_with (L.lines under.now) m.now r.now verdict) }
+    ensures { IfOk result (λ _. text.new.items ≡ text.old.items ++ closing_calling_of (L.lines under.now) m.now r.now (option_copied calls.entry) verdict) }
 {
     push_end_line(text, m, r.end)?;
     push_under(text, site_of_end(r.end), under)?;
+    push_ended(text, m, r.end, calls, under)?;
     push_count(text, b"reports", r.reports.as_slice().len() as u64)?;
     push_count(text, b"blind", r.blind)?;
     push_verdict(text, r, verdict)
@@ -128,7 +150,22 @@ pub fn closing_with<L: SiteLines>(
     requires { Formed m.now }
     ensures { IfOk result (λ text. text.items ≡ closing_text_with (L.lines under.now) m.now r.now verdict) }
 {
+    closing_calling(alloc, m, r, None, verdict, under)
+}
+
+/// The same, and below the line of a trap those of the calls that stand there, if they are told.
+pub fn closing_calling<L: SiteLines>(
+    alloc: Global,
+    m: &Module,
+    r: &RunResult,
+    calls: Option<&Calls>,
+    verdict: bool,
+    under: &L,
+) -> Result<Vec<u8>, NoMemory>
+    requires { Formed m.now }
+    ensures { IfOk result (λ text. text.items ≡ closing_calling_of (L.lines under.now) m.now r.now (option_copied calls.entry) verdict) }
+{
     let mut text = Vec::new(alloc);
-    push_closing(&mut text, m, r, verdict, under)?;
+    push_closing(&mut text, m, r, calls, verdict, under)?;
     Ok(text)
 }

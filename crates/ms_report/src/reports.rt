@@ -4,13 +4,15 @@ ghost use Rattle.ms_ir.specs.{Places.{HasSmallNumbers}, Roots.{roots_of, root_nu
 ghost use Rattle.ms_check_valid.specs.Formed.{Formed};
 ghost use Rattle.ms_report.specs.ReportTexts.{hexadecimal, kind_text, root_text, origin_text, origin_line, earlier as earlier_of, use_text, bits_text, report_line, report_text_of};
 ghost use Rattle.ms_report.specs.WithLines.{origin_site, under_line, chain_with, origins_with, reports_with};
+ghost use Rattle.ms_report.specs.CallTexts.{reports_calling};
 
+use crate::calls::push_calls_at;
 use crate::names::{name_of_kind, name_of_root};
 use crate::site_lines::{NoLines, SiteLines, push_under};
 use crate::sites::push_site;
 use ms_bits::NoMemory;
 use ms_ir::{Module, Root, roots};
-use ms_runs::{Origin, Report, RunResult};
+use ms_runs::{Calls, Origin, Report, RunResult};
 use ms_write_values::push_number;
 use std::alloc::Global;
 
@@ -212,31 +214,42 @@ impl<L: SiteLines> Rooted<'_, L> {
         self.under.push_lines(text, report.site)
     }
 
-    /// Adds the lines of reports, which are counted from 1.
-    fn push_reports(&self, text: &mut Vec<u8>, reports: &[Report]) -> Result<(), NoMemory>
+    /// Adds the lines of reports, which are counted from 1, each with those of its calls.
+    fn push_reports(
+        &self,
+        text: &mut Vec<u8>,
+        reports: &[Report],
+        calls: &[Calls],
+    ) -> Result<(), NoMemory>
         requires numbers { HasSmallNumbers self.now.m.now }
         requires roots { self.now.roots.now ≡ roots_of self.now.m.now }
-        ensures { IfOk result (λ _. text.new.items ≡ text.old.items ++ reports_with (L.lines self.now.under.now) self.now.m.now 1 reports.now) }
+        ensures { IfOk result (λ _. text.new.items ≡ text.old.items ++ reports_calling (L.lines self.now.under.now) self.now.m.now calls.now 0 reports.now) }
     {
         let mut index = 0;
         while index < reports.len() {
             let report = &reports[index];
             let chain = report.chain.as_slice();
-            index += 1;
-            self.push_report(text, index as u64, report)?;
+            self.push_report(text, index as u64 + 1, report)?;
+            push_calls_at(text, self.m, calls, index, self.under)?;
             self.push_way(text, report.origin, chain)?;
+            index += 1;
         }
         Ok(())
     }
 
     /// The lines of reports.
-    fn text_of(&self, alloc: Global, reports: &[Report]) -> Result<Vec<u8>, NoMemory>
+    fn text_of(
+        &self,
+        alloc: Global,
+        reports: &[Report],
+        calls: &[Calls],
+    ) -> Result<Vec<u8>, NoMemory>
         requires numbers { HasSmallNumbers self.now.m.now }
         requires roots { self.now.roots.now ≡ roots_of self.now.m.now }
-        ensures { IfOk result (λ text. text.items ≡ reports_with (L.lines self.now.under.now) self.now.m.now 1 reports.now) }
+        ensures { IfOk result (λ text. text.items ≡ reports_calling (L.lines self.now.under.now) self.now.m.now calls.now 0 reports.now) }
     {
         let mut text = Vec::new(alloc);
-        self.push_reports(&mut text, reports)?;
+        self.push_reports(&mut text, reports, calls)?;
         Ok(text)
     }
 }
@@ -261,6 +274,22 @@ pub fn report_text_with<L: SiteLines>(
     requires { Formed m.now }
     ensures { IfOk result (λ text. text.items ≡ reports_with (L.lines under.now) m.now 1 r.now.reports) }
 {
+    report_text_calling(alloc, m, r, &[], under)
+}
+
+/// The same, and below the line of each report those of the calls that stood there, the innermost first: a line for each of the
+/// first 64, how many more there are, and for a thread the call that made it. Reports after the last of `calls` have no such
+/// lines.
+pub fn report_text_calling<L: SiteLines>(
+    alloc: Global,
+    m: &Module,
+    r: &RunResult,
+    calls: &[Calls],
+    under: &L,
+) -> Result<Vec<u8>, NoMemory>
+    requires { Formed m.now }
+    ensures { IfOk result (λ text. text.items ≡ reports_calling (L.lines under.now) m.now calls.now 0 r.now.reports) }
+{
     let reports = r.reports.as_slice();
     if reports.is_empty() {
         return Ok(Vec::new(alloc));
@@ -271,5 +300,5 @@ pub fn report_text_with<L: SiteLines>(
         roots: roots.as_slice(),
         under,
     };
-    rooted.text_of(alloc, reports)
+    rooted.text_of(alloc, reports, calls)
 }

@@ -60,12 +60,13 @@ pub fn first_calls()
 {}
 
 /// Each report of a plain run has its calls, and so has each report of the shadow run of a module, where a faithful form
-/// tells the same calls. Each blind use of a shadow run has a site, and so has each of a faithful form that tells the same
-/// sites; so the counts of the places of blind uses sum to their number.
+/// tells the same calls. Each blind use of a plain run and of a shadow run has a site, so the counts of the places of
+/// blind uses sum to their number.
 pub fn one_each()
     ensures plain_runs { (m : Module) (setup : Setup) → length (plain_calls m setup) ≡ length (plain m setup).reports }
     ensures shadow_runs { (m j : Module) → Faithful m j → SameCalls m j → (setup : Setup) → Fair setup → length (shadow_calls m setup) ≡ length (shadow m setup).reports }
     ensures shadow_blind { (m : Module) (setup : Setup) → length (shadow_blind m setup) ≡ (shadow m setup).blind }
-    ensures plain_blind { (m j : Module) → Faithful m j → SameCalls m j → (setup : Setup) → Fair setup → length (plain_blind j setup) ≡ (plain j setup).blind }
+    ensures plain_blind { (m : Module) (setup : Setup) → length (plain_blind m setup) ≡ (plain m setup).blind }
     ensures places { (m : Module) (setup : Setup) → uses_at (places_of (shadow_blind m setup)) ≡ (shadow m setup).blind }
+    ensures plain_places { (m : Module) (setup : Setup) → uses_at (places_of (plain_blind m setup)) ≡ (plain m setup).blind }
 {}

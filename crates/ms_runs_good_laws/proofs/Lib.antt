@@ -31,4 +31,5 @@ pub mod SitedShadow
 pub mod WordCallTypes
 pub mod FibersKept
 pub mod ThreadsApart
+pub mod CountsGrow
 pub mod ReportsGrow

@@ -33,7 +33,7 @@ use Rattle.ms_runs_good_laws.specs.GoodEffects.{FitsEffect, GoodMoved}
 use Rattle.ms_check_valid.specs.Valid.{Valid}
 use Rattle.ms_check_valid.proofs.AtInstructions.{fits_at}
 use Rattle.ms_runs_good_laws.proofs.NextFrames.{stands_formed}
-use Rattle.ms_runs_good_laws.proofs.Moves.{put_func, moves_good}
+use Rattle.ms_runs_good_laws.proofs.Moves.{moves_good}
 use Rattle.ms_runs_good_laws.proofs.Readings.{plain_unset, plain_read}
 use Rattle.ms_runs_good_laws.specs.GoodWorlds.{GoodWorld, FitsCell, GoodAfter}
 use Rattle.ms_runs_good_laws.specs.Straight.{Answers, HaveTypes}
@@ -64,9 +64,9 @@ abbrev pub AtRest : Module → List (Frame ℕ) → List Inst → Type 0
 AtRest m [] insts = ⊥
 AtRest m (frame ∷ below) insts = rest_of m frame ≡ insts
 
--- the innermost frame is one of the same function above as many
+-- the innermost frame is one of the same function above as many, one instruction on in its block
 abbrev pub SameTop : (before after : List (Frame ℕ)) → Type 0
-SameTop (frame ∷ below) (next ∷ lower) = (next.func ≡ frame.func) × (length lower ≡ length below)
+SameTop (frame ∷ below) (next ∷ lower) = (next.func ≡ frame.func) × (length lower ≡ length below) × (next.block ≡ frame.block) × (next.place ≡ frame.place + 1)
 SameTop before after = ⊥
 
 -- and stands before these instructions
@@ -82,10 +82,14 @@ put_rest : (m : Module) (frame : Frame ℕ) (x : Option Name) (v : ℕ) (insts :
 put_rest m frame None v insts e = e
 put_rest m frame (Some x) v insts e = e
 
+put_top : (frame : Frame ℕ) (below : List (Frame ℕ)) (x : Option Name) (v : ℕ) → SameTop (frame ∷ below) (put frame x v ∷ below)
+put_top frame below None v = (refl, refl, refl, refl)
+put_top frame below (Some y) v = (refl, refl, refl, refl)
+
 moved_on : (given : Setting) (m : Module) (site : ℕ) (x : Option Name) (words : List ℕ) (frame : Frame ℕ) (below : List (Frame ℕ)) (insts : List Inst) (good : World → Type 0) (r : Option Ty) (e : Effect)
     → drop (frame.place + 1) (insts_at m frame.func frame.block) ≡ insts → Answers good r e → MovedOn m insts (frame ∷ below) (after_effect plain_reading given m site x words (λ v w. v) (λ v w. w) frame below e)
-moved_on given m site x words frame below insts good r (Gives v w) next h = (put_rest m frame x v insts next, (sym (put_func frame x v), refl))
-moved_on given m site x words frame below insts good r (Does w) next h = (next, (refl, refl))
+moved_on given m site x words frame below insts good r (Gives v w) next h = (put_rest m frame x v insts next, put_top frame below x v)
+moved_on given m site x words frame below insts good r (Does w) next h = (next, (refl, refl, refl, refl))
 moved_on given m site x words frame below insts good r (Goes to w) next h = absurd h
 moved_on given m site x words frame below insts good r (Enters n w) next h = absurd h
 moved_on given m site x words frame below insts good r (Leaves w) next h = absurd h

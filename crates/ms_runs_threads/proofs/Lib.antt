@@ -1,3 +1,4 @@
 pub mod Follow
 pub mod CallsAlike
 pub mod BlindAlike
+pub mod EndsAlike

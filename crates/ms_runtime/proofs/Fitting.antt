@@ -12,7 +12,6 @@ use Rattle.ms_ir.specs.Instructions.{operands}
 use Rattle.ms_ir.specs.Places.{IsPlaceOf, inst_at}
 use Rattle.ms_ir.specs.Signatures.{runtime_signature, is_thread_call}
 use Rattle.ms_ir.specs.declared.syntax.Module.{Module}
-use Rattle.ms_runs.specs.declared.runs.End.{End}
 use Rattle.ms_runs.specs.declared.runs.Setup.{Setup}
 use Rattle.ms_runs.specs.World.{World, Setting, Effect, Gives, Does, Ends}
 use Rattle.ms_runs.specs.Threads.{fibers_of}
@@ -39,7 +38,7 @@ use Rattle.ms_runtime.specs.declared.runs.Running.{Running}
 use Rattle.ms_runtime.specs.declared.reports.ReportLimit.{ReportLimit}
 use Rattle.ms_runtime.specs.Served.{limit_of, Fits, FitsAsked, IsWithin, CanAnswer}
 use Rattle.ms_runtime.specs.Answering.{HasRoom}
-use Rattle.ms_runtime.specs.Going.{Asking, HasSlack, Turned}
+use Rattle.ms_runtime.specs.Going.{Asking, HasSlack}
 
 pub if_ok : {A E : Type 0} {P Q : A → Type 0} (r : Result A E) → ((a : A) → P a → Q a) → IfOk r P → IfOk r Q
 if_ok (Ok a) f h = f a h
@@ -48,10 +47,6 @@ if_ok (Err e) f h = tt
 pub if_ok_both : {A E : Type 0} {P R Q : A → Type 0} (r : Result A E) → ((a : A) → P a → R a → Q a) → IfOk r P → IfOk r R → IfOk r Q
 if_ok_both (Ok a) f h k = f a h k
 if_ok_both (Err e) f h k = tt
-
-pub turned_from : (m : Module) (u : Setup) (far far' : ℕ) (e : Option End) (r : Running) → far' ≤ far → Turned m u far' e r → Turned m u far e r
-turned_from m u far far' None r le t = (t.0, omega (arith, le, t.1))
-turned_from m u far far' (Some e) r le t = t
 
 -- the words of a call for which a fiber waits
 pub arguments_within : (m : Module) → Valid m → (u : Setup) (call : HostCall) (fiber : Fiber) (frames : List (Frame ℕ)) → AllStandFor m (frames_of fiber) frames → FirstWaits m u frames call → (types : List Ty) × AreArguments call types

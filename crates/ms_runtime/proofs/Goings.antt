@@ -1,5 +1,5 @@
 -- From pause to pause a run keeps what it answers.
-use Rattle.std.proofs.Common.{◌≡◌, ◌<◌, ◌≤◌, ◌+◌, ◌-◌, ◌*◌, ◌^◌, ℕ, zero, suc, Bool, true, false, eqb, if◌then◌else◌, List, [], ◌∷◌, slice_get, length, min, refl, sym, ap, subst, ◌∙◌, arith, Option}
+use Rattle.std.proofs.Common.{◌≡◌, ◌<◌, ◌≤◌, ◌+◌, ◌-◌, ◌*◌, ◌^◌, ℕ, zero, suc, Bool, true, false, eqb, if◌then◌else◌, List, [], ◌∷◌, slice_get, length, min, refl, sym, ap, subst, ◌∙◌, arith, Option, Some}
 use Rattle.ms_ir.specs.declared.syntax.Module.{Module}
 use Rattle.ms_ir.specs.declared.syntax.Name.{Name}
 use Rattle.ms_ir.specs.declared.syntax.Ty.{Ty}
@@ -9,14 +9,17 @@ use Rattle.ms_ir.specs.declared.syntax.Inst.{Inst}
 use Rattle.ms_ir.specs.declared.calls.RuntimeFn.TheVariants as function
 use Rattle.ms_ir.specs.ThreadCalls.{is_asked, calls_thread, is_threaded}
 use Rattle.ms_ir.specs.Instructions.{over_funcs, func_index}
+use Rattle.ms_runs.specs.declared.runs.Calls.{Calls}
 use Rattle.ms_runs.specs.declared.runs.End.{End}
 use Rattle.ms_runs.specs.declared.runs.End.TheVariants as «end»
+use Rattle.ms_runs.specs.declared.runs.Report.{Report}
 use Rattle.ms_runs.specs.declared.runs.Setup.{Setup}
 use Rattle.ms_runs.specs.declared.runs.RunResult.{RunResult}
 use Rattle.ms_runs.specs.World.{World, result, stuck}
 use Rattle.ms_runs.specs.Memory.{end_block, end_blocks}
 use Rattle.ms_runs.specs.Control.{Frame, release, given_back}
 use Rattle.ms_runs.specs.Plain.{PlainState, go_on, run, plain, plain_start, Stop}
+use Rattle.ms_runs.specs.Calls.{main_calls, tell, plain_calls, plain_end_calls}
 use Rattle.ms_runs_good_laws.proofs.ThreadsApart.{none_called}
 use Rattle.ms_runs_good_laws.proofs.Frames.{same_insts}
 use Rattle.ms_check_valid.specs.Formed.{Formed}
@@ -41,6 +44,8 @@ use Rattle.ms_runtime.specs.declared.runs.Running.{Running}
 use Rattle.ms_runtime.specs.Served.{IsBeside, CanAnswer}
 use Rattle.ms_runtime.specs.Answering.{AnsweredFor}
 use Rattle.ms_runtime.specs.Going.{ahead, Begins, Going, LeftAfter, HasSlack, Asking, Paused, Answers, Over}
+use Rattle.ms_runtime.proofs.EndedSteps.{ends_from, rest_ends, ends_due, ends_within}
+use Rattle.ms_runtime.proofs.ToldSteps.{tells, rest_told, one_grows, told_spent, told_ends, told_due, told_within, told_early}
 
 -- ---- numbers
 
@@ -149,7 +154,7 @@ module _ (m : Module) (u : Setup) where
         told_over «end».Spent h.last.world g.beside r' (sym g.same ∙ run_spent (λ (s : PlainState). s.world) (step_of m u) r.budget.left g.state h.last h.came) h.stands.shows still_beside still_few
 
     -- a step ended it
-    pub going_ended : (e : End) → HasEnded m u g.beside g.state r.budget.left e r'.world → Over m u e r'
+    pub going_ended : (e : End) → HasEnded m u g.beside g.state r.budget.left e r'.fiber r'.world → Over m u e r'
     going_ended e h =
         told_over e h.last g.beside r' (sym g.same ∙ run_ends (λ (s : PlainState). s.world) (step_of m u) r.budget.left h.done g.state h.before e h.last h.few h.came h.ends.step) h.shows still_beside still_few
 
@@ -203,6 +208,38 @@ module _ (m : Module) (u : Setup) where
             same = ap (go_on (goes b.0)) (sym h.same.step) ∙ sym (run_due (λ (s : PlainState). s.world) (step_of m u) r.budget.left b.0 h.done g.state h.before b.1.1 h.came) ∙ g.same;
           }
 
+      -- what is told from there on is the rest
+      pub going_tells : (calls : List Calls) → length calls ≡ length r.told.reports
+          → tells m u r.budget.left g.state calls ≡ rest_told m u going_asks.asking.within going_asks.rest calls (step_of m u going_asks.asking.within)
+      unfolding going_asks
+      going_tells calls count =
+          let b : (rest : ℕ) × (LeftAfter call.asked rest r'.budget.left × (rest + h.done + 1 ≡ r.budget.left)) = after m u g.beside g.state r r' g.keeping.room call h made in
+          let up : length h.before.world.reports ≤ length h.within.world.reports = h.same.reports in
+          let same : length h.within.world.reports ≡ length r.told.reports = ap length (h.stands.shows.reports ∙ g.told.reports) in
+          told_due m u r.budget.left b.0 h.done g.state h.before calls b.1.1 h.came (omega (arith, up, same, count)) ∙ told_within m u h.before h.within h.same b.0 calls
+
+      -- and so is what is said of its end
+      pub going_ends : ends_from m u r.budget.left g.state ≡ rest_ends m u going_asks.asking.within going_asks.rest (step_of m u going_asks.asking.within)
+      unfolding going_asks
+      going_ends =
+          let b : (rest : ℕ) × (LeftAfter call.asked rest r'.budget.left × (rest + h.done + 1 ≡ r.budget.left)) = after m u g.beside g.state r r' g.keeping.room call h made in
+          ends_due m u r.budget.left b.0 h.done g.state h.before b.1.1 h.came ∙ ends_within m u h.before h.within h.same b.0
+
+    -- nor is more told where no step is left, or a step ended the run
+    told_as : (calls : List Calls) → length calls ≡ length r.told.reports → (last : World) → last.reports ≡ g.beside.reports → length last.reports ≤ length calls
+    told_as calls count last e = let same : length last.reports ≡ length r.told.reports = ap length (e ∙ g.told.reports) in omega (arith, same, count)
+
+    pub spent_tells : (calls : List Calls) → length calls ≡ length r.told.reports → IsSpent (IsRunning m u g.beside) m u g.state r.budget.left r'.fiber r'.world r'.budget.left → tells m u r.budget.left g.state calls ≡ calls
+    spent_tells calls count h = told_spent m u r.budget.left g.state h.last calls h.came (told_as calls count h.last.world h.stands.shows.reports)
+
+    pub ended_tells : (calls : List Calls) → length calls ≡ length r.told.reports → (e : End) → HasEnded m u g.beside g.state r.budget.left e r'.fiber r'.world → tells m u r.budget.left g.state calls ≡ calls
+    ended_tells calls count e h = told_ends m u r.budget.left h.done g.state h.before e h.last calls h.few h.came h.ends.step (told_as calls count h.last h.shows.reports)
+
+    pub finished_tells : (calls : List Calls) → length calls ≡ length r.told.reports → (word : ℕ) → HasFinished m u g.beside g.state r.budget.left word r'.world r'.budget.left → tells m u r.budget.left g.state calls ≡ calls
+    finished_tells calls count word h =
+        told_ends m u r.budget.left h.done g.state h.before stuck h.within.world calls (let c : r'.budget.left + h.done + 1 ≡ r.budget.left = h.counted in omega (arith, c)) h.came h.ends
+        (told_as calls count h.within.world (sym (ap (λ (x : RunResult). x.reports) (shown_back stuck h.finishes.frame h.within.world)) ∙ h.finishes.shows.reports))
+
   -- ---- answers
 
   -- where it waits is an instruction of the module
@@ -237,11 +274,61 @@ module _ (m : Module) (u : Setup) where
         stops_step (asked.External x) last h = h.0
         stops_step (asked.Runtime f) last h = h.step
 
+    -- what was told then is all
+    pub ends_tell : (e : End) → AnsweredFor m u call a.within (answer.Ended e) r r' → (told calls : List Calls) → told ≡ tell (main_calls m a.within.frames) r'.told.reports calls
+        → rest_told m u a.within b.rest calls (step_of m u a.within) ≡ plain_calls m u → told ≡ plain_calls m u
+    ends_tell e x told calls is rest =
+        let stopped : HasStopped m u x.beside call.asked a.within e r'.world = answered_ends m p u a.beside r.fiber r.world a.within stands call a.waits x.beside r'.world x.keeps.fill x.keeps.slots e x.answered in
+        is
+        ∙ ap (λ (l : List Report). tell (main_calls m a.within.frames) l calls) (sym (stopped.shows.reports ∙ x.told.reports))
+        ∙ sym (ap (rest_told m u a.within b.rest calls) (stops_so call.asked stopped.last stopped.ends)) ∙ rest
+      where
+        stops_so : (of : Asked) (last : World) → Stops m u of a.within e last → step_of m u a.within ≡ Stop e last
+        stops_so (asked.External x) last h = h.0
+        stops_so (asked.Runtime f) last h = h.step
+
+    -- the calls stand where it waited
+    pub ends_end : (e : End) → AnsweredFor m u call a.within (answer.Ended e) r r' → rest_ends m u a.within b.rest (step_of m u a.within) ≡ Some (main_calls m a.within.frames)
+    ends_end e x =
+        let stopped : HasStopped m u x.beside call.asked a.within e r'.world = answered_ends m p u a.beside r.fiber r.world a.within stands call a.waits x.beside r'.world x.keeps.fill x.keeps.slots e x.answered in
+        ap (rest_ends m u a.within b.rest) (stops_there call.asked stopped.last stopped.ends)
+      where
+        stops_there : (of : Asked) (last : World) → Stops m u of a.within e last → step_of m u a.within ≡ Stop e last
+        stops_there (asked.External x) last h = h.0
+        stops_there (asked.Runtime f) last h = h.step
+
+    -- or the same is said of the end from the state after it on
+    pub goes_ends : (r'' : Running) (g : Going m u r'') → Resumes m u call.asked a.within g.state → r''.budget.left ≡ r.budget.left → rest_ends m u a.within b.rest (step_of m u a.within) ≡ plain_end_calls m u
+        → ends_from m u r''.budget.left g.state ≡ plain_end_calls m u
+    goes_ends r'' g resumes left is = ap (λ (n : ℕ). ends_from m u n g.state) left ∙ by_asked call.asked b.counted resumes
+      where
+        by_asked : (of : Asked) → LeftAfter of b.rest r.budget.left → Resumes m u of a.within g.state → ends_from m u r.budget.left g.state ≡ plain_end_calls m u
+        by_asked (asked.External e) c h = ap (λ (n : ℕ). ends_from m u n g.state) (sym c) ∙ sym (ap (rest_ends m u a.within b.rest) h.0) ∙ is
+        by_asked (asked.Runtime f) c h = ap (λ (n : ℕ). ends_from m u n g.state) (sym c) ∙ sym (ends_within m u a.within g.state h b.rest) ∙ is
+
+    -- what is told from the state after it on
+    pub goes_tell : (r'' : Running) (g : Going m u r'') → Resumes m u call.asked a.within g.state → r''.budget.left ≡ r.budget.left → (told calls : List Calls) → told ≡ tell (main_calls m a.within.frames) r''.told.reports calls
+        → rest_told m u a.within b.rest calls (step_of m u a.within) ≡ plain_calls m u → tells m u r''.budget.left g.state told ≡ plain_calls m u
+    goes_tell r'' g resumes left told calls is rest =
+        ap (λ (l : List Calls). tells m u r''.budget.left g.state l) (is ∙ ap (λ (l : List Report). tell (main_calls m a.within.frames) l calls) (sym (g.stands.shows.reports ∙ g.told.reports)))
+        ∙ ap (λ (n : ℕ). tells m u n g.state (tell (main_calls m a.within.frames) g.state.world.reports calls)) left
+        ∙ by_asked call.asked b.counted resumes
+      where
+        by_asked : (of : Asked) → LeftAfter of b.rest r.budget.left → Resumes m u of a.within g.state
+            → tells m u r.budget.left g.state (tell (main_calls m a.within.frames) g.state.world.reports calls) ≡ plain_calls m u
+        by_asked (asked.External e) c h =
+            ap (λ (n : ℕ). tells m u n g.state (tell (main_calls m a.within.frames) g.state.world.reports calls)) (sym c) ∙ sym (ap (rest_told m u a.within b.rest calls) h.0) ∙ rest
+        by_asked (asked.Runtime f) c h =
+            ap (λ (n : ℕ). tells m u n g.state (tell (main_calls m a.within.frames) g.state.world.reports calls)) (sym c)
+            ∙ ap (λ (sites : List ℕ). rest_told m u g.state b.rest (tell (let k : Calls = record { sites = sites; started = 0 } in k) g.state.world.reports calls) (step_of m u g.state)) h.calls
+            ∙ told_early m u g.state b.rest g.state.world.reports calls (step_of m u g.state) (one_grows m u g.state)
+            ∙ sym (told_within m u a.within g.state h b.rest calls) ∙ rest
+
     -- or the run goes on after it
     pub asked_goes_on : (value : Option ℕ) → AnsweredFor m u call a.within (answer.Resumed value) r r' → (r'' : Running)
         → r''.world ≡ r'.world → r''.depot ≡ r'.depot → r''.told ≡ r'.told → r''.budget ≡ r'.budget → r''.fiber.frame.at ≡ r'.fiber.frame.at + 1 → KeepsOwn r'.fiber r''.fiber
         → ((frame : Frame ℕ) (below : List (Frame ℕ)) → AllStandFor m (frames_of r'.fiber) (frame ∷ below) → Waits m u frame call → AllStandFor m (frames_of r''.fiber) (answered m value frame ∷ below))
-        → Going m u r'' × (ahead m r'' < ahead m r)
+        → (g : Going m u r'') × ((ahead m r'' < ahead m r) × Resumes m u call.asked a.within g.state × (r''.budget.left ≡ r.budget.left))
     asked_goes_on value x r'' world depot told budget at own frames = (
       record {
         calm = b.calm;
@@ -258,7 +345,7 @@ module _ (m : Module) (u : Setup) where
         };
         same = by_asked call.asked b.counted on.goes;
       },
-      less,
+      (less, on.goes, left_is),
     )
       where
         first : Frame ℕ
@@ -297,3 +384,13 @@ going_begun m u calm r b = record {
   keeping = b.keeping;
   same = ap (λ (n : ℕ). run (λ (s : PlainState). s.world) (step_of m u) n (plain_start m u)) b.budget;
 }
+
+-- where nothing was told, all is told from there on
+pub begun_tells : (m : Module) (u : Setup) (calm : is_threaded m ≡ false) (r : Running) (b : Begins m u r) (calls : List Calls) → calls ≡ [] → tells m u r.budget.left (going_begun m u calm r b).state calls ≡ plain_calls m u
+unfolding going_begun
+begun_tells m u calm r b calls none = ap (λ (l : List Calls). tells m u r.budget.left (plain_start m u) l) none ∙ ap (λ (n : ℕ). tells m u n (plain_start m u) []) b.budget
+
+-- and so is what is said of its end
+pub begun_ends : (m : Module) (u : Setup) (calm : is_threaded m ≡ false) (r : Running) (b : Begins m u r) → ends_from m u r.budget.left (going_begun m u calm r b).state ≡ plain_end_calls m u
+unfolding going_begun
+begun_ends m u calm r b = ap (λ (n : ℕ). ends_from m u n (plain_start m u)) b.budget

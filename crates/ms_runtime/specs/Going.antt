@@ -1,5 +1,5 @@
 -- What a run keeps from pause to pause (own).
-use Rattle.std.specs.Prelude.{◌≡◌, ◌<◌, ◌≤◌, ◌+◌, ◌-◌, ◌*◌, ◌^◌, ℕ, suc, false, length, Option, Some, None}
+use Rattle.std.specs.Prelude.{◌≡◌, ◌<◌, ◌≤◌, ◌+◌, ◌-◌, ◌*◌, ◌^◌, ℕ, suc, false, length}
 use Rattle.ms_ir.specs.declared.syntax.Module.{Module}
 use Rattle.ms_ir.specs.ThreadCalls.{is_threaded}
 use Rattle.ms_ir.specs.Instructions.{over_funcs, count_roots}
@@ -93,18 +93,6 @@ pub record Answers (answer : RunResult) (e : End) (r : Running) : Type 0 where
 abbrev pub Over : Module → Setup → End → Running → Type 0
 Over m u e r = Answers (plain m u) e r
 
--- a run goes on, and is nearer to its end, or it has ended
-abbrev pub Turned : Module → Setup → ℕ → Option End → Running → Type 0
-Turned m u far None r = Going m u r × (ahead m r < far)
-Turned m u far (Some e) r = Over m u e r
-
--- a run that goes on, with some setup
-abbrev pub IsGoing : Module → ReportLimit → Running → Type 0
-IsGoing m limit r = (u : Setup) × ((limit_of u ≡ limit) × Going m u r)
-
 -- a run that waits
 abbrev pub IsAsking : Module → ReportLimit → HostCall → Running → Type 0
 IsAsking m limit call r = (u : Setup) × ((limit_of u ≡ limit) × Asking m u call r)
-
-abbrev pub IsPaused : Module → ReportLimit → HostCall → Running → Type 0
-IsPaused m limit call r = (u : Setup) × ((limit_of u ≡ limit) × Paused m u call r)

@@ -1,3 +1,5 @@
 pub mod Served
 pub mod Answering
 pub mod Going
+pub mod Recorded
+pub mod ToldRuns

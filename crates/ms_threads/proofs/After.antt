@@ -1,20 +1,25 @@
 -- After the answer to a call a run of threads goes on, or has ended, as its definition does.
-use Rattle.std.proofs.Common.{◌≡◌, ◌<◌, ◌≤◌, ◌+◌, ◌-◌, ◌*◌, ℕ, suc, Bool, true, false, not, eqb, List, ◌∷◌, length, slice_get, refl, sym, ap, subst, ◌∙◌, arith, Option, Some, None, inl}
+use Rattle.std.proofs.Common.{◌≡◌, ◌<◌, ◌≤◌, ◌+◌, ◌-◌, ◌*◌, ◌++◌, ℕ, suc, Bool, true, false, not, eqb, List, ◌∷◌, length, replicate, slice_get, refl, sym, ap, subst, ◌∙◌, arith, Option, Some, None, inl}
 use Rattle.ms_ir.specs.declared.syntax.Module.{Module}
 use Rattle.ms_ir.specs.declared.calls.External.{External}
 use Rattle.ms_ir.specs.Instructions.{over_funcs}
 use Rattle.ms_ir.specs.Signatures.{is_thread_call}
 use Rattle.ms_check_valid.specs.Formed.{Formed}
 use Rattle.ms_check_valid.specs.Valid.{Valid}
+use Rattle.ms_runs.specs.declared.runs.Calls.{Calls}
 use Rattle.ms_runs.specs.declared.runs.End.{End}
+use Rattle.ms_runs.specs.declared.runs.Report.{Report}
 use Rattle.ms_runs.specs.declared.runs.Setup.{Setup}
 use Rattle.ms_runs.specs.World.{World}
 use Rattle.ms_runs.specs.Control.{Frame}
-use Rattle.ms_runs.specs.Plain.{PlainState, Stepped, setting_of}
+use Rattle.ms_runs.specs.Plain.{PlainState, Stepped, Stop, setting_of}
+use Rattle.ms_runs.specs.Calls.{call_sites, tell}
+use Rattle.ms_runs.proofs.Telling.{tell_none}
 use Rattle.ms_runs.specs.Threads.{Fibers}
 use Rattle.ms_runs_good_laws.specs.GoodStates.{IsStart}
-use Rattle.ms_runs_threads.specs.Fibers.{goes_on, moves}
-use Rattle.ms_runs_threads.specs.PlainFibers.{plain_going}
+use Rattle.ms_runs_threads.specs.Fibers.{goes_on, moves, fibers_step}
+use Rattle.ms_runs_threads.specs.PlainFibers.{plain_going, frames_site}
+use Rattle.ms_runs_threads.specs.Calls.{Told, start_of}
 use Rattle.ms_machine_code.specs.declared.code.Program.{Program}
 use Rattle.ms_machine_code.specs.Compiled.{Compiled}
 use Rattle.ms_host.specs.State.{WorldState}
@@ -32,20 +37,26 @@ use Rattle.ms_machine_steps.specs.Waiting.{Waits, types_due, answered}
 use Rattle.ms_machine_steps.specs.Advances.{Resumes, Stops, HasResumed}
 use Rattle.ms_machine_steps.proofs.Answered.{waiter, below_it, waits, waiter_stands, answered_on, answered_ends, HasStopped}
 use Rattle.ms_machine.specs.Running.{AllStandFor, IsRunning}
+use Rattle.ms_machine.specs.Standing.{RunsSomewhere}
 use Rattle.ms_machine.proofs.Programs.{frames_to, frames_from, state_to, state_from}
 use Rattle.ms_runtime.specs.declared.runs.Running.{Running}
 use Rattle.ms_runtime.specs.Served.{IsBeside}
 use Rattle.ms_runtime.specs.Answering.{HasRoom, AnsweredFor}
 use Rattle.ms_runtime.specs.Going.{ahead, LeftAfter}
+use Rattle.ms_runtime.specs.Recorded.{calls_from}
 use Rattle.ms_runtime.proofs.Fitting.{has_room}
 use Rattle.ms_runtime.proofs.Goings.{one_nearer, at_within}
 use Rattle.ms_threads.specs.declared.runs.ThreadedRun.{ThreadedRun}
 use Rattle.ms_threads.specs.declared.thread_table.ThreadTable.{ThreadTable}
-use Rattle.ms_threads.specs.ThreadTables.{standing_of, IsThreadCall, asked_starts, Shares, KeepsStands, SharesOn, Did}
+use Rattle.ms_threads.specs.ThreadTables.{standing_of, IsThreadCall, asked_starts, threads_of, starts_of, Shares, KeepsStands, SharesOn, Did}
 use Rattle.ms_threads_schedules_laws.specs.Picks.{Pick}
 use Rattle.ms_threads.specs.Recording.{Records}
-use Rattle.ms_threads.specs.Going.{Standings, IsOver, ended_so, fiber_of, goes_at, ends_from, ends_after, last_of, Going, Asking, After, Performing, Turned, most_ahead, far_of}
+use Rattle.ms_threads.specs.Going.{Standings, IsOver, ended_so, fiber_of, goes_at, ends_from, ends_after, last_of, told_so, tells_from, tells_after, all_told, calls_there, acts, Telling, KeepsCalls, Noted, CameTo, Going, Asking, After, Performing, Turned, most_ahead, far_of}
+use Rattle.ms_threads.proofs.Threading.{made_in, count_starts, count_threads}
 use Rattle.ms_threads.proofs.Kept.{standings_kept}
+use Rattle.ms_machine_steps.specs.Callers.{CallersOf}
+use Rattle.ms_machine.proofs.CallSites.{callers_run}
+use Rattle.ms_threads.proofs.Telling.{tell_covers, start_more, telling_kept, all_started, waits_site, calls_by, going, early_tells, performed_tells}
 use Rattle.ms_threads.proofs.FiberSteps.{same_step, own_step, step_ends}
 use Rattle.ms_threads.proofs.Turns.{ends_so}
 
@@ -69,7 +80,61 @@ module _ (m : Module) (u : Setup) (schedule : List ℕ) where
 
   -- ---- a call that is no thread call was answered
 
-  module _ (t t' : ThreadedRun) (call : HostCall) (a : Asking m u schedule call t) (other : IsThreadCall call.asked → ⊥) (x : Answer) (f : AnsweredFor m u call a.within x t.running t'.running) (guests : t'.table ≡ t.table) where
+  module _ (t t' : ThreadedRun) (call : HostCall) (a : Asking m u schedule call t) (other : IsThreadCall call.asked → ⊥) (x : Answer) (f : AnsweredFor m u call a.within x t.running t'.running) (guests : t'.table ≡ t.table)
+      (wanted : t'.wanted ≡ t.wanted) (noted : t.wanted ≡ true → t'.calls.items ≡ tell (calls_from m (start_of t.table.turn (starts_of t.table)) a.within.frames) t'.running.told.reports t.calls.items)
+      (unended : t'.ended ≡ t.ended) where
+    -- whose turn it is
+    turn_is : a.within.world.turn ≡ t.table.turn
+    turn_is = ap (λ (k : Fibers). k.turn) a.stands.shows.fibers ∙ a.shares.turn
+
+    -- what is told with the answer
+    abbrev told_then : Told
+    told_then = record a.said { calls = tell (calls_by m u schedule (going m u schedule a.within) a.said) t'.running.told.reports a.said.calls }
+
+    same_calls : calls_from m (start_of t.table.turn (starts_of t.table)) a.within.frames ≡ calls_by m u schedule (going m u schedule a.within) a.said
+    same_calls = λ i. record { sites = call_sites m a.within.frames; started = start_of (sym turn_is i) (sym a.telling.starts i) }
+
+    telling_then : Telling t' told_then
+    telling_then = record {
+      starts = a.telling.starts ∙ ap starts_of (sym guests);
+      counted = tell_covers (calls_by m u schedule (going m u schedule a.within) a.said) t'.running.told.reports a.said.calls;
+      kept = λ wants.
+          let w : t.wanted ≡ true = sym wanted ∙ wants in
+          noted w ∙ ap (λ (c : Calls). tell c t'.running.told.reports t.calls.items) same_calls
+          ∙ ap (tell (calls_by m u schedule (going m u schedule a.within) a.said) t'.running.told.reports) (a.telling.kept w);
+      none = unended ∙ a.telling.none;
+    }
+
+    -- as many threads are there as sites are told of
+    came_started : (next : PlainState) → CameTo m t' a.within next → length next.world.threads ≡ length a.said.starts
+    came_started next came = came.threads ∙ ap (λ (g : ThreadTable). length g.threads.items) guests ∙ sym (ap length a.telling.starts ∙ count_starts t.table)
+
+    goes_telling_by : (of : Asked) → (IsThreadCall of → ⊥) → LeftAfter of a.rest t.running.budget.left → (next : PlainState) → Resumes m u of a.within next → CameTo m t' a.within next
+        → tells_from m u schedule told_then t.running.budget.left (goes_at next a.others) ≡ all_told m u schedule
+    goes_telling_by (asked.External e) none c next r came =
+        let threads = came_started next came in
+        ap (λ n. tells_from m u schedule told_then n (goes_at next a.others)) (sym c)
+        ∙ ap (λ (rs : List Report). tells_from m u schedule (record a.said { calls = tell (calls_by m u schedule (going m u schedule a.within) a.said) rs a.said.calls }) a.rest (goes_at next a.others)) (sym came.reports)
+        ∙ ap (λ (l : List ℕ). tells_from m u schedule (let k : Told = record { starts = l; calls = tell (calls_by m u schedule (going m u schedule a.within) a.said) next.world.reports a.said.calls } in k) a.rest (goes_at next a.others))
+        (sym (tell_none (frames_site (setting_of m u) m a.within.frames) next.world.threads a.said.starts (omega (arith, threads))))
+        ∙ sym (ap (tells_after m u schedule (going m u schedule a.within) a.said a.rest) (own_step m u schedule a.within next a.others (r.1 (not_thread e none)) r.0))
+        ∙ a.tells
+    goes_telling_by (asked.Runtime g) none c next r came =
+        let threads = came_started next came in
+        ap (λ n. tells_from m u schedule told_then n (goes_at next a.others)) (sym c)
+        ∙ sym (early_tells m u schedule a.within next a.others a.said a.rest t'.running.told.reports r (turn_is ∙ ap (λ (g : ThreadTable). g.turn) (sym guests) ∙ sym came.turn) (omega (arith, threads)) came.reports)
+        ∙ a.tells
+
+    stops_so : (of : Asked) → (IsThreadCall of → ⊥) → (e : End) (last : World) → Stops m u of a.within e last → fibers_step (fiber_of m u) schedule (goes_at a.within a.others) ≡ Stop e last
+    stops_so (asked.External g) none e last s = step_ends m u schedule a.within a.others e last (record { step = s.0; early = inl (s.1 (not_thread g none)) })
+    stops_so (asked.Runtime g) none e last s = step_ends m u schedule a.within a.others e last s
+
+    stops_telling_by : (of : Asked) → (IsThreadCall of → ⊥) → (e : End) (last : World) → Stops m u of a.within e last → last.reports ≡ t'.running.told.reports → told_so told_then.calls (Some (calls_there m t'.table a.within.frames)) ≡ all_told m u schedule
+    stops_telling_by of none e last s reports =
+        ap (λ (rs : List Report). told_so (tell (calls_by m u schedule (going m u schedule a.within) a.said) rs a.said.calls) (Some (calls_there m t'.table a.within.frames))) (sym reports)
+        ∙ ap (λ (c : Calls). told_so (tell (calls_by m u schedule (going m u schedule a.within) a.said) last.reports a.said.calls) (Some c)) (ap (λ (g : ThreadTable). calls_there m g a.within.frames) guests ∙ same_calls)
+        ∙ sym (ap (tells_after m u schedule (going m u schedule a.within) a.said a.rest) (stops_so of none e last s)) ∙ a.tells
+
     left_is : t'.running.budget.left ≡ t.running.budget.left
     left_is = ap (λ b. b.left) f.budget
 
@@ -91,7 +156,7 @@ module _ (m : Module) (u : Setup) (schedule : List ℕ) where
         sym (ap (ends_after m u schedule a.made a.rest) (step_ends m u schedule a.within a.others e last (record { step = s.0; early = inl (s.1 (not_thread g none)) }))) ∙ a.same
     stops_by (asked.Runtime g) none e last s = sym (ap (ends_after m u schedule a.made a.rest) (step_ends m u schedule a.within a.others e last s)) ∙ a.same
 
-    pub answered_after : After m u schedule call x t'
+    answered_after : After m u schedule call x t'
     answered_after = record {
       before = t.running.world;
       old = a.beside;
@@ -114,18 +179,44 @@ module _ (m : Module) (u : Setup) (schedule : List ℕ) where
       recorded = subst (λ (g : ThreadTable). Records g.recorder a.made) (sym guests) a.recorded;
       goes = λ next r. ap (λ n. ends_from m u schedule a.made n (goes_at next a.others)) left_is ∙ goes_by call.asked other a.counted next r;
       stops = λ e last s. stops_by call.asked other e last s;
+      said = told_then;
+      telling = telling_then;
+      goes_telling = λ next r came. ap (λ n. tells_from m u schedule told_then n (goes_at next a.others)) left_is ∙ goes_telling_by call.asked other a.counted next r came;
+      stops_telling = λ e last s reports. stops_telling_by call.asked other e last s reports;
     }
 
     -- it is no further to the end
-    pub answered_far : ahead m t'.running ≤ ahead m t.running
+    answered_far : ahead m t'.running ≤ ahead m t.running
     answered_far = let e = ahead_is in omega (arith, e)
+
+  -- the fiber that waits is still one that runs
+  pub somewhere : (t : ThreadedRun) (call : HostCall) → Asking m u schedule call t → (fiber : Fiber) → fiber ≡ t.running.fiber → RunsSomewhere m fiber
+  somewhere t call a fiber is = (t.running.world, (u, a.beside, a.within, subst (λ (g : Fiber). IsRunning m u a.beside g t.running.world a.within) (sym is) a.stands))
+
+  -- and its calls were recorded
+  module _ (t t' n : ThreadedRun) (call : HostCall) (a : Asking m u schedule call t) (other : IsThreadCall call.asked → ⊥) (x : Answer) (f : AnsweredFor m u call a.within x t.running t'.running) (guests : t'.table ≡ t.table)
+      (keeps : KeepsCalls t t') (same : n ≡ record t' { calls = n.calls }) (noted : t'.wanted ≡ true → Noted m t' n) where
+    abbrev noting : ThreadedRun
+    noting = record t' { calls = n.calls }
+
+    noted_there : t.wanted ≡ true → n.calls.items ≡ tell (calls_from m (start_of t.table.turn (starts_of t.table)) a.within.frames) t'.running.told.reports t.calls.items
+    noted_there wanted =
+        noted (keeps.0 ∙ wanted) u a.beside t.running.world a.within (subst (λ (g : Fiber). IsRunning m u a.beside g t.running.world a.within) (sym f.fiber) a.stands)
+        ∙ ap (λ (g : ThreadTable). tell (calls_from m (start_of g.turn (starts_of g)) a.within.frames) t'.running.told.reports t'.calls.items) guests
+        ∙ ap (λ v. tell (calls_from m (start_of t.table.turn (starts_of t.table)) a.within.frames) t'.running.told.reports v.items) keeps.1
+
+    pub noted_after : After m u schedule call x n
+    noted_after = subst (λ (y : ThreadedRun). After m u schedule call x y) (sym same) (answered_after t noting call a other x f guests keeps.0 noted_there keeps.2)
+
+    pub noted_far : ahead m n.running ≤ ahead m t.running
+    noted_far = subst (λ (y : ThreadedRun). ahead m y.running ≤ ahead m t.running) (sym same) (answered_far t noting call a other x f guests keeps.0 noted_there keeps.2)
 
   -- ---- a thread call was answered
 
   module _ (t t' : ThreadedRun) (call : HostCall) (p : Performing m u schedule (standing_of t.running.fiber call) t) (x : Answer) (w : WorldState) (world : t'.running.world ≡ w) (d : Did (asked_effect (setting_of m u) (types_due m p.frames) call p.shared.world) x p.beside t'.table w)
-      (keeps : Keeps t.running.world w) (made : w.made ≡ t.running.world.made) (kept : KeepsStands (asked_starts call.asked call.args) t.table t'.table)
+      (keeps : Keeps t.running.world w) (made : w.made ≡ t.running.world.made) (kept : KeepsStands call.site (asked_starts call.asked call.args) t.table t'.table)
       (begin : (k f : ℕ) → slice_get (asked_starts call.asked call.args) k ≡ Some f → IsStart m f)
-      (fiber : t'.running.fiber ≡ t.running.fiber) (depot : t'.running.depot ≡ t.running.depot) (told : t'.running.told ≡ t.running.told) (budget : t'.running.budget ≡ t.running.budget) where
+      (fiber : t'.running.fiber ≡ t.running.fiber) (depot : t'.running.depot ≡ t.running.depot) (told : t'.running.told ≡ t.running.told) (budget : t'.running.budget ≡ t.running.budget) (calls : KeepsCalls t t') where
     -- the state in which it does the call
     abbrev within : PlainState
     within = record { frames = p.frames; slots = p.shared.slots; world = p.shared.world }
@@ -168,6 +259,61 @@ module _ (m : Module) (u : Setup) (schedule : List ℕ) where
     stops_call (asked.External g) is e last s = sym (ap on_perform s.0) ∙ p.same
     stops_call (asked.Runtime g) is e last s = absurd is
 
+    -- what is told with the call
+    abbrev told_then : Told
+    told_then = record p.said { starts = starts_of t'.table }
+
+    telling_then : Telling t' told_then
+    telling_then = record {
+      starts = refl;
+      counted = subst (λ r. length r.reports ≤ length p.said.calls) (sym told) p.telling.counted;
+      kept = λ wanted. ap (λ v. v.items) calls.1 ∙ p.telling.kept (sym calls.0 ∙ wanted);
+      none = calls.2 ∙ p.telling.none;
+    }
+
+    made_there : (next : PlainState) → CameTo m t' within next → starts_of t'.table ≡ tell (frames_site (setting_of m u) m p.frames) next.world.threads p.said.starts
+    made_there next came =
+        let same : length (threads_of t'.table) ≡ length next.world.threads = count_threads t'.table ∙ sym came.threads in
+        kept.sites
+        ∙ ap (λ (site : ℕ). tell site (threads_of t'.table) (starts_of t.table)) (sym (waits_site m u p.frames call p.stood.waits))
+        ∙ ap (λ (n : ℕ). starts_of t.table ++ replicate (n - length (starts_of t.table)) (frames_site (setting_of m u) m p.frames)) same
+        ∙ ap (tell (frames_site (setting_of m u) m p.frames) next.world.threads) (sym p.telling.starts)
+
+    there : t.table.turn ≤ length p.said.starts
+    there =
+        let starts : length p.said.starts ≡ length t.table.threads.items = ap length p.telling.starts ∙ count_starts t.table in
+        let s = p.between.stands in
+        omega (arith, starts, s.turn, s.counted)
+
+    -- the calls at which it stands were there before the call
+    started_same : start_of t'.table.turn (starts_of t'.table) ≡ start_of t.table.turn p.said.starts
+    started_same =
+        let same : length p.said.starts ≡ length (starts_of t.table) = ap length p.telling.starts in
+        let le = there in
+        ap (λ (n : ℕ). start_of n (starts_of t'.table)) kept.same.turn
+        ∙ ap (start_of t.table.turn) kept.sites
+        ∙ start_more t.table.turn (starts_of t.table) call.site (length (threads_of t'.table) - length (starts_of t.table)) (omega (arith, same, le))
+        ∙ ap (start_of t.table.turn) (sym p.telling.starts)
+
+    stood_there : calls_there m t'.table p.frames ≡ calls_by m u schedule (acts t.table.turn (Some p.frames)) p.said
+    stood_there = λ i. record { sites = call_sites m p.frames; started = started_same i }
+
+    goes_telling_call : (of : Asked) → IsThreadCall of → (next : PlainState) → Resumes m u of within next → CameTo m t' within next → tells_from m u schedule told_then (suc p.left) (goes_at next p.others) ≡ all_told m u schedule
+    goes_telling_call (asked.External e) is next r came =
+        sym (performed_tells m u schedule t.table.turn p.frames next p.others p.said (starts_of t'.table) p.left (came.turn ∙ kept.same.turn) came.calls there (made_there next came))
+        ∙ sym (ap (λ (x : Stepped PlainState). tells_after m u schedule (acts t.table.turn (Some p.frames)) p.said p.left (goes_on (plain_going x) (moves (fiber_of m u) p.others))) r.0)
+        ∙ p.tells
+    goes_telling_call (asked.Runtime g) is next r came = absurd is
+
+    stops_telling_call : (of : Asked) → IsThreadCall of → (e : End) (last : World) → Stops m u of within e last → last.reports ≡ t'.running.told.reports → told_so p.said.calls (Some (calls_there m t'.table p.frames)) ≡ all_told m u schedule
+    stops_telling_call (asked.External g) is e last s reports =
+        let same : length last.reports ≡ length t.running.told.reports = ap length reports ∙ ap (λ r. length r.reports) told in
+        ap (λ (c : Calls). told_so p.said.calls (Some c)) stood_there
+        ∙ sym (ap (λ (l : List Calls). told_so l (Some (calls_by m u schedule (acts t.table.turn (Some p.frames)) p.said))) (tell_none (calls_by m u schedule (acts t.table.turn (Some p.frames)) p.said) last.reports p.said.calls (omega (arith, same, p.telling.counted))))
+        ∙ sym (ap (λ (x : Stepped PlainState). tells_after m u schedule (acts t.table.turn (Some p.frames)) p.said p.left (goes_on (plain_going x) (moves (fiber_of m u) p.others))) s.0)
+        ∙ p.tells
+    stops_telling_call (asked.Runtime g) is e last s reports = absurd is
+
     shares_by : (a : Answer) → SharesOn a t'.table d.0 → (v : Option ℕ) → a ≡ answer.Resumed v → Shares t'.table d.0
     shares_by (answer.Resumed w) h v e = h
     shares_by (answer.Ended e) h v is = absurd (cc)
@@ -192,11 +338,15 @@ module _ (m : Module) (u : Setup) (schedule : List ℕ) where
       room = let same : t'.running.world.made ≡ t.running.world.made = ap (λ (w' : WorldState). w'.made) world ∙ made in let left : t'.running.budget.left ≡ t.running.budget.left = ap (λ b. b.left) budget in
           omega (arith, same, left, p.between.room);
       shares = shares_by x d.1.1;
-      standings = standings_kept m u schedule (asked_starts call.asked call.args) t.table t'.table p.others p.between.stands kept begin;
+      standings = standings_kept m u schedule call.site (asked_starts call.asked call.args) t.table t'.table p.others p.between.stands kept begin;
       made = p.made;
       recorded = subst (λ r. Records r p.made) (sym kept.same.recorder) p.recorded;
       goes = λ next r. ap (λ n. ends_from m u schedule p.made n (goes_at next p.others)) left_there ∙ goes_call call.asked p.stood.call next r;
       stops = λ e last st. stops_call call.asked p.stood.call e last st;
+      said = told_then;
+      telling = telling_then;
+      goes_telling = λ next r came. ap (λ n. tells_from m u schedule told_then n (goes_at next p.others)) left_there ∙ goes_telling_call call.asked p.stood.call next r came;
+      stops_telling = λ e last st reports. stops_telling_call call.asked p.stood.call e last st reports;
     }
 
   -- ---- after it
@@ -211,18 +361,24 @@ module _ (m : Module) (u : Setup) (schedule : List ℕ) where
     some_ahead : 0 < ahead m t.running
     some_ahead = let lt = at_below in omega (arith, lt)
 
+    -- its callers are those of where it waited
+    pub callers_there : CallersOf m t.running.fiber b.within.frames
+    callers_there = callers_run m t.running.fiber u b.old b.before b.within b.stands
+
     -- the answer ended the run
-    pub after_ends : (e : End) → a ≡ answer.Ended e → IsOver m u schedule e t
-    after_ends e is =
+    pub after_ends : (e : End) → a ≡ answer.Ended e → (t' : ThreadedRun) → t' ≡ record t { ended = t'.ended } → (t.wanted ≡ true → t'.ended ≡ Some (calls_there m t.table b.within.frames)) → IsOver m u schedule e t'
+    after_ends e is t' same ended =
         let stopped : HasStopped m u b.beside call.asked b.within e t.running.world =
         answered_ends m p u b.old t.running.fiber b.before b.within stands call b.waits b.beside t.running.world b.fill b.slots e
         (subst (λ (x : Answer). Answered b.beside (asked_effect (setting_of m u) (types_due m b.within.frames) call b.within.world) x t.running.world) is b.answered) in
         let low = some_ahead in
-        ends_so m u schedule b.made e stopped.last b.beside t b.recorded (b.stops e stopped.last stopped.ends) stopped.shows b.told (omega (arith, b.blind, low))
+        subst (IsOver m u schedule e) (sym same)
+        (ends_so m u schedule b.made e stopped.last b.beside (record t { ended = t'.ended }) b.recorded (b.stops e stopped.last stopped.ends) stopped.shows b.told (omega (arith, b.blind, low)) b.said.calls
+        (Some (calls_there m t.table b.within.frames)) b.telling.kept ended (b.stops_telling e stopped.last stopped.ends (stopped.shows.reports ∙ b.told.reports)))
 
     -- or it goes on
     module _ (value : Option ℕ) (is : a ≡ answer.Resumed value) (t' : ThreadedRun) (world : t'.running.world ≡ t.running.world) (depot : t'.running.depot ≡ t.running.depot) (told : t'.running.told ≡ t.running.told)
-        (budget : t'.running.budget ≡ t.running.budget) (guests : t'.table ≡ t.table) (at : t'.running.fiber.frame.at ≡ t.running.fiber.frame.at + 1) (own : KeepsOwn t.running.fiber t'.running.fiber)
+        (budget : t'.running.budget ≡ t.running.budget) (guests : t'.table ≡ t.table) (calls : KeepsCalls t t') (at : t'.running.fiber.frame.at ≡ t.running.fiber.frame.at + 1) (own : KeepsOwn t.running.fiber t'.running.fiber)
         (frames : (frame : Frame ℕ) (below : List (Frame ℕ)) → AllStandFor m (frames_of t.running.fiber) (frame ∷ below) → Waits m u frame call → AllStandFor m (frames_of t'.running.fiber) (answered m value frame ∷ below)) where
       first : Frame ℕ
       first = waiter m p u b.old t.running.fiber b.before b.within stands call b.waits
@@ -249,6 +405,16 @@ module _ (m : Module) (u : Setup) (schedule : List ℕ) where
       room_on : HasRoom u (answer.Resumed value) t.running
       room_on = subst (λ (x : Answer). HasRoom u x t.running) is b.few
 
+      came_to : CameTo m t b.within on.next
+      came_to =
+          let shares = b.shares value is in
+          record {
+            calls = on.calls;
+            turn = ap (λ (k : Fibers). k.turn) on.stands.shows.fibers ∙ shares.turn;
+            reports = on.stands.shows.reports ∙ b.told.reports;
+            threads = made_in t.running.world b.beside on.next.world t.table on.stands.shows shares;
+          }
+
       pub after_goes : Going m u schedule t'
       after_goes = record {
         beside = b.beside;
@@ -267,6 +433,9 @@ module _ (m : Module) (u : Setup) (schedule : List ℕ) where
         made = b.made;
         recorded = subst (λ (g : ThreadTable). Records g.recorder b.made) (sym guests) b.recorded;
         same = ap (λ n. ends_from m u schedule b.made n (goes_at on.next b.others)) left_on ∙ b.goes on.next on.goes;
+        said = b.said;
+        telling = telling_kept t t' b.said b.telling (ap starts_of guests) told calls;
+        tells = ap (λ n. tells_from m u schedule b.said n (goes_at on.next b.others)) left_on ∙ b.goes_telling on.next on.goes came_to;
       }
 
 -- a run that is nearer to its end than so far is nearer than any number that isn't less

@@ -1,5 +1,5 @@
 -- A thread that begins goes on as its fiber does, and so does `main`'s at the start of a run.
-use Rattle.std.proofs.Common.{◌≡◌, ◌<◌, ◌+◌, ◌-◌, ◌*◌, ◌^◌, ℕ, zero, suc, true, not, eqb, List, [], ◌∷◌, length, reverse, map, slice_get, sym, ap, subst, ◌∙◌, arith, Some, None, option_map, inr}
+use Rattle.std.proofs.Common.{◌≡◌, ◌<◌, ◌+◌, ◌-◌, ◌*◌, ◌^◌, ℕ, zero, suc, true, not, eqb, List, [], ◌∷◌, refl, length, reverse, map, slice_get, sym, ap, subst, ◌∙◌, arith, Some, None, option_map, inr}
 use Rattle.std.proofs.lemmas.Bool.{ne_eqb}
 use Rattle.std.proofs.lemmas.Option.{slice_get-map}
 use Rattle.std.proofs.Math.Nat.{mod-eq_of_lt}
@@ -33,10 +33,12 @@ use Rattle.ms_runtime.specs.Served.{IsBeside}
 use Rattle.ms_runtime.specs.Going.{ahead, Begins}
 use Rattle.ms_threads.specs.declared.thread_table.Thread.{Thread as Guest}
 use Rattle.ms_threads.specs.declared.runs.ThreadedRun.{ThreadedRun}
-use Rattle.ms_threads.specs.ThreadTables.{stand_at, thread_of, guest_at, part_at, SameCalls, IsNew, Shares}
+use Rattle.ms_threads.specs.ThreadTables.{starts_of, stand_at, thread_of, guest_at, part_at, SameCalls, IsNew, Shares}
 use Rattle.ms_threads.specs.Recording.{Records}
 use Rattle.ms_threads.specs.declared.thread_table.ThreadTable.{ThreadTable}
-use Rattle.ms_threads.specs.Going.{StandsAt, Standings, goes_at, ends_from, Beginning, Going, most_ahead}
+use Rattle.ms_runs_threads.specs.Calls.{none_told}
+use Rattle.ms_threads.specs.Going.{StandsAt, Standings, goes_at, ends_from, tells_from, KeepsCalls, Beginning, Going, most_ahead}
+use Rattle.ms_threads.proofs.Telling.{telling_kept, all_started, begun_tells}
 use Rattle.ms_threads.proofs.Places.{same_frames, none_more, no_call}
 
 -- ---- the function of a thread
@@ -65,7 +67,7 @@ module _ (m : Module) (u : Setup) (schedule : List ℕ) where
   module _ (formed : Formed m) (valid : Valid m) (t t' : ThreadedRun) (b : Beginning m u schedule t) (few : b.guest.argument < 2 ^ 64) (fiber : Fiber) (spawned : SpawnedFor m b.guest.func b.guest.argument fiber) (calls : SameCalls fiber t'.running.fiber)
       (guests : t'.table ≡ t.table) (depot : t'.running.depot ≡ t.running.depot) (told : t'.running.told ≡ t.running.told) (budget : t'.running.budget ≡ t.running.budget)
       (slots : (cells : ℕ → ℕ) → ShowsSlots t.running.world.slots cells → ShowsSlots t'.running.world.slots (first_clean cells)) (shows : (beside : Beside) (world : World) → Shows t.running.world beside world → Shows t'.running.world beside world)
-      (given : KeepsGiven t.running.world t'.running.world) (made : t'.running.world.made ≡ t.running.world.made) where
+      (given : KeepsGiven t.running.world t'.running.world) (made : t'.running.world.made ≡ t.running.world.made) (keeps : KeepsCalls t t') where
     abbrev state : PlainState
     state = record { frames = entered plain_reading m b.guest.func (b.guest.argument ∷ []) b.shared.world ∷ []; slots = first_clean b.shared.slots; world = b.shared.world }
 
@@ -119,12 +121,19 @@ module _ (m : Module) (u : Setup) (schedule : List ℕ) where
           made = b.made;
           recorded = subst (λ (g : ThreadTable). Records g.recorder b.made) (sym guests) b.recorded;
           same = ap (λ n. ends_from m u schedule b.made n (goes_at state b.others)) (left_is ∙ b.some) ∙ b.same;
+          said = b.said;
+          telling = telling_kept t t' b.said b.telling (ap starts_of guests) told keeps;
+          tells =
+              let all = all_started t b.beside t.running.world b.shared.world b.said b.between.shows b.between.shares b.telling in
+              ap (λ n. tells_from m u schedule b.said n (goes_at state b.others)) (left_is ∙ b.some)
+              ∙ sym (begun_tells m u schedule t.table.turn (entered plain_reading m b.guest.func (b.guest.argument ∷ []) b.shared.world) state b.others b.said b.left refl turn_is (omega (arith, all)))
+              ∙ b.tells;
         }
 
   -- ---- the start
 
-  pub going_begun : 0 < length schedule → (t : ThreadedRun) → Begins m u t.running → IsNew t.table → Going m u schedule t
-  going_begun some t b new = record {
+  pub going_begun : 0 < length schedule → (t : ThreadedRun) → Begins m u t.running → IsNew t.table → t.calls.items ≡ [] → t.ended ≡ None → Going m u schedule t
+  going_begun some t b new none_yet unended = record {
     beside = nothing_beside;
     state = plain_start m u;
     others = no_others;
@@ -149,6 +158,14 @@ module _ (m : Module) (u : Setup) (schedule : List ℕ) where
     made = [];
     recorded = new.recorder;
     same = ap (λ n. ends_from m u schedule [] n (goes_at (plain_start m u) no_others)) b.budget;
+    said = none_told;
+    telling = record {
+      starts = sym (ap (map (λ (x : Guest). x.start)) new.threads);
+      counted = let none : length t.running.told.reports ≡ 0 = sym (ap length b.told.reports) in omega (arith, none);
+      kept = λ wanted. none_yet;
+      none = unended;
+    };
+    tells = ap (λ n. tells_from m u schedule none_told n (goes_at (plain_start m u) no_others)) b.budget;
   }
     where
       none : (k f : ℕ) → slice_get [] k ≡ Some f → ⊥

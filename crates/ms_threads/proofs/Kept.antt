@@ -27,9 +27,9 @@ module _ (m : Module) (u : Setup) (schedule : List ℕ) where
   either_list (x ∷ xs) ys (suc k) f e = ⊎_elim (λ h. inl (suc h.0, h.1)) (λ h. inr h) (either_list xs ys k f e)
 
   -- all stand where they stood, and those that were made can begin
-  pub standings_kept : (starts : List ℕ) (g h : ThreadTable) (others : Others (List (Frame ℕ))) → Standings m u schedule g others → KeepsStands starts g h → ((k f : ℕ) → slice_get starts k ≡ Some f → IsStart m f)
+  pub standings_kept : (site : ℕ) (starts : List ℕ) (g h : ThreadTable) (others : Others (List (Frame ℕ))) → Standings m u schedule g others → KeepsStands site starts g h → ((k f : ℕ) → slice_get starts k ≡ Some f → IsStart m f)
       → Standings m u schedule h others
-  standings_kept starts g h others s k begin = record {
+  standings_kept site starts g h others s k begin = record {
     counted = k.counted s.counted;
     few = k.few s.counted s.few;
     turn = let counted = k.counted s.counted in let few = longer k.funcs in let turn = k.same.turn in omega (arith, counted, s.counted, s.turn, few, turn);

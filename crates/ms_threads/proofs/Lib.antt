@@ -8,6 +8,7 @@ pub mod Numbered
 pub mod Threading
 pub mod Kept
 pub mod FiberSteps
+pub mod Telling
 pub mod Turns
 pub mod Starting
 pub mod Picks

@@ -10,14 +10,18 @@ use Rattle.ms_ir.specs.declared.syntax.Module.{Module}
 use Rattle.ms_ir.specs.declared.calls.External.{External}
 use Rattle.ms_ir.specs.declared.calls.External.TheVariants as external
 use Rattle.ms_ir.specs.Instructions.{over_funcs, func_index, insts_at, external_named, operands}
+use Rattle.ms_runs.specs.declared.runs.Calls.{Calls}
 use Rattle.ms_runs.specs.declared.runs.End.TheVariants as «end»
 use Rattle.ms_runs.specs.declared.runs.Setup.{Setup}
 use Rattle.ms_runs.specs.World.{Thread}
 use Rattle.ms_runs.specs.Control.{Frame, here, read_all}
 use Rattle.ms_runs.specs.Act.{plain_reading}
 use Rattle.ms_runs.specs.Plain.{setting_of}
+use Rattle.ms_runs.specs.Calls.{call_sites}
+use Rattle.ms_runs.proofs.Telling.{tell_none}
 use Rattle.ms_runs.specs.Threads.{Fibers, fibers_of, thread_at, has_ended}
 use Rattle.ms_runs_threads.specs.Fibers.{Others, Waits, waits, may_go, is_runnable, numbers_from, runnable, standing, turned, resumed, resumes, picked, site_at, fibers_step, ends_in}
+use Rattle.ms_runs_threads.specs.Calls.{acting_of}
 use Rattle.ms_runs_threads.specs.PlainFibers.{Shared, due_inst, joins_of, op_joins, inst_joins, frames_joins, frames_site, words_due}
 use Rattle.ms_host.specs.State.{WorldState, Beside}
 use Rattle.ms_host.specs.Shows.{Shows}
@@ -35,11 +39,12 @@ use Rattle.ms_threads.specs.declared.runs.ThreadedRun.{ThreadedRun}
 use Rattle.ms_threads.specs.ThreadTables.{Standing, standing_of, stand_at, thread_of, guest_at, threads_of, stands_of, site_of, asked_joins, call_joins, standing_joins, runnable_in, IsThreadCall, Stands, picked_of, Picked}
 use Rattle.ms_threads_schedules_laws.specs.Picks.{Pick, number_at, pick_by, picked_on, picks_in}
 use Rattle.ms_threads.specs.Recording.{Records}
-use Rattle.ms_threads.specs.Going.{StandsFor, StandsAt, IsOver, ended_so, fiber_of, shared_in, ends_from, ends_after, last_of, Between, most_ahead, far_of, Asking, Picking, Performing, Beginning}
+use Rattle.ms_threads.specs.Going.{StandsFor, StandsAt, IsOver, ended_so, fiber_of, shared_in, goes_at, ends_from, ends_after, last_of, told_so, tells_from, tells_after, all_told, acts, Telling, KeepsCalls, Between, most_ahead, far_of, Asking, Picking, Performing, Beginning}
 use Rattle.ms_threads.proofs.Numbered.{test_of, picked_goes}
 use Rattle.ms_threads.proofs.Threading.{same_thread, shows_fibers, shares_turned, shares_same}
 use Rattle.ms_threads.proofs.Kept.{standings_stood, standings_picked}
 use Rattle.ms_threads.proofs.FiberSteps.{first_due, unmarked_of, dropped, step_asks}
+use Rattle.ms_threads.proofs.Telling.{telling_kept, all_started, calls_by, going, more_after}
 use Rattle.ms_threads.proofs.Turns.{ends_so}
 
 -- what a pick says, where one may go on and where none may
@@ -67,8 +72,8 @@ module _ (m : Module) (u : Setup) (schedule : List ℕ) where
   rest_of_call (asked.Runtime f) is rest left h = absurd is
 
   pub stood_picks : (t t' : ThreadedRun) (call : HostCall) (a : Asking m u schedule call t) → IsThreadCall call.asked → Stands (Some (standing_of t.running.fiber call)) t.table t'.table
-      → t'.running.world ≡ t.running.world → t'.running.depot ≡ t.running.depot → t'.running.told ≡ t.running.told → t'.running.budget ≡ t.running.budget → Picking m u schedule t'
-  stood_picks t t' call a is st world depot told budget = record {
+      → t'.running.world ≡ t.running.world → t'.running.depot ≡ t.running.depot → t'.running.told ≡ t.running.told → t'.running.budget ≡ t.running.budget → KeepsCalls t t' → Picking m u schedule t'
+  stood_picks t t' call a is st world depot told budget calls = record {
     beside = a.beside;
     shared = shared_in a.within;
     others = record a.others { stands = standing t.table.turn (Some a.within.frames) a.others.stands };
@@ -95,6 +100,16 @@ module _ (m : Module) (u : Setup) (schedule : List ℕ) where
         ap (λ n. ends_from m u schedule a.made n (Waits (shared_in a.within) (record a.others { stands = standing t.table.turn (Some a.within.frames) a.others.stands }))) (ap (λ b. b.left) budget ∙ sym (rest_of_call call.asked is a.rest t.running.budget.left a.counted))
         ∙ ap (λ n. ends_from m u schedule a.made a.rest (Waits (shared_in a.within) (record a.others { stands = standing n (Some a.within.frames) a.others.stands }))) (sym turn_is)
         ∙ sym (ap (ends_after m u schedule a.made a.rest) (step_asks m u schedule a.within call a.others is a.waits)) ∙ a.same;
+    said = a.said;
+    telling = telling_kept t t' a.said a.telling (ap (λ v. map (λ (x : Guest). x.start) v.items) st.threads) told calls;
+    tells =
+        let all = all_started t a.beside t.running.world a.within.world a.said a.stands.shows a.shares a.telling in
+        let reports : length a.within.world.reports ≡ length t.running.told.reports = ap length (a.stands.shows.reports ∙ a.told.reports) in
+        ap (λ n. tells_from m u schedule a.said n (Waits (shared_in a.within) (record a.others { stands = standing t.table.turn (Some a.within.frames) a.others.stands }))) (ap (λ b. b.left) budget ∙ sym (rest_of_call call.asked is a.rest t.running.budget.left a.counted))
+        ∙ ap (λ n. tells_from m u schedule a.said a.rest (Waits (shared_in a.within) (record a.others { stands = standing n (Some a.within.frames) a.others.stands }))) (sym turn_is)
+        ∙ sym (more_after m u schedule (going m u schedule a.within) a.said a.rest (fibers_step (fiber_of m u) schedule (goes_at a.within a.others))
+        (Waits (shared_in a.within) (record a.others { stands = standing a.within.world.turn (Some a.within.frames) a.others.stands })) (step_asks m u schedule a.within call a.others is a.waits) (omega (arith, all)) (omega (arith, reports, a.telling.counted)))
+        ∙ a.tells;
   }
     where
       turn_is : a.within.world.turn ≡ t.table.turn
@@ -168,10 +183,14 @@ module _ (m : Module) (u : Setup) (schedule : List ℕ) where
     few : t.running.told.blind ≤ 2 ^ 62
     few = omega (arith, p.blind)
 
+    told_few : length p.shared.world.reports ≤ length p.said.calls
+    told_few = let same : length p.shared.world.reports ≡ length t.running.told.reports = ap length (p.between.shows.reports ∙ p.between.told.reports) in omega (arith, same, p.telling.counted)
+
     -- no step is left
     pub pick_spent : t.running.budget.left ≡ 0 → IsOver m u schedule «end».Spent t
     pick_spent none =
-        ends_so m u schedule p.made «end».Spent p.shared.world p.beside t p.recorded (sym (ap (λ n. ends_from m u schedule p.made n (Waits p.shared p.others)) none) ∙ p.same) p.between.shows p.between.told few
+        ends_so m u schedule p.made «end».Spent p.shared.world p.beside t p.recorded (sym (ap (λ n. ends_from m u schedule p.made n (Waits p.shared p.others)) none) ∙ p.same) p.between.shows p.between.told few p.said.calls None p.telling.kept (λ wanted. p.telling.none)
+        (sym (ap (λ n. tells_from m u schedule p.said n (Waits p.shared p.others)) none) ∙ p.tells)
 
     -- the steps after a pick
     abbrev pub left_of : ℕ
@@ -196,17 +215,27 @@ module _ (m : Module) (u : Setup) (schedule : List ℕ) where
         (picked_on (fiber_of m u) (picks_in (fiber_of m u) schedule left_of) (fibers_step (fiber_of m u) schedule (Waits p.shared p.others))))
         ∙ sym (ap (λ n. ends_from m u schedule p.made n (Waits p.shared p.others)) (one_left some)) ∙ p.same
 
+    -- what is told from that step on, by whom it takes among some fibers
+    abbrev told_by_pick : List ℕ → List Calls × Option Calls
+    told_by_pick ks = tells_after m u schedule (acting_of (fiber_of m u) (call_sites m) schedule p.others ks) p.said left_of (picked (fiber_of m u) schedule p.shared p.others ks)
+
+    told_after_pick : t.running.budget.left ≢ 0 → told_by_pick (runnable_in t.table) ≡ all_told m u schedule
+    told_after_pick some = ap told_by_pick (sym same_runnable) ∙ sym (ap (λ n. tells_from m u schedule p.said n (Waits p.shared p.others)) (one_left some)) ∙ p.tells
+
     append_nil : (l : List Pick) → l ++ [] ≡ l
     append_nil [] = refl
     append_nil (x ∷ l) = ap (λ ps. x ∷ ps) (append_nil l)
 
     -- nobody may go on
-    pub pick_deadlocks : t.running.budget.left ≢ 0 → runnable_in t.table ≡ [] → (site : ℕ) → site ≡ site_of (stands_of t.table 0) → IsOver m u schedule («end».Trap trap.Deadlock site) t
-    pick_deadlocks some none site is =
-        ends_so m u schedule (p.made ++ []) («end».Trap trap.Deadlock site) p.shared.world p.beside t (subst (Records t.table.recorder) (sym (append_nil p.made)) p.recorded)
+    pub pick_deadlocks : t.running.budget.left ≢ 0 → runnable_in t.table ≡ [] → (site : ℕ) → site ≡ site_of (stands_of t.table 0) → (last : Option Calls) → (t.wanted ≡ true → last ≡ Some (record { sites = []; started = 0 }))
+        → IsOver m u schedule («end».Trap trap.Deadlock site) (record t { ended = last })
+    pick_deadlocks some none site is last ended =
+        ends_so m u schedule (p.made ++ []) («end».Trap trap.Deadlock site) p.shared.world p.beside (record t { ended = last }) (subst (Records t.table.recorder) (sym (append_nil p.made)) p.recorded)
         (ap (λ s. ended_so (p.made ++ []) («end».Trap trap.Deadlock s) p.shared.world) (is ∙ sym (same_site 0 (stands_of t.table 0) (p.others.stands 0) (p.between.stands.stands 0)))
         ∙ sym (ap (λ ks. ends_after m u schedule (made_by ks) left_of (picked (fiber_of m u) schedule p.shared p.others ks)) none) ∙ after some)
-        p.between.shows p.between.told few
+        p.between.shows p.between.told few p.said.calls (Some (calls_by m u schedule (acts 0 None) p.said)) p.telling.kept ended
+        (sym (ap (λ (l : List Calls). told_so l (Some (calls_by m u schedule (acts 0 None) p.said))) (tell_none (calls_by m u schedule (acts 0 None) p.said) p.shared.world.reports p.said.calls told_few))
+        ∙ sym (ap told_by_pick none) ∙ told_after_pick some)
 
     -- ---- one was picked
 
@@ -219,6 +248,13 @@ module _ (m : Module) (u : Setup) (schedule : List ℕ) where
         ≡ resumes (fiber_of m u) p.shared p.others (get_or ks (get_or schedule (p.others.picks % length schedule) 0 % length ks) 0)
     picks [] some = absurd (omega (arith, some))
     picks (k ∷ ks) some = ap (resumes (fiber_of m u) p.shared p.others) (get_any (k ∷ ks) (get_or schedule (p.others.picks % length schedule) 0 % length (k ∷ ks)) k 0 (mod_below (get_or schedule (p.others.picks % length schedule) 0) (length (k ∷ ks)) some))
+
+    -- who acts then
+    who : (ks : List ℕ) → 0 < length ks → acting_of (fiber_of m u) (call_sites m) schedule p.others ks
+        ≡ acts (get_or ks (get_or schedule (p.others.picks % length schedule) 0 % length ks) 0) (p.others.stands (get_or ks (get_or schedule (p.others.picks % length schedule) 0 % length ks) 0))
+    who [] some = absurd (omega (arith, some))
+    who (k ∷ ks) some =
+        ap (λ (n : ℕ). acts n (p.others.stands n)) (get_any (k ∷ ks) (get_or schedule (p.others.picks % length schedule) 0 % length (k ∷ ks)) k 0 (mod_below (get_or schedule (p.others.picks % length schedule) 0) (length (k ∷ ks)) some))
 
     module _ (some : t.running.budget.left ≢ 0) (scheduled : 0 < length schedule) (h : ThreadTable) (pk : Picked schedule t.table h) where
       turn_is : h.turn ≡ get_or (runnable_in t.table) (get_or schedule (p.others.picks % length schedule) 0 % length (runnable_in t.table)) 0
@@ -253,6 +289,13 @@ module _ (m : Module) (u : Setup) (schedule : List ℕ) where
           ap (λ n. ends_after m u schedule (made_by (runnable_in t.table)) left_of (resumes (fiber_of m u) p.shared p.others n)) turn_is
           ∙ sym (ap (ends_after m u schedule (made_by (runnable_in t.table)) left_of) (picks (runnable_in t.table) pk.some)) ∙ after some
 
+      tells_so : tells_after m u schedule (acts h.turn (p.others.stands h.turn)) p.said left_of (resumes (fiber_of m u) p.shared p.others h.turn) ≡ all_told m u schedule
+      tells_so =
+          ap (λ n. tells_after m u schedule (acts n (p.others.stands n)) p.said left_of (resumes (fiber_of m u) p.shared p.others n)) turn_is
+          ∙ sym (ap (λ a. tells_after m u schedule a p.said left_of (resumes (fiber_of m u) p.shared p.others (get_or (runnable_in t.table) (get_or schedule (p.others.picks % length schedule) 0 % length (runnable_in t.table)) 0))) (who (runnable_in t.table) pk.some))
+          ∙ sym (ap (tells_after m u schedule (acting_of (fiber_of m u) (call_sites m) schedule p.others (runnable_in t.table)) p.said left_of) (picks (runnable_in t.table) pk.some))
+          ∙ told_after_pick some
+
       -- the world and the fibers then
       abbrev shared' : Shared
       shared' = record p.shared { world = turned h.turn p.shared.world }
@@ -263,7 +306,7 @@ module _ (m : Module) (u : Setup) (schedule : List ℕ) where
       abbrev beside' : Beside
       beside' = record p.beside { fibers = record p.beside.fibers { turn = h.turn } }
 
-      module _ (t' : ThreadedRun) (fiber : Fiber) (st : Stands None h t'.table) (running : t'.running ≡ record t.running { fiber = fiber }) where
+      module _ (t' : ThreadedRun) (fiber : Fiber) (st : Stands None h t'.table) (running : t'.running ≡ record t.running { fiber = fiber }) (calls : KeepsCalls t t') where
         threads' : t'.table.threads ≡ t.table.threads
         threads' = st.threads ∙ pk.threads
 
@@ -293,6 +336,9 @@ module _ (m : Module) (u : Setup) (schedule : List ℕ) where
 
         recorded' : Records t'.table.recorder (made_by (runnable_in t.table))
         recorded' = subst (λ r. Records r (made_by (runnable_in t.table))) (sym st.same.recorder) recorded_on
+
+        telling' : Telling t' p.said
+        telling' = telling_kept t t' p.said p.telling (ap (λ v. map (λ (x : Guest). x.start) v.items) threads') (ap (λ (r : Running). r.told) running) calls
 
         left' : t'.running.budget.left ≡ suc left_of
         left' = ap (λ (r : Running). r.budget.left) running ∙ one_left some
@@ -329,6 +375,11 @@ module _ (m : Module) (u : Setup) (schedule : List ℕ) where
               made = made_by (runnable_in t.table);
               recorded = recorded';
               same = sym (ap (λ o. ends_after m u schedule (made_by (runnable_in t.table)) left_of (resumed (fiber_of m u) shared' others' h.turn o (thread_at h.turn p.shared.world.threads))) e) ∙ resumes_so;
+              said = p.said;
+              telling = telling';
+              tells =
+                  ap (λ n. tells_after m u schedule (acts n (Some frames)) p.said left_of (resumed (fiber_of m u) shared' others' h.turn (Some frames) (thread_at h.turn p.shared.world.threads))) turn'
+                  ∙ sym (ap (λ o. tells_after m u schedule (acts h.turn o) p.said left_of (resumed (fiber_of m u) shared' others' h.turn o (thread_at h.turn p.shared.world.threads))) e) ∙ tells_so;
             }
 
         -- it begins
@@ -360,6 +411,13 @@ module _ (m : Module) (u : Setup) (schedule : List ℕ) where
                   sym (ap (λ o. ends_after m u schedule (made_by (runnable_in t.table)) left_of (resumed (fiber_of m u) shared' others' h.turn o (thread_at h.turn p.shared.world.threads))) e
                   ∙ ap (λ o. ends_after m u schedule (made_by (runnable_in t.table)) left_of (resumed (fiber_of m u) shared' others' h.turn None o)) (ap (thread_at h.turn) threads_are ∙ sym (same_thread h.turn t.table.threads.items) ∙ ap (option_map thread_of) is))
                   ∙ resumes_so;
+              said = p.said;
+              telling = telling';
+              tells =
+                  ap (λ n. tells_after m u schedule (acts n None) p.said left_of (resumed (fiber_of m u) shared' others' h.turn None (Some (thread_of guest)))) turn'
+                  ∙ sym (ap (λ o. tells_after m u schedule (acts h.turn o) p.said left_of (resumed (fiber_of m u) shared' others' h.turn o (thread_at h.turn p.shared.world.threads))) e
+                  ∙ ap (λ o. tells_after m u schedule (acts h.turn None) p.said left_of (resumed (fiber_of m u) shared' others' h.turn None o)) (ap (thread_at h.turn) threads_are ∙ sym (same_thread h.turn t.table.threads.items) ∙ ap (option_map thread_of) is))
+                  ∙ tells_so;
             }
 
             by_fiber : (f : Option (List (Frame ℕ))) → p.others.stands h.turn ≡ f → StandsAt m u h.turn None f → Beginning m u schedule t'

@@ -1,5 +1,5 @@
 -- What thread calls and ends of threads do to the threads of a run is what they do to the fibers of its world.
-use Rattle.std.proofs.Common.{◌≡◌, ◌<◌, ◌≤◌, ◌+◌, ◌-◌, ◌&&◌, ◌||◌, ◌≢◌, ℕ, zero, suc, Bool, true, false, not, List, [], ◌∷◌, ◌++◌, length, map, get_or, slice_get, eqb, leb, if◌then◌else◌, refl, sym, ap, ◌∙◌, subst, arith, Some, None, option_map, inl, inr, true≢false, eqb-true, Result}
+use Rattle.std.proofs.Common.{◌≡◌, ◌<◌, ◌≤◌, ◌+◌, ◌-◌, ◌&&◌, ◌||◌, ◌≢◌, ℕ, zero, suc, Bool, true, false, not, List, [], ◌∷◌, ◌++◌, length, map, replicate, get_or, slice_get, eqb, leb, if◌then◌else◌, refl, sym, ap, ◌∙◌, subst, arith, Some, None, option_map, unwrap_or, inl, inr, true≢false, eqb-true, Result}
 use Rattle.std.specs.Prelude.{IfOk}
 use Rattle.std.proofs.Math.ListN.{set}
 use Rattle.std.proofs.Math.Nat.{suc-ne-zero}
@@ -12,10 +12,12 @@ use Rattle.ms_ir.specs.declared.syntax.Ty.{Ty}
 use Rattle.ms_ir.specs.declared.calls.External.TheVariants as external
 use Rattle.ms_runs.specs.World.{World, Setting, Thread, Effect, Gives, Ends}
 use Rattle.ms_runs.specs.Memory.{is_good, store_number}
+use Rattle.ms_runs.proofs.Telling.{tell_none}
 use Rattle.ms_runs.specs.Externals.{where_good, create, join, joined}
 use Rattle.ms_runs.specs.Threads.{Fibers, fibers_of, fiber_limit, thread_at, changed_at, changed_thread, with_fiber, with_joined, has_ended, join_answer, set_at}
 use Rattle.ms_runs.specs.Poisoned.{Poisoned}
 use Rattle.ms_runs_threads.specs.Fibers.{waits}
+use Rattle.ms_runs_threads.specs.Calls.{start_of}
 use Rattle.ms_host.specs.declared.calls.Asked.{Asked}
 use Rattle.ms_host.specs.declared.calls.Asked.TheVariants as asked
 use Rattle.ms_host.specs.declared.calls.Answer.{Answer}
@@ -25,7 +27,7 @@ use Rattle.ms_host.specs.Shows.{Shows}
 use Rattle.ms_host.specs.Answers.{effect_asked}
 use Rattle.ms_threads.specs.declared.thread_table.Thread.{Thread as Guest}
 use Rattle.ms_threads.specs.declared.thread_table.ThreadTable.{ThreadTable}
-use Rattle.ms_threads.specs.ThreadTables.{thread_of, fresh, joined_guest, ended_guest, guest_at, part_at, changed_guests, changed_guest, stand_at, asked_creates, asked_joins, IsThreadCall, threads_of, Shares, Added, Changed, KeepsStands, Did}
+use Rattle.ms_threads.specs.ThreadTables.{thread_of, fresh, joined_guest, ended_guest, guest_at, part_at, changed_guests, changed_guest, stand_at, asked_creates, asked_joins, IsThreadCall, threads_of, starts_of, Shares, Added, Changed, KeepsStands, Did}
 use Rattle.ms_threads.proofs.Places.{none_more, no_call}
 
 -- ---- lists
@@ -34,6 +36,17 @@ use Rattle.ms_threads.proofs.Places.{none_more, no_call}
 pub same_thread : (n : ℕ) (ts : List Guest) → option_map thread_of (guest_at n ts) ≡ thread_at n (map thread_of ts)
 same_thread zero ts = refl
 same_thread (suc k) ts = sym (slice_get-map thread_of ts k)
+
+-- the site of the call that made one
+pub start_there : (n : ℕ) (ts : List Guest) → start_of n (map (λ (t : Guest). t.start) ts) ≡ unwrap_or (option_map (λ (t : Guest). t.start) (guest_at n ts)) 0
+start_there zero ts = refl
+start_there (suc k) ts = by_place k ts
+  where
+    by_place : (k : ℕ) (ts : List Guest) → get_or (map (λ (t : Guest). t.start) ts) k 0 ≡ unwrap_or (option_map (λ (t : Guest). t.start) (slice_get ts k)) 0
+    by_place zero [] = refl
+    by_place (suc k) [] = refl
+    by_place zero (t ∷ ts) = refl
+    by_place (suc k) (t ∷ ts) = by_place k ts
 
 -- a changed list
 pub set_changed : (k : ℕ) (change : Guest → Guest) (ts : List Guest) (d : Guest) → k < length ts → set ts k (change (get_or ts k d)) ≡ changed_guests k change ts
@@ -123,15 +136,15 @@ shows_fibers w beside world f shows = record {
 abbrev pub one_more_fiber : (func argument : ℕ) → Fibers → Fibers
 one_more_fiber func argument f = record f { threads = f.threads ++ record { func = func; argument = argument; ended = false; joined = false } ∷ [] }
 
-pub shares_made : (func argument : ℕ) (g h : ThreadTable) (f : Fibers) → Shares g f → Added func argument g h → Shares h (one_more_fiber func argument f)
-shares_made func argument g h f s a = record {
+pub shares_made : (func argument start : ℕ) (g h : ThreadTable) (f : Fibers) → Shares g f → Added func argument start g h → Shares h (one_more_fiber func argument f)
+shares_made func argument start g h f s a = record {
   turn = s.turn ∙ sym a.same.turn;
   threads =
       ap (λ ts. ts ++ record { func = func; argument = argument; ended = false; joined = false } ∷ []) s.threads
-      ∙ sym (ap (map thread_of) a.threads ∙ map_more thread_of g.threads.items (fresh func argument));
-  answers = λ k. s.answers k ∙ sym (ap (λ ts. part_at (λ t. t.answer) ts k) a.threads ∙ part_more (λ t. t.answer) g.threads.items (fresh func argument) refl k);
-  masks = λ k. s.masks k ∙ sym (ap (λ ts. part_at (λ t. t.mask) ts k) a.threads ∙ part_more (λ t. t.mask) g.threads.items (fresh func argument) refl k);
-  origins = λ k. s.origins k ∙ sym (ap (λ ts. part_at (λ t. t.origin) ts k) a.threads ∙ part_more (λ t. t.origin) g.threads.items (fresh func argument) refl k);
+      ∙ sym (ap (map thread_of) a.threads ∙ map_more thread_of g.threads.items (fresh func argument start));
+  answers = λ k. s.answers k ∙ sym (ap (λ ts. part_at (λ t. t.answer) ts k) a.threads ∙ part_more (λ t. t.answer) g.threads.items (fresh func argument start) refl k);
+  masks = λ k. s.masks k ∙ sym (ap (λ ts. part_at (λ t. t.mask) ts k) a.threads ∙ part_more (λ t. t.mask) g.threads.items (fresh func argument start) refl k);
+  origins = λ k. s.origins k ∙ sym (ap (λ ts. part_at (λ t. t.origin) ts k) a.threads ∙ part_more (λ t. t.origin) g.threads.items (fresh func argument start) refl k);
 }
 
 -- one was joined
@@ -252,7 +265,7 @@ threads_in w beside world g shows s = ap (λ f. f.threads) shows.fibers ∙ s.th
 turn_in : (w : WorldState) (beside : Beside) (world : World) (g : ThreadTable) → Shows w beside world → Shares g beside.fibers → world.turn ≡ g.turn
 turn_in w beside world g shows s = ap (λ f. f.turn) shows.fibers ∙ s.turn
 
-made_in : (w : WorldState) (beside : Beside) (world : World) (g : ThreadTable) → Shows w beside world → Shares g beside.fibers → length world.threads ≡ length g.threads.items
+pub made_in : (w : WorldState) (beside : Beside) (world : World) (g : ThreadTable) → Shows w beside world → Shares g beside.fibers → length world.threads ≡ length g.threads.items
 made_in w beside world g shows s = ap length (threads_in w beside world g shows s) ∙ length-map g.threads.items thread_of
 
 -- an effect that is another one's
@@ -273,7 +286,7 @@ module _ (site id func argument : ℕ) where
       (ap (λ n. leb fiber_limit (n + 1)) (made_in w beside world g shows s) ∙ full))
       (beside.fibers, ((refl, shows), s))
 
-  module _ (g h : ThreadTable) (beside : Beside) (w w' : WorldState) (world : World) (shows : Shows w beside world) (s : Shares g beside.fibers) (room : leb fiber_limit (length g.threads.items + 1) ≡ false) (added : Added func argument g h) where
+  module _ (g h : ThreadTable) (beside : Beside) (w w' : WorldState) (world : World) (shows : Shows w beside world) (s : Shares g beside.fibers) (room : leb fiber_limit (length g.threads.items + 1) ≡ false) (added : Added func argument site g h) where
     made : World
     made = store_number id 8 (length world.threads + 1) (with_fiber func argument world)
 
@@ -286,7 +299,7 @@ module _ (site id func argument : ℕ) where
     -- its number was stored
     pub create_done : (n : ℕ) → n ≡ length h.threads.items → is_good world id 8 ≡ true → Shows w' beside (store_number id 8 n world) → Did (create site id func argument world) (answer.Resumed (Some 0)) beside h w'
     create_done n is good after =
-        let number : n ≡ length world.threads + 1 = is ∙ ap length added.threads ∙ (let e : length (g.threads.items ++ fresh func argument ∷ []) ≡ length g.threads.items + 1 = length-append g.threads.items (fresh func argument ∷ []) in e)
+        let number : n ≡ length world.threads + 1 = is ∙ ap length added.threads ∙ (let e : length (g.threads.items ++ fresh func argument site ∷ []) ≡ length g.threads.items + 1 = length-append g.threads.items (fresh func argument site ∷ []) in e)
         ∙ ap (λ k. k + 1) (sym (made_in w beside world g shows s)) in
         let fibers = one_more_fiber func argument beside.fibers in
         did_as (create site id func argument world) (Gives 0 (store_number id 8 (length world.threads + 1) (with_fiber func argument world))) (answer.Resumed (Some 0)) beside h w' (is_made true good) (
@@ -298,7 +311,7 @@ module _ (site id func argument : ℕ) where
                   (shows_fibers w' beside (store_number id 8 (length world.threads + 1) world) (one_more_fiber func argument (fibers_of world))
                   (subst (λ k. Shows w' beside (store_number id 8 k world)) number after)),
             ),
-            shares_made func argument g h beside.fibers s added,
+            shares_made func argument site g h beside.fibers s added,
           ),
         )
 
@@ -409,26 +422,50 @@ module _ (site id r : ℕ) (g : ThreadTable) (beside : Beside) (w : WorldState) 
 
 -- ---- where they stand
 
-pub keeps_made : (func argument : ℕ) (g h : ThreadTable) → leb fiber_limit (length g.threads.items + 1) ≡ false → Added func argument g h → KeepsStands (func ∷ []) g h
-keeps_made func argument g h room a = record {
+-- as many sites of calls are kept as there are threads
+pub count_starts : (g : ThreadTable) → length (starts_of g) ≡ length g.threads.items
+count_starts g = length-map g.threads.items (λ (t : Guest). t.start)
+
+pub count_threads : (g : ThreadTable) → length (threads_of g) ≡ length g.threads.items
+count_threads g = length-map g.threads.items thread_of
+
+pub keeps_made : (func argument start : ℕ) (g h : ThreadTable) → leb fiber_limit (length g.threads.items + 1) ≡ false → Added func argument start g h → KeepsStands start (func ∷ []) g h
+keeps_made func argument start g h room a = record {
   stands = λ k. ap (λ ps. stand_at ps k) a.stands.1.1 ∙ none_more g.parked.items a.stands.0 (no_call a.stands.0 a.stands.1.0) k;
   counted = λ counted.
       let s : length h.parked.items ≡ length g.parked.items + 1 = ap length a.stands.1.1 ∙ length-append g.parked.items (a.stands.0 ∷ []) in
-      let t : length h.threads.items ≡ length g.threads.items + 1 = ap length a.threads ∙ length-append g.threads.items (fresh func argument ∷ []) in
+      let t : length h.threads.items ≡ length g.threads.items + 1 = ap length a.threads ∙ length-append g.threads.items (fresh func argument start ∷ []) in
       omega (arith, s, t, counted);
   few = λ counted le.
       let s : length h.parked.items ≡ length g.parked.items + 1 = ap length a.stands.1.1 ∙ length-append g.parked.items (a.stands.0 ∷ []) in
       omega (arith, s, counted, leb-false fiber_limit (length g.threads.items + 1) room);
-  funcs = inr (ap (map (λ (t : Guest). t.func)) a.threads ∙ map_more (λ (t : Guest). t.func) g.threads.items (fresh func argument));
+  funcs = inr (ap (map (λ (t : Guest). t.func)) a.threads ∙ map_more (λ (t : Guest). t.func) g.threads.items (fresh func argument start));
+  sites = ap (map (λ (t : Guest). t.start)) a.threads ∙ map_more (λ (t : Guest). t.start) g.threads.items (fresh func argument start) ∙ sym (ap (λ k. starts_of g ++ replicate k start) one);
   same = a.same;
 }
+  where
+    one : length (threads_of h) - length (starts_of g) ≡ 1
+    one =
+        let more : length h.threads.items ≡ length g.threads.items + 1 = ap length a.threads ∙ length-append g.threads.items (fresh func argument start ∷ []) in
+        let all = count_threads h in
+        let old = count_starts g in
+        omega (arith, more, all, old)
 
-pub keeps_changed : (n : ℕ) (change : Guest → Guest) → ((t : Guest) → (change t).func ≡ t.func) → (starts : List ℕ) (g h : ThreadTable) → Changed n change g h → KeepsStands starts g h
-keeps_changed n change same starts g h c = record {
+pub starts_changed : (n : ℕ) (change : Guest → Guest) → ((t : Guest) → (change t).start ≡ t.start) → (g h : ThreadTable) → Changed n change g h → starts_of h ≡ starts_of g
+starts_changed n change stays g h c = ap (map (λ (t : Guest). t.start)) c.threads ∙ by_number n
+  where
+    by_number : (n : ℕ) → map (λ (t : Guest). t.start) (changed_guest n change g.threads.items) ≡ map (λ (t : Guest). t.start) g.threads.items
+    by_number zero = refl
+    by_number (suc k) = map_changed change (λ t. t.start) stays k g.threads.items
+
+pub keeps_changed : (n : ℕ) (change : Guest → Guest) → ((t : Guest) → (change t).func ≡ t.func) → ((t : Guest) → (change t).start ≡ t.start) → (site : ℕ) (starts : List ℕ) (g h : ThreadTable) → Changed n change g h
+    → KeepsStands site starts g h
+keeps_changed n change same stays site starts g h c = record {
   stands = λ k. ap (λ v. stand_at v.items k) c.stands;
   counted = λ counted. ap (λ v. length v.items) c.stands ∙ counted ∙ ap (λ k. k + 1) (sym (ap length c.threads ∙ len n));
   few = λ counted le. subst (λ v. length v.items ≤ fiber_limit) (sym c.stands) le;
   funcs = inl (ap (map (λ (t : Guest). t.func)) c.threads ∙ funcs n);
+  sites = starts_changed n change stays g h c ∙ sym (tell_none site (threads_of h) (starts_of g) few);
   same = c.same;
 }
   where
@@ -436,12 +473,22 @@ keeps_changed n change same starts g h c = record {
     len zero = refl
     len (suc k) = length_changed change k g.threads.items
 
+    few : length (threads_of h) ≤ length (starts_of g)
+    few = let same : length h.threads.items ≡ length g.threads.items = ap length c.threads ∙ len n in let all = count_threads h in let old = count_starts g in omega (arith, same, all, old)
+
     funcs : (n : ℕ) → map (λ (t : Guest). t.func) (changed_guest n change g.threads.items) ≡ map (λ (t : Guest). t.func) g.threads.items
     funcs zero = refl
     funcs (suc k) = map_changed change (λ t. t.func) same k g.threads.items
 
-pub keeps_all : (starts : List ℕ) (g : ThreadTable) → KeepsStands starts g g
-keeps_all starts g = record { stands = λ k. refl; counted = λ c. c; few = λ c le. le; funcs = inl refl; same = record { turn = refl; place = refl; recorder = refl } }
+pub keeps_all : (site : ℕ) (starts : List ℕ) (g : ThreadTable) → KeepsStands site starts g g
+keeps_all site starts g = record {
+  stands = λ k. refl;
+  counted = λ c. c;
+  few = λ c le. le;
+  funcs = inl refl;
+  sites = sym (tell_none site (threads_of g) (starts_of g) (let all = count_threads g in let old = count_starts g in omega (arith, all, old)));
+  same = record { turn = refl; place = refl; recorder = refl };
+}
 
 -- ---- what is asked for
 

@@ -1,5 +1,5 @@
 -- From one pause to the next a run of threads keeps what it answers.
-use Rattle.std.proofs.Common.{◌≡◌, ◌<◌, ◌≤◌, ◌+◌, ◌-◌, ◌*◌, ◌%◌, ◌^◌, ℕ, suc, Bool, true, false, eqb, if◌then◌else◌, List, [], ◌∷◌, ◌++◌, length, slice_get, refl, sym, ap, subst, ◌∙◌, arith, Some}
+use Rattle.std.proofs.Common.{◌≡◌, ◌<◌, ◌≤◌, ◌+◌, ◌-◌, ◌*◌, ◌%◌, ◌^◌, ℕ, suc, Bool, true, false, eqb, if◌then◌else◌, List, [], ◌∷◌, ◌++◌, length, slice_get, refl, sym, ap, subst, ◌∙◌, arith, Option, Some, None}
 use Rattle.std.proofs.lemmas.Nat.{mod_below}
 use Rattle.ms_bits.specs.Maps.{number_at}
 use Rattle.ms_ir.specs.declared.syntax.Module.{Module}
@@ -15,7 +15,10 @@ use Rattle.ms_runs.specs.Poisoned.{Poisoned}
 use Rattle.ms_runs.specs.Threads.{Fibers, fibers_of, with_answer, result_mask, result_origin}
 use Rattle.ms_runs_good_laws.specs.GoodWorlds.{GoodWorld, FitsCell}
 use Rattle.ms_runs_good_laws.proofs.WorldChanges.{given_back_good}
+use Rattle.ms_runs_threads.specs.Fibers.{Waits, fibers_step}
 use Rattle.ms_runs_threads.specs.PlainFibers.{Shared, plain_threads}
+use Rattle.ms_runs_threads.specs.Calls.{Told, start_of}
+use Rattle.ms_runs.specs.declared.runs.Calls.{Calls}
 use Rattle.ms_host.specs.State.{Beside}
 use Rattle.ms_host.specs.Shows.{Shows}
 use Rattle.ms_host.specs.SlotBytes.{ShowsSlots}
@@ -23,19 +26,26 @@ use Rattle.ms_host.specs.declared.calls.Asked.{Asked}
 use Rattle.ms_host.specs.declared.calls.Asked.TheVariants as asked
 use Rattle.ms_host.specs.declared.calls.HostCall.{HostCall}
 use Rattle.ms_machine_frames.specs.declared.fibers.Fiber.{Fiber}
-use Rattle.ms_machine_steps.specs.Advances.{Counts, IsSpent, HasEnded as HasStopped, HasAsked, HasFinished}
+use Rattle.ms_runs.specs.Plain.{PlainState, Stepped, More, steps}
+use Rattle.ms_runs_good_laws.proofs.ReportsGrow.{stepped_world}
+use Rattle.ms_runtime.proofs.ToldSteps.{one_grows}
+use Rattle.ms_runs_fills_laws.proofs.Kept.{given_back_kept}
+use Rattle.ms_threads_laws.proofs.OwnSteps.{back_keeps}
+use Rattle.ms_runtime.specs.declared.runs.Running.{Running}
+use Rattle.ms_machine_steps.specs.Advances.{step_of, AllOwn, Within, Counts, IsSpent, HasEnded as HasStopped, HasAsked, HasFinished}
 use Rattle.ms_machine.specs.Running.{IsRunning}
 use Rattle.ms_runtime.specs.Served.{IsBeside}
 use Rattle.ms_runtime.specs.Going.{ahead, LeftAfter}
 use Rattle.ms_runtime.proofs.Goings.{answers_so, fewer, not_further, slack_is, after}
 use Rattle.ms_threads.specs.declared.runs.ThreadedRun.{ThreadedRun}
-use Rattle.ms_threads.specs.ThreadTables.{Shares, Changed, KeepsStands, ended_guest}
+use Rattle.ms_threads.specs.ThreadTables.{Shares, Changed, KeepsStands, ended_guest, starts_of}
 use Rattle.ms_threads_schedules_laws.specs.Picks.{Pick}
 use Rattle.ms_threads.specs.declared.thread_table.ThreadTable.{ThreadTable}
 use Rattle.ms_threads.specs.Recording.{Records}
-use Rattle.ms_threads.specs.Going.{Standings, Recorded, IsOver, ended_so, ends_after, last_of, most_ahead, far_of, Going, Asking, Picking, HasEnded}
-use Rattle.ms_threads.proofs.Threading.{shows_fibers, ended_fiber, shares_ended, keeps_changed}
+use Rattle.ms_threads.specs.Going.{Standings, Recorded, IsOver, ended_so, ends_after, last_of, fiber_of, goes_at, told_so, tells_from, all_told, calls_there, Telling, KeepsCalls, most_ahead, far_of, Going, Asking, Picking, HasEnded}
+use Rattle.ms_threads.proofs.Threading.{shows_fibers, ended_fiber, shares_ended, starts_changed, keeps_changed}
 use Rattle.ms_threads.proofs.Kept.{standings_kept}
+use Rattle.ms_threads.proofs.Telling.{telling_kept, all_started, calls_by, going, spent_tells, due_tells, within_tells, more_after, over_after, own_fibers}
 use Rattle.ms_threads.proofs.FiberSteps.{same_step, step_ends, step_returns, run_spent, run_due, answered_word, after_return}
 
 -- ---- numbers
@@ -74,17 +84,29 @@ ended_good mask value origin w g = record {
 module _ (m : Module) (u : Setup) (schedule : List ℕ) where
   -- a run that ends so answers what the whole run does
   pub ends_so : (made : List Pick) (e : End) (last : World) (beside : Beside) (t : ThreadedRun) → Recorded t made → ended_so made e last ≡ last_of m u schedule → Shows t.running.world beside last → IsBeside t.running.depot t.running.told beside
-      → t.running.told.blind ≤ 2 ^ 62 → IsOver m u schedule e t
-  ends_so made e last beside t recorded is shows told few = (
+      → t.running.told.blind ≤ 2 ^ 62 → (calls : List Calls) (one : Option Calls) → (t.wanted ≡ true → t.calls.items ≡ calls) → (t.wanted ≡ true → t.ended ≡ one) → told_so calls one ≡ all_told m u schedule → IsOver m u schedule e t
+  ends_so made e last beside t recorded is shows told few calls one kept ended tells = (
     answers_so (plain_threads m u schedule) e last beside t.running (ap (λ (at : (End × World) × List Pick). result at.0.0 at.0.1) (sym is)) shows told few,
     subst (Records t.table.recorder) (sym (append_nil made) ∙ ap (λ (at : (End × World) × List Pick). at.1) is) recorded,
+    λ wanted. kept wanted ∙ ap (λ (p : List Calls × Option Calls). p.0) tells,
+    λ wanted. ended wanted ∙ ap (λ (p : List Calls × Option Calls). p.1) tells,
   )
     where
       append_nil : (l : List Pick) → l ++ [] ≡ l
       append_nil [] = refl
       append_nil (p ∷ l) = ap (λ ps. p ∷ ps) (append_nil l)
 
-  module _ (t : ThreadedRun) (g : Going m u schedule t) (t' : ThreadedRun) (depot : t'.running.depot ≡ t.running.depot) (told : t'.running.told ≡ t.running.told) (guests : t'.table ≡ t.table) where
+  module _ (t : ThreadedRun) (g : Going m u schedule t) (t' : ThreadedRun) (depot : t'.running.depot ≡ t.running.depot) (told : t'.running.told ≡ t.running.told) (guests : t'.table ≡ t.table) (calls : KeepsCalls t t') where
+    still_telling : Telling t' g.said
+    still_telling = telling_kept t t' g.said g.telling (ap starts_of guests) told calls
+
+    -- nothing new is to be told where reports and threads are those that were there
+    told_few : (last : World) → last.reports ≡ g.beside.reports → length last.reports ≤ length g.said.calls
+    told_few last e = let same : length last.reports ≡ length t.running.told.reports = ap length (e ∙ g.told.reports) in omega (arith, same, g.telling.counted)
+
+    started_few : length g.state.world.threads ≤ length g.said.starts
+    started_few = let all = all_started t g.beside t.running.world g.state.world g.said g.stands.shows g.shares g.telling in omega (arith, all)
+
     still_recorded : Recorded t' g.made
     still_recorded = subst (λ (x : ThreadTable). Records x.recorder g.made) (sym guests) g.recorded
 
@@ -103,16 +125,44 @@ module _ (m : Module) (u : Setup) (schedule : List ℕ) where
     -- no step is left
     pub turn_spent : IsSpent (IsRunning m u g.beside) m u g.state t.running.budget.left t'.running.fiber t'.running.world t'.running.budget.left → IsOver m u schedule «end».Spent t'
     turn_spent h =
-        ends_so g.made «end».Spent h.last.world g.beside t' still_recorded (sym (run_spent m u schedule g.made t.running.budget.left g.state h.last g.others h.own h.came) ∙ g.same) h.stands.shows still_beside still_few
+        ends_so g.made «end».Spent h.last.world g.beside t' still_recorded (sym (run_spent m u schedule g.made t.running.budget.left g.state h.last g.others h.own h.came) ∙ g.same) h.stands.shows still_beside still_few g.said.calls None still_telling.kept (λ wanted. still_telling.none)
+        (sym (spent_tells m u schedule t.running.budget.left g.state h.last g.others g.said h.own h.came started_few (told_few h.last.world h.stands.shows.reports)) ∙ g.tells)
 
     -- a step ended it
-    pub turn_ended : (e : End) → HasStopped m u g.beside g.state t.running.budget.left e t'.running.world → IsOver m u schedule e t'
-    turn_ended e h =
+    pub turn_ended : (e : End) (h : HasStopped m u g.beside g.state t.running.budget.left e t'.running.fiber t'.running.world) (t'' : ThreadedRun) → t'' ≡ record t' { ended = t''.ended }
+        → (t'.wanted ≡ true → t''.ended ≡ Some (calls_there m t'.table h.within.frames)) → IsOver m u schedule e t''
+    turn_ended e h t'' is ended =
+        let turn_then : h.before.world.turn ≡ t'.table.turn = ap (λ (f : Fibers). f.turn) (own_fibers m u schedule h.done g.state h.before h.own h.came ∙ g.stands.shows.fibers) ∙ g.shares.turn ∙ ap (λ (x : ThreadTable). x.turn) (sym guests) in
+        let there : calls_there m t'.table h.within.frames ≡ calls_by m u schedule (going m u schedule h.before) g.said = λ i. record { sites = sym h.same.calls i; started = start_of (sym turn_then i) (sym still_telling.starts i) } in
         let rest : ℕ = t.running.budget.left - h.done - 1 in
         let sum : rest + h.done + 1 ≡ t.running.budget.left = omega (arith, h.few) in
-        ends_so g.made e h.last g.beside t' still_recorded
+        let all = told_few h.last h.shows.reports in
+        let up = one_grows m u h.before in
+        let same : length (stepped_world (step_of m u h.before)).reports ≡ length h.last.reports = ap (λ (y : Stepped PlainState). length (stepped_world y).reports) h.ends.step in
+        subst (IsOver m u schedule e) (sym is)
+        (ends_so g.made e h.last g.beside (record t' { ended = t''.ended }) still_recorded
         (sym (run_due m u schedule g.made t.running.budget.left rest h.done g.state h.before g.others sum h.own h.came ∙ ap (ends_after m u schedule g.made rest) (step_ends m u schedule h.before g.others e h.last h.ends)) ∙ g.same)
-        h.shows still_beside still_few
+        h.shows still_beside still_few g.said.calls (Some (calls_by m u schedule (going m u schedule h.before) g.said)) still_telling.kept (λ wanted. ended wanted ∙ ap (λ (c : Calls). Some c) there)
+        (sym (due_tells m u schedule t.running.budget.left rest h.done g.state h.before g.others g.said sum h.own h.came started_few (omega (arith, all, up, same))
+        ∙ over_after m u schedule (going m u schedule h.before) g.said rest (fibers_step (fiber_of m u) schedule (goes_at h.before g.others)) e h.last (step_ends m u schedule h.before g.others e h.last h.ends) all)
+        ∙ g.tells))
+
+    -- a step that was begun tells what it does from a state within it on
+    module _ (rest done : ℕ) (before within : PlainState) (sum : rest + done + 1 ≡ t.running.budget.left) (came : steps (step_of m u) done g.state ≡ More before) (own : AllOwn m u done g.state) (same : Within m u before within)
+        (reports : within.world.reports ≡ g.beside.reports) (fibers : fibers_of within.world ≡ g.beside.fibers) where
+      turn_within : before.world.turn ≡ within.world.turn
+      turn_within = ap (λ (f : Fibers). f.turn) (own_fibers m u schedule done g.state before own came ∙ g.stands.shows.fibers ∙ sym fibers)
+
+      pub started_within : length within.world.threads ≤ length g.said.starts
+      started_within = let e : length within.world.threads ≡ length g.state.world.threads = ap (λ (f : Fibers). length f.threads) (fibers ∙ sym g.stands.shows.fibers) in let le = started_few in omega (arith, e, le)
+
+      pub tells_within : tells_from m u schedule g.said (suc rest) (goes_at within g.others) ≡ all_told m u schedule
+      tells_within =
+          let all = told_few within.world reports in
+          let up = same.reports in
+          sym (due_tells m u schedule t.running.budget.left rest done g.state before g.others g.said sum own came started_few (omega (arith, all, up))
+          ∙ within_tells m u schedule before within g.others g.said rest same turn_within started_within)
+          ∙ g.tells
 
     -- ---- a call is asked for
 
@@ -159,13 +209,16 @@ module _ (m : Module) (u : Setup) (schedule : List ℕ) where
             same =
                 ap (ends_after m u schedule g.made b.0) (sym (same_step m u schedule h.before h.within g.others h.same))
                 ∙ sym (run_due m u schedule g.made t.running.budget.left b.0 h.done g.state h.before g.others b.1.1 h.own h.came) ∙ g.same;
+            said = g.said;
+            telling = still_telling;
+            tells = tells_within b.0 h.done h.before h.within b.1.1 h.came h.own h.same h.stands.shows.reports h.stands.shows.fibers;
           }
 
     -- ---- the thread has ended
 
     module _ (value : ℕ) (h : HasFinished m u g.beside g.state t.running.budget.left value t'.running.world t'.running.budget.left)
         (made : t'.running.world.made + 2 ^ 26 * t'.running.budget.left ≤ t.running.world.made + 2 ^ 26 * t.running.budget.left)
-        (t'' : ThreadedRun) (fiber : Fiber) (running : t''.running ≡ record t'.running { fiber = fiber }) (has : HasEnded value t' t'') where
+        (t'' : ThreadedRun) (fiber : Fiber) (running : t''.running ≡ record t'.running { fiber = fiber }) (has : HasEnded value t' t'') (calls' : KeepsCalls t' t'') where
       abbrev word : Poisoned
       word = answered_word m u schedule g.beside h.within value t'.running.world h.finishes
 
@@ -187,8 +240,16 @@ module _ (m : Module) (u : Setup) (schedule : List ℕ) where
       standings : Standings m u schedule t'.table g.others
       standings = subst (λ x. Standings m u schedule x g.others) (sym guests) g.standings
 
-      kept : KeepsStands [] t'.table t''.table
-      kept = keeps_changed t'.table.turn (ended_guest value (result_mask h.within.slots) (result_origin h.within.slots)) (λ t. refl) [] t'.table t''.table changed
+      kept : KeepsStands 0 [] t'.table t''.table
+      kept = keeps_changed t'.table.turn (ended_guest value (result_mask h.within.slots) (result_origin h.within.slots)) (λ t. refl) (λ t. refl) 0 [] t'.table t''.table changed
+
+      telling : Telling t'' g.said
+      telling =
+          telling_kept t' t'' g.said still_telling (starts_changed t'.table.turn (ended_guest value (result_mask h.within.slots) (result_origin h.within.slots)) (λ t. refl) t'.table t''.table changed)
+          (ap (λ (r : Running). r.told) running) calls'
+
+      now_shared : Shares t''.table beside'.fibers
+      now_shared = shares_ended value (result_mask h.within.slots) (result_origin h.within.slots) t'.table t''.table g.beside.fibers shares turn_few changed
 
       turn_few : t'.table.turn ≤ length t'.table.threads.items
       turn_few = omega (arith, standings.turn, standings.counted)
@@ -225,8 +286,8 @@ module _ (m : Module) (u : Setup) (schedule : List ℕ) where
           held = h.finishes.sound.slots;
           good = good_world;
           told = subst (λ r. IsBeside r.depot r.told beside') (sym running) (record { pairs = still_beside.pairs; reports = still_beside.reports; blind = still_beside.blind });
-          shares = shares_ended value (result_mask h.within.slots) (result_origin h.within.slots) t'.table t''.table g.beside.fibers shares turn_few changed;
-          stands = standings_kept m u schedule [] t'.table t''.table g.others standings kept (λ k f e. absurd (none_there k f e));
+          shares = now_shared;
+          stands = standings_kept m u schedule 0 [] t'.table t''.table g.others standings kept (λ k f e. absurd (none_there k f e));
           roots = ap (λ r. r.depot.roots) running ∙ ap (λ d. d.roots) depot ∙ g.keeping.roots;
           few = subst (λ r. length r.told.reports < u.reports) (sym running) few_reports;
           room = subst (λ r. r.world.made + 2 ^ 27 * r.budget.left ≤ 2 ^ 58) (sym running) (let e = left_is in omega (arith, e, made, g.keeping.room));
@@ -239,6 +300,15 @@ module _ (m : Module) (u : Setup) (schedule : List ℕ) where
             sym (ap (ends_after m u schedule g.made t''.running.budget.left)
             (same_step m u schedule h.before h.within g.others h.same ∙ step_returns m u schedule g.beside h.within value t'.running.world h.finishes g.others))
             ∙ sym (run_due m u schedule g.made t.running.budget.left t''.running.budget.left h.done g.state h.before g.others sum h.own h.came) ∙ g.same;
+        said = g.said;
+        telling = telling;
+        tells =
+            let sum : t''.running.budget.left + h.done + 1 ≡ t.running.budget.left = ap (λ r. r.budget.left + h.done + 1) running ∙ h.counted in
+            let all = all_started t'' beside' t'.running.world shared'.world g.said shown now_shared telling in
+            sym (more_after m u schedule (going m u schedule h.within) g.said t''.running.budget.left (fibers_step (fiber_of m u) schedule (goes_at h.within g.others)) (Waits shared' g.others)
+            (step_returns m u schedule g.beside h.within value t'.running.world h.finishes g.others) (omega (arith, all)) (told_few shared'.world shown.reports))
+            ∙ tells_within t''.running.budget.left h.done h.before h.within sum h.came h.own h.same
+            (sym (given_back_kept h.finishes.frame h.within.world).reports ∙ h.finishes.shows.reports) (sym (back_keeps h.finishes.frame h.within.world) ∙ h.finishes.shows.fibers);
       }
         where
           none_there : (k f : ℕ) → slice_get [] k ≡ Some f → ⊥

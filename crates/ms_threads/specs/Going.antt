@@ -1,17 +1,21 @@
 -- What a run of threads keeps from pause to pause (own).
-use Rattle.std.specs.Prelude.{◌≡◌, ◌<◌, ◌≤◌, ◌+◌, ◌*◌, ◌%◌, ◌^◌, ℕ, suc, false, not, List, [], ◌++◌, length, reverse, eqb, Option, Some, None, slice_get}
+use Rattle.std.specs.Prelude.{◌≡◌, ◌<◌, ◌≤◌, ◌+◌, ◌*◌, ◌%◌, ◌^◌, ℕ, suc, true, false, not, List, [], ◌++◌, length, reverse, eqb, Option, Some, None, slice_get}
 use Rattle.ms_ir.specs.declared.syntax.Module.{Module}
 use Rattle.ms_ir.specs.Instructions.{over_funcs, count_roots}
+use Rattle.ms_runs.specs.declared.runs.Calls.{Calls}
 use Rattle.ms_runs.specs.declared.runs.End.{End}
 use Rattle.ms_runs.specs.declared.runs.Setup.{Setup}
 use Rattle.ms_runs.specs.World.{World}
 use Rattle.ms_runs.specs.Control.{Frame}
 use Rattle.ms_runs.specs.Threads.{fiber_limit, result_mask, result_origin}
 use Rattle.ms_runs.specs.Plain.{PlainState, Stepped, setting_of}
+use Rattle.ms_runs.specs.Calls.{call_sites}
 use Rattle.ms_runs_good_laws.specs.GoodStates.{GoodFrames, IsBelow, IsStart}
 use Rattle.ms_runs_good_laws.specs.GoodWorlds.{GoodWorld, GivesBytes, FitsCell}
 use Rattle.ms_runs_threads.specs.Fibers.{Meaning, Others, Fibers, Goes, Waits, waits as must_wait, goes_on, moves, finish, fibers_step, ends_in}
 use Rattle.ms_runs_threads.specs.PlainFibers.{Shared, plain_fiber, plain_threads, plain_threads_start}
+use Rattle.ms_runs_threads.specs.Calls.{Acting, Told, none_told, start_of, told_after, fibers_told, plain_threads_calls}
+use Rattle.ms_runs_threads.specs.Blind.{fibers_end, fibers_end_after, plain_threads_end_calls}
 use Rattle.ms_threads_schedules_laws.specs.Picks.{Pick, picked_on, picks_in, plain_picks}
 use Rattle.ms_host.specs.State.{WorldState, Beside}
 use Rattle.ms_host.specs.Shows.{Shows}
@@ -31,10 +35,11 @@ use Rattle.ms_runtime.specs.declared.reports.ReportLimit.{ReportLimit}
 use Rattle.ms_runtime.specs.Served.{limit_of, IsBeside}
 use Rattle.ms_runtime.specs.Answering.{HasRoom}
 use Rattle.ms_runtime.specs.Going.{ahead, Keeping, Answers, LeftAfter, HasSlack}
+use Rattle.ms_runtime.specs.Recorded.{calls_from, Noted as NotedAt}
 use Rattle.ms_threads.specs.declared.thread_table.Thread.{Thread as Guest}
 use Rattle.ms_threads.specs.declared.thread_table.ThreadTable.{ThreadTable}
 use Rattle.ms_threads.specs.declared.runs.ThreadedRun.{ThreadedRun}
-use Rattle.ms_threads.specs.ThreadTables.{Standing, standing_of, threads_of, funcs_of, stands_of, guest_at, call_joins, IsThreadCall, Counted, Shares, Changed, ended_guest}
+use Rattle.ms_threads.specs.ThreadTables.{Standing, standing_of, threads_of, funcs_of, starts_of, stands_of, guest_at, call_joins, IsThreadCall, Counted, Shares, Changed, ended_guest}
 use Rattle.ms_threads.specs.Recording.{Records}
 
 -- ---- where fibers stand
@@ -95,6 +100,48 @@ ended_so made e last = ((e, last), made ++ [])
 abbrev pub Recorded : ThreadedRun → (made : List Pick) → Type 0
 Recorded t made = Records t.table.recorder made
 
+-- ---- what is told of reports, and of the end
+
+-- the calls at reports, and those where the run ends, if they stand somewhere then
+abbrev pub told_so : List Calls → Option Calls → List Calls × Option Calls
+told_so calls last = (calls, last)
+
+-- from a state of fibers on, with so many steps, where so much was told, and from a step on that one of them takes
+abbrev pub tells_from : Module → Setup → List ℕ → Told → ℕ → Fibers (List (Frame ℕ)) Shared → List Calls × Option Calls
+tells_from m u schedule said left c = told_so (fibers_told (fiber_of m u) (call_sites m) schedule left c said) (fibers_end (fiber_of m u) (call_sites m) schedule left c said)
+
+abbrev pub tells_after : Module → Setup → List ℕ → Acting (List (Frame ℕ)) → Told → ℕ → Stepped (Fibers (List (Frame ℕ)) Shared) → List Calls × Option Calls
+tells_after m u schedule a said left step =
+    told_so (told_after (fiber_of m u) (call_sites m) a (fibers_told (fiber_of m u) (call_sites m) schedule left) said step)
+    (fibers_end_after (fiber_of m u) (call_sites m) a (fibers_end (fiber_of m u) (call_sites m) schedule left) said step)
+
+-- by the whole run
+abbrev pub all_told : Module → Setup → List ℕ → List Calls × Option Calls
+all_told m u schedule = told_so (plain_threads_calls m u schedule) (plain_threads_end_calls m u schedule)
+
+-- the calls at which the thread stands that goes on, where it has these frames
+abbrev pub calls_there : Module → ThreadTable → List (Frame ℕ) → Calls
+calls_there m g frames = calls_from m (start_of g.turn (starts_of g)) frames
+
+-- a thread with a number acts from where it stands, or begins
+abbrev pub acts : ℕ → Option (List (Frame ℕ)) → Acting (List (Frame ℕ))
+acts number from = record { number = number; from = from }
+
+-- what was told so far is recorded, where that is wanted, and of each thread the site of the call that made it
+pub record Telling (t : ThreadedRun) (said : Told) : Type 0 where
+  pub starts : said.starts ≡ starts_of t.table
+  pub counted : length t.running.told.reports ≤ length said.calls
+  pub kept : t.wanted ≡ true → t.calls.items ≡ said.calls
+  pub none : t.ended ≡ None
+
+-- what is recorded stays
+abbrev pub KeepsCalls : ThreadedRun → ThreadedRun → Type 0
+KeepsCalls old new = (new.wanted ≡ old.wanted) × (new.calls ≡ old.calls) × (new.ended ≡ old.ended)
+
+-- the calls at which the thread stands that goes on are recorded for each new report
+abbrev pub Noted : Module → ThreadedRun → ThreadedRun → Type 0
+Noted m old new = NotedAt m old.running.fiber (start_of old.table.turn (starts_of old.table)) (length old.running.told.reports) old.calls.items new.calls.items
+
 -- ---- a run
 
 -- what a run has where no thread goes on
@@ -129,6 +176,9 @@ pub record Going (m : Module) (u : Setup) (schedule : List ℕ) (t : ThreadedRun
   pub made : List Pick
   pub recorded : Recorded t made
   pub same : ends_from m u schedule made t.running.budget.left (goes_at state others) ≡ last_of m u schedule
+  pub said : Told
+  pub telling : Telling t said
+  pub tells : tells_from m u schedule said t.running.budget.left (goes_at state others) ≡ all_told m u schedule
 
 -- the same of a thread that waits for the answer of a call: after an external another one may go on
 abbrev pub far_of : Module → Asked → Running → ℕ
@@ -153,6 +203,16 @@ pub record Asking (m : Module) (u : Setup) (schedule : List ℕ) (call : HostCal
   pub made : List Pick
   pub recorded : Recorded t made
   pub same : ends_after m u schedule made rest (fibers_step (fiber_of m u) schedule (goes_at within others)) ≡ last_of m u schedule
+  pub said : Told
+  pub telling : Telling t said
+  pub tells : tells_from m u schedule said (suc rest) (goes_at within others) ≡ all_told m u schedule
+
+-- a thread has come from one state to another by an answered call: it stands at the same calls, and the world is that of the run
+pub record CameTo (m : Module) (t : ThreadedRun) (within next : PlainState) : Type 0 where
+  pub calls : call_sites m within.frames ≡ call_sites m next.frames
+  pub turn : next.world.turn ≡ t.table.turn
+  pub reports : next.world.reports ≡ t.running.told.reports
+  pub threads : length next.world.threads ≡ length t.table.threads.items
 
 -- a call at which a thread stands was answered: what is left is to go on after it
 pub record After (m : Module) (u : Setup) (schedule : List ℕ) (call : HostCall) (a : Answer) (t : ThreadedRun) : Type 0 where
@@ -177,6 +237,10 @@ pub record After (m : Module) (u : Setup) (schedule : List ℕ) (call : HostCall
   pub recorded : Recorded t made
   pub goes : (next : PlainState) → Resumes m u call.asked within next → ends_from m u schedule made t.running.budget.left (goes_at next others) ≡ last_of m u schedule
   pub stops : (e : End) (last : World) → Stops m u call.asked within e last → ended_so made e last ≡ last_of m u schedule
+  pub said : Told
+  pub telling : Telling t said
+  pub goes_telling : (next : PlainState) → Resumes m u call.asked within next → CameTo m t within next → tells_from m u schedule said t.running.budget.left (goes_at next others) ≡ all_told m u schedule
+  pub stops_telling : (e : End) (last : World) → Stops m u call.asked within e last → last.reports ≡ t.running.told.reports → told_so said.calls (Some (calls_there m t.table within.frames)) ≡ all_told m u schedule
 
 -- a pick is due
 pub record Picking (m : Module) (u : Setup) (schedule : List ℕ) (t : ThreadedRun) : Type 0 where
@@ -188,6 +252,9 @@ pub record Picking (m : Module) (u : Setup) (schedule : List ℕ) (t : ThreadedR
   pub made : List Pick
   pub recorded : Recorded t made
   pub same : ends_from m u schedule made t.running.budget.left (Waits shared others) ≡ last_of m u schedule
+  pub said : Told
+  pub telling : Telling t said
+  pub tells : tells_from m u schedule said t.running.budget.left (Waits shared others) ≡ all_told m u schedule
 
 -- a thread was picked that does the call at which it stood, and needn't wait
 pub record Performing (m : Module) (u : Setup) (schedule : List ℕ) (s : Standing) (t : ThreadedRun) : Type 0 where
@@ -204,6 +271,9 @@ pub record Performing (m : Module) (u : Setup) (schedule : List ℕ) (s : Standi
   pub made : List Pick
   pub recorded : Recorded t made
   pub same : ends_after m u schedule made left (goes_on ((fiber_of m u).perform frames shared) (moves (fiber_of m u) others)) ≡ last_of m u schedule
+  pub said : Told
+  pub telling : Telling t said
+  pub tells : tells_after m u schedule (acts t.table.turn (Some frames)) said left (goes_on ((fiber_of m u).perform frames shared) (moves (fiber_of m u) others)) ≡ all_told m u schedule
 
 -- a thread was picked that begins
 pub record Beginning (m : Module) (u : Setup) (schedule : List ℕ) (t : ThreadedRun) : Type 0 where
@@ -219,14 +289,20 @@ pub record Beginning (m : Module) (u : Setup) (schedule : List ℕ) (t : Threade
   pub made : List Pick
   pub recorded : Recorded t made
   pub same : ends_after m u schedule made left (moves (fiber_of m u) others ((fiber_of m u).begun guest.func guest.argument shared)) ≡ last_of m u schedule
+  pub said : Told
+  pub telling : Telling t said
+  pub tells : tells_after m u schedule (acts t.table.turn None) said left (moves (fiber_of m u) others ((fiber_of m u).begun guest.func guest.argument shared)) ≡ all_told m u schedule
 
 -- the thread that has the turn has ended with a word, whose mask and origin the slots hold
 abbrev pub HasEnded : (value : ℕ) → ThreadedRun → ThreadedRun → Type 0
 HasEnded value old new = (cells : ℕ → ℕ) → ShowsSlots old.running.world.slots cells → Changed old.table.turn (ended_guest value (result_mask cells) (result_origin cells)) old.table new.table
 
--- a run has ended: it answers what the whole run does, and its picks are recorded
+-- a run has ended: it answers what the whole run does, and its picks are recorded, and where they are wanted the calls at its reports
+-- and where it ended
 abbrev pub IsOver : Module → Setup → List ℕ → End → ThreadedRun → Type 0
-IsOver m u schedule e t = Answers (plain_threads m u schedule) e t.running × Recorded t (plain_picks m u schedule)
+IsOver m u schedule e t =
+    Answers (plain_threads m u schedule) e t.running × Recorded t (plain_picks m u schedule) × (t.wanted ≡ true → t.calls.items ≡ plain_threads_calls m u schedule)
+    × (t.wanted ≡ true → t.ended ≡ plain_threads_end_calls m u schedule)
 
 -- a run goes on, and is nearer to its end, or it has ended
 abbrev pub Turned : Module → Setup → List ℕ → ℕ → Option End → ThreadedRun → Type 0

@@ -3,3 +3,4 @@ pub mod Fills
 pub mod Recording
 pub mod ThreadTables
 pub mod Going
+pub mod ToldThreads

@@ -4,6 +4,7 @@ use Rattle.ms_ir.specs.declared.calls.External.TheVariants as external
 use Rattle.ms_ir.specs.declared.calls.RuntimeFn.TheVariants as function
 use Rattle.ms_ir.specs.Signatures.{is_thread_call}
 use Rattle.ms_runs.specs.World.{Thread, Effect}
+use Rattle.ms_runs.specs.Calls.{tell}
 use Rattle.ms_runs.specs.Threads.{Fibers, fiber_limit}
 use Rattle.ms_runs_threads.specs.Fibers.{runnable, standing}
 use Rattle.ms_host.specs.declared.calls.Asked.{Asked}
@@ -30,8 +31,8 @@ abbrev pub thread_of : Guest → Thread
 thread_of t = record { func = t.func; argument = t.argument; ended = t.ended; joined = t.joined }
 
 -- one that hasn't begun
-abbrev pub fresh : (func argument : ℕ) → Guest
-fresh func argument = record { func = func; argument = argument; ended = false; joined = false; answer = 0; mask = 0; origin = 0 }
+abbrev pub fresh : (func argument start : ℕ) → Guest
+fresh func argument start = record { func = func; argument = argument; start = start; ended = false; joined = false; answer = 0; mask = 0; origin = 0 }
 
 -- one that was joined, and one that has ended with a word, a mask and an origin
 abbrev pub joined_guest : Guest → Guest
@@ -132,6 +133,10 @@ threads_of g = map thread_of g.threads.items
 abbrev pub funcs_of : ThreadTable → List ℕ
 funcs_of g = map (λ (t : Guest). t.func) g.threads.items
 
+-- the sites of the calls that made them
+abbrev pub starts_of : ThreadTable → List ℕ
+starts_of g = map (λ (t : Guest). t.start) g.threads.items
+
 -- where the thread with a number stands
 abbrev pub stands_of : ThreadTable → ℕ → Option Standing
 stands_of g k = stand_at g.parked.items k
@@ -174,8 +179,8 @@ pub record SameTurn (old new : ThreadTable) : Type 0 where
   pub recorder : new.recorder ≡ old.recorder
 
 -- one thread more, which stands nowhere
-pub record Added (func argument : ℕ) (old new : ThreadTable) : Type 0 where
-  pub threads : new.threads.items ≡ old.threads.items ++ fresh func argument ∷ []
+pub record Added (func argument start : ℕ) (old new : ThreadTable) : Type 0 where
+  pub threads : new.threads.items ≡ old.threads.items ++ fresh func argument start ∷ []
   pub stands : (p : Parked) × ((p.call ≡ None) × (new.parked.items ≡ old.parked.items ++ p ∷ []))
   pub same : SameTurn old new
 
@@ -209,12 +214,13 @@ pub record Picked (schedule : List ℕ) (old new : ThreadTable) : Type 0 where
   pub threads : new.threads ≡ old.threads
   pub stands : new.parked ≡ old.parked
 
--- all stand where they stood; those that were made begin with functions of a list
-pub record KeepsStands (starts : List ℕ) (old new : ThreadTable) : Type 0 where
+-- all stand where they stood; those that were made begin with functions of a list, and were made at a site
+pub record KeepsStands (site : ℕ) (starts : List ℕ) (old new : ThreadTable) : Type 0 where
   pub stands : (k : ℕ) → stands_of new k ≡ stands_of old k
   pub counted : Counted old → Counted new
   pub few : Counted old → length old.parked.items ≤ fiber_limit → length new.parked.items ≤ fiber_limit
   pub funcs : (funcs_of new ≡ funcs_of old) ⊎ (funcs_of new ≡ funcs_of old ++ starts)
+  pub sites : starts_of new ≡ tell site (threads_of new) (starts_of old)
   pub same : SameTurn old new
 
 -- where the run goes on, the threads are those of a world

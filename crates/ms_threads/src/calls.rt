@@ -57,14 +57,14 @@ impl ThreadTable {
         world: &mut World,
     ) -> Result<Answer, NoMemory>
         ensures did { (beside : Beside) (meant : Meant) → Shows world.old beside meant → Shares self.old beside.fibers → IfOk result (λ a. Did (create_of site id func argument meant) a beside self.new world.new) }
-        ensures kept { IfOk result (λ a. KeepsStands (func ∷ []) self.old self.new) }
+        ensures kept { IfOk result (λ a. KeepsStands site (func ∷ []) self.old self.new) }
         ensures keeps { Keeps world.old world.new }
         ensures made { world.new.made ≡ world.old.made }
     {
         if self.is_full() {
             return Ok(gives(11));
         }
-        self.add(alloc, func, argument)?;
+        self.add(alloc, func, argument, site)?;
         if world.store(id, 8, self.threads.len() as u64) {
             Ok(gives(0))
         } else {
@@ -76,7 +76,7 @@ impl ThreadTable {
     fn joined(&mut self, id: u64, r: u64, site: u32, world: &mut World) -> Answer
         requires { waits_of self.old.turn (threads_of self.old) (Some id) ≡ false }
         ensures did { (beside : Beside) (meant : Meant) → Shows world.old beside meant → Shares self.old beside.fibers → Did (join_of site id r meant) result beside self.new world.new }
-        ensures kept { KeepsStands [] self.old self.new }
+        ensures kept { KeepsStands site [] self.old self.new }
         ensures keeps { Keeps world.old world.new }
         ensures made { world.new.made ≡ world.old.made }
     {
@@ -102,7 +102,7 @@ impl ThreadTable {
         requires asked { IsThreadCall call.now.asked }
         requires free { waits_of self.old.turn (threads_of self.old) (call_joins call.now) ≡ false }
         ensures did { (setting : Setting) (types : List Ty) (beside : Beside) (meant : Meant) → Shows world.old beside meant → Shares self.old beside.fibers → IfOk result (λ a. Did (asked_effect setting types call.now meant) a beside self.new world.new) }
-        ensures kept { IfOk result (λ a. KeepsStands (asked_starts call.now.asked call.now.args) self.old self.new) }
+        ensures kept { IfOk result (λ a. KeepsStands call.now.site (asked_starts call.now.asked call.now.args) self.old self.new) }
         ensures keeps { Keeps world.old world.new }
         ensures made { world.new.made ≡ world.old.made }
     {

@@ -11,5 +11,5 @@ mod thread_table;
 
 pub use instruments::instrument_threads;
 pub use recorder::{Choice, Recorder};
-pub use runs::{RecordedRun, record_threads, run_threads};
+pub use runs::{RecordedRun, record_threads, run_threads, run_threads_told};
 pub use searching::threaded;

@@ -1,26 +1,28 @@
 //! Whole runs of programs with threads: one thread goes on at a time, up to its next thread call or its end, and then the schedule
 //! picks.
-ghost use Rattle.std.specs.Prelude.{◌≡◌, ◌<◌, ◌≤◌, ◌^◌, ℕ, List, suc, None, length, IfOk, OnOk, MatchBool};
+ghost use Rattle.std.specs.Prelude.{◌≡◌, ◌<◌, ◌≤◌, ◌^◌, ℕ, List, suc, true, Some, None, [], length, if◌then◌else◌, IfOk, OnOk, MatchBool};
 ghost use Rattle.ms_ir.specs.declared.syntax.Module.{Module as ModuleOf};
 ghost use Rattle.ms_ir.specs.declared.calls.RuntimeFn.TheVariants.{ThreadResult as ResultOf};
-ghost use Rattle.ms_runs.specs.{declared.runs.Setup.{Setup as SetupOf}, Limits.{WithinLimits}};
-ghost use Rattle.ms_runs_threads.specs.PlainFibers.{plain_threads};
+ghost use Rattle.ms_runs.specs.{declared.runs.Setup.{Setup as SetupOf}, Control.{Frame as FrameOf}, Limits.{WithinLimits}};
+ghost use Rattle.ms_runs_threads.specs.{PlainFibers.{plain_threads}, Calls.{plain_threads_calls}, Blind.{plain_threads_end_calls}};
 ghost use Rattle.ms_host.specs.declared.calls.Answer.TheVariants.{Resumed as ResumedOf};
+ghost use Rattle.ms_machine_steps.specs.Callers.{CallersOf};
+ghost use Rattle.ms_machine.specs.Standing.{RunsSomewhere};
 ghost use Rattle.ms_runtime.specs.{Answering.{AnsweredFor}, Going.{ahead}, Served.{Fits, limit_of}};
 ghost use Rattle.ms_threads_schedules_laws.specs.Picks.{plain_picks};
-ghost use Rattle.ms_threads.specs.{Faithful.{IsSchedule}, Recording.{Records}, ThreadTables.{IsThreadCall, IsResult, standing_of}};
-ghost use Rattle.ms_threads.specs.Going.{Asking, After, Picking, Performing, Beginning, Going, HasEnded, Turned, IsGoing, IsAsking, IsAfter, IsPicking, IsPerforming, IsBeginning, most_ahead, far_of};
+ghost use Rattle.ms_threads.specs.{Faithful.{IsSchedule}, Recording.{Records}, ToldThreads.{plain_threads_told}, ThreadTables.{IsThreadCall, IsResult, standing_of}};
+ghost use Rattle.ms_threads.specs.Going.{KeepsCalls, calls_there, Noted, Asking, After, Picking, Performing, Beginning, Going, HasEnded, Turned, IsGoing, IsAsking, IsAfter, IsPicking, IsPerforming, IsBeginning, most_ahead, far_of};
 
 use crate::recorder::Recorder;
 use crate::thread_table::{ThreadTable, exchange, word};
-use ms_bits::{NoMemory, Trap};
+use ms_bits::{List, NoMemory, Trap};
 use ms_check::CheckedModule;
 use ms_host::{Answer, Asked, HostCall};
 use ms_ir::RuntimeFn;
-use ms_machine::{advance, resume, spawn};
+use ms_machine::{advance, calls_below, resume, spawn};
 use ms_machine_frames::{Pause, no_fiber};
-use ms_runs::{End, RunResult, Setup};
-use ms_runtime::{ReportLimit, Running, start_run, thread_result};
+use ms_runs::{Calls, End, RunResult, Setup};
+use ms_runtime::{ReportLimit, Running, ToldRun, note_calls, start_run, thread_result, told_calls, told_end};
 use std::alloc::Global;
 
 /// A run of threads between two pauses.
@@ -29,6 +31,12 @@ pub struct ThreadedRun {
     /// The thread that runs, with what all share.
     pub running: Running,
     pub table: ThreadTable,
+    /// Whether the calls at its reports are wanted.
+    pub wanted: bool,
+    /// Where they are wanted, the calls that stood at each report so far, in order; else none.
+    pub calls: Vec<Calls>,
+    /// The calls that stood where the run ended, where they are wanted, and it has ended before its steps were spent.
+    pub ended: Option<Calls>,
 }
 
 /// Whether a call is a thread call.
@@ -67,6 +75,7 @@ impl ThreadedRun {
         requires fits { Fits ResultOf call.now.args }
         ensures answered { (m : ModuleOf) (u : SetupOf) (schedule : List ℕ) → (q : Asking m u schedule call.now self.old) → OnOk result (AnsweredFor m u call.now q.within (ResumedOf None) self.old.running self.new.running) }
         ensures table { self.new.table ≡ self.old.table }
+        ensures calls { KeepsCalls self.old self.new }
     {
         let args = call.args.as_slice();
         let addr = word(args, 0);
@@ -103,6 +112,7 @@ impl ThreadedRun {
         requires other { ¬ IsThreadCall call.now.asked }
         ensures answered { (u : SetupOf) (schedule : List ℕ) → limit_of u ≡ limit → (q : Asking m.now u schedule call.now self.old) → IfOk result (λ a. AnsweredFor m.now u call.now q.within a self.old.running self.new.running) }
         ensures table { self.new.table ≡ self.old.table }
+        ensures calls { KeepsCalls self.old self.new }
     {
         m.law_valid();
         if asks_result(call) {
@@ -112,20 +122,75 @@ impl ThreadedRun {
         self.running.answer_of(alloc, m, call, limit)
     }
 
+    /// Records the calls that stand at an answered call, if they are wanted: once for each report that was made there.
+    fn note_calls(&mut self, alloc: Global, m: &CheckedModule) -> Result<(), NoMemory>
+        requires { RunsSomewhere m.now self.old.running.fiber }
+        ensures noted { self.old.wanted ≡ true → OnOk result (Noted m.now self.old self.new) }
+        ensures same { self.new ≡ (record self.old { calls = self.new.calls }) }
+    {
+        let started = self.table.start();
+        note_calls(
+            alloc,
+            m,
+            &self.running,
+            started,
+            self.wanted,
+            &mut self.calls,
+        )
+    }
+
+    /// Records the calls that stand where the run has ended, if they are wanted.
+    fn note_end(&mut self, alloc: Global, m: &CheckedModule) -> Result<(), NoMemory>
+        requires { (frames : List (FrameOf ℕ)) × CallersOf m.now self.old.running.fiber frames }
+        ensures wanted { self.new.wanted ≡ self.old.wanted }
+        ensures same { self.new ≡ (record self.old { ended = self.new.ended }) }
+        ensures ended { (frames : List (FrameOf ℕ)) → CallersOf m.now self.old.running.fiber frames → OnOk result (self.old.wanted ≡ true → self.new.ended ≡ Some (calls_there m.now self.old.table frames)) }
+    {
+        if !self.wanted {
+            return Ok(());
+        }
+        let sites = calls_below(alloc, m, &self.running.fiber)?;
+        let started = self.table.start();
+        self.ended = Some(Calls { sites, started });
+        Ok(())
+    }
+
+    /// Records that no call stands where the run has ended, if that is wanted.
+    fn note_alone(&mut self, alloc: Global)
+        ensures wanted { self.new.wanted ≡ self.old.wanted }
+        ensures same { self.new ≡ (record self.old { ended = self.new.ended }) }
+        ensures ended { self.old.wanted ≡ true → self.new.ended ≡ Some (record { sites = []; started = 0 }) }
+    {
+        if self.wanted {
+            let sites = List::from_vec(Vec::new(alloc));
+            self.ended = Some(Calls { sites, started: 0 });
+        }
+    }
+
     /// Goes on after a call with its answer. Returns how the run ends, if it does.
     #[inline(always)]
-    fn after_answer(&mut self, m: &CheckedModule, call: HostCall, answer: Answer) -> Option<End>
+    fn after_answer(
+        &mut self,
+        alloc: Global,
+        m: &CheckedModule,
+        call: HostCall,
+        answer: Answer,
+    ) -> Result<Option<End>, NoMemory>
         requires after { IsAfter m.now call answer self.old }
-        ensures turned { (u : SetupOf) (schedule : List ℕ) → After m.now u schedule call answer self.old → Turned m.now u schedule (ahead m.now self.old.running) result self.new }
+        ensures wanted { self.new.wanted ≡ self.old.wanted }
+        ensures turned { (u : SetupOf) (schedule : List ℕ) → After m.now u schedule call answer self.old → IfOk result (λ end. Turned m.now u schedule (ahead m.now self.old.running) end self.new) }
     {
         m.law_valid();
         let _code = m.program();
         match answer {
-            Answer::Ended(end) => Some(end),
+            Answer::Ended(end) => {
+                self.note_end(alloc, m)?;
+                Ok(Some(end))
+            }
             Answer::Resumed(value) => {
                 resume(m, &mut self.running.fiber, value);
                 self.running.fiber.keep(call.args);
-                None
+                Ok(None)
             }
         }
     }
@@ -135,6 +200,7 @@ impl ThreadedRun {
         requires turn { self.old.table.turn < length self.old.table.parked.items }
         ensures picking { (m : ModuleOf) (u : SetupOf) (schedule : List ℕ) → IsThreadCall call.asked → Asking m u schedule call self.old → Picking m u schedule self.new }
         ensures budget { self.new.running.budget ≡ self.old.running.budget }
+        ensures wanted { self.new.wanted ≡ self.old.wanted }
     {
         self.table.park(&mut self.running.fiber, call);
     }
@@ -145,6 +211,7 @@ impl ThreadedRun {
         requires turn { self.old.table.turn ≤ length self.old.table.threads.items }
         ensures ended { HasEnded answer self.old self.new }
         ensures running { self.new.running ≡ (record self.old.running { fiber = self.new.running.fiber }) }
+        ensures calls { KeepsCalls self.old self.new }
     {
         let mask = self.running.world.result_mask();
         let origin = self.running.world.result_origin();
@@ -162,16 +229,18 @@ impl ThreadedRun {
         call: HostCall,
     ) -> Result<Option<End>, NoMemory>
         requires performing { IsPerforming m.now call self.old }
+        ensures wanted { self.new.wanted ≡ self.old.wanted }
         ensures turned { (u : SetupOf) (schedule : List ℕ) → Performing m.now u schedule (standing_of self.old.running.fiber call) self.old → IfOk result (λ end. Turned m.now u schedule (suc (most_ahead m.now self.old.running)) end self.new) }
     {
         m.law_valid();
         let answer = self.table.answer(alloc, &call, &mut self.running.world)?;
-        Ok(self.after_answer(m, call, answer))
+        self.after_answer(alloc, m, call, answer)
     }
 
     /// Begins the picked thread, which hasn't run yet: a fiber with a call of its function, whose argument is clean.
     fn begin(&mut self, alloc: Global, m: &CheckedModule) -> Result<(), NoMemory>
         requires beginning { IsBeginning m.now self.old }
+        ensures wanted { self.new.wanted ≡ self.old.wanted }
         ensures turned { (u : SetupOf) (schedule : List ℕ) → Beginning m.now u schedule self.old → OnOk result (Turned m.now u schedule (suc (most_ahead m.now self.old.running)) None self.new) }
     {
         m.law_valid();
@@ -196,15 +265,18 @@ impl ThreadedRun {
     ) -> Result<Option<End>, NoMemory>
         requires scheduled { IsSchedule schedule.now }
         requires picking { IsPicking m.now schedule.now self.old }
+        ensures wanted { self.new.wanted ≡ self.old.wanted }
         ensures turned { (u : SetupOf) → Picking m.now u schedule.now self.old → IfOk result (λ end. Turned m.now u schedule.now (suc (most_ahead m.now self.old.running)) end self.new) }
     {
         if self.running.budget.left == 0 {
             return Ok(Some(End::Spent));
         }
         if !self.table.pick(schedule)? {
+            let site = self.table.main_site();
+            self.note_alone(alloc);
             return Ok(Some(End::Trap {
                 kind: Trap::Deadlock,
-                site: self.table.main_site(),
+                site,
             }));
         }
         match self.table.unpark(&mut self.running.fiber) {
@@ -228,6 +300,7 @@ impl ThreadedRun {
     ) -> Result<Option<End>, NoMemory>
         requires scheduled { IsSchedule schedule.now }
         requires asking { (u : SetupOf) × ((limit_of u ≡ limit) × Asking m.now u schedule.now call self.old) }
+        ensures wanted { self.new.wanted ≡ self.old.wanted }
         ensures turned { (u : SetupOf) → limit_of u ≡ limit → Asking m.now u schedule.now call self.old → IfOk result (λ end. Turned m.now u schedule.now (far_of m.now call.asked self.old.running) end self.new) }
     {
         if is_thread_call(&call) {
@@ -235,7 +308,8 @@ impl ThreadedRun {
             return self.pick(alloc, m, schedule);
         }
         let answer = self.answer_of(alloc, m, &call, limit)?;
-        Ok(self.after_answer(m, call, answer))
+        self.note_calls(alloc, m)?;
+        self.after_answer(alloc, m, call, answer)
     }
 
     /// Runs to the next pause, and does what is asked there; `limit` is that of the run's reports. Returns how the run ends,
@@ -249,6 +323,7 @@ impl ThreadedRun {
     ) -> Result<Option<End>, NoMemory>
         requires scheduled { IsSchedule schedule.now }
         requires going { IsGoing m.now limit schedule.now self.old }
+        ensures wanted { self.new.wanted ≡ self.old.wanted }
         ensures turned { (u : SetupOf) → limit_of u ≡ limit → Going m.now u schedule.now self.old → IfOk result (λ end. Turned m.now u schedule.now (ahead m.now self.old.running) end self.new) }
     {
         m.law_valid();
@@ -261,7 +336,10 @@ impl ThreadedRun {
             &mut running.budget,
         )? {
             Pause::Spent => Ok(Some(End::Spent)),
-            Pause::Ended(end) => Ok(Some(end)),
+            Pause::Ended(end) => {
+                self.note_end(alloc, m)?;
+                Ok(Some(end))
+            }
             Pause::Asked(call) => self.call(alloc, m, call, limit, schedule),
             Pause::Finished { value } => {
                 self.end(alloc, value);
@@ -278,6 +356,54 @@ pub struct RecordedRun {
     pub recorder: Recorder,
 }
 
+/// Runs a checked module with threads to its end. Ok is what its plain run answers and its first 2048 picks, and where they are wanted
+/// the calls that stood at each of its reports, in order, and where it ended.
+fn run_to_end(
+    alloc: Global,
+    m: &CheckedModule,
+    setup: &Setup,
+    schedule: &[u8],
+    wanted: bool,
+) -> Result<(RecordedRun, List<Calls>, Option<Calls>), NoMemory>
+    requires limits { WithinLimits setup.now }
+    requires scheduled { IsSchedule schedule.now }
+    ensures result { IfOk result (λ r. r.0.result ≡ plain_threads m.now setup.now schedule.now) }
+    ensures picks { IfOk result (λ r. Records r.0.recorder (plain_picks m.now setup.now schedule.now)) }
+    ensures calls { IfOk result (λ r. r.1 ≡ (if wanted then plain_threads_calls m.now setup.now schedule.now else [])) }
+    ensures end_calls { IfOk result (λ r. r.2 ≡ (if wanted then plain_threads_end_calls m.now setup.now schedule.now else None)) }
+{
+    let limit = ReportLimit {
+        count: setup.reports,
+        once: setup.once,
+    };
+    let running = start_run(alloc, m, setup)?;
+    let table = ThreadTable::new(alloc)?;
+    let mut threads = ThreadedRun {
+        running,
+        table,
+        wanted,
+        calls: Vec::new(alloc),
+        ended: None,
+    };
+    loop {
+        if let Some(end) = threads.run_to_pause(alloc, m, limit, schedule)? {
+            let ThreadedRun {
+                running,
+                table,
+                calls,
+                ended,
+                ..
+            } = threads;
+            let recorded = RecordedRun {
+                result: running.into_result(end),
+                recorder: table.recorder,
+            };
+            let calls = told_calls(alloc, calls, wanted);
+            return Ok((recorded, calls, told_end(ended, wanted)));
+        }
+    }
+}
+
 /// Runs a checked module with threads, as `run_threads` does, and keeps its first 2048 picks.
 pub fn record_threads(
     alloc: Global,
@@ -290,21 +416,8 @@ pub fn record_threads(
     ensures result { IfOk result (λ r. r.result ≡ plain_threads m.now setup.now schedule.now) }
     ensures picks { IfOk result (λ r. Records r.recorder (plain_picks m.now setup.now schedule.now)) }
 {
-    let running = start_run(alloc, m, setup)?;
-    let table = ThreadTable::new(alloc)?;
-    let limit = ReportLimit {
-        count: setup.reports,
-        once: setup.once,
-    };
-    let mut threads = ThreadedRun { running, table };
-    loop {
-        if let Some(end) = threads.run_to_pause(alloc, m, limit, schedule)? {
-            return Ok(RecordedRun {
-                result: threads.running.into_result(end),
-                recorder: threads.table.recorder,
-            });
-        }
-    }
+    let (recorded, _, _) = run_to_end(alloc, m, setup, schedule, false)?;
+    Ok(recorded)
 }
 
 /// Runs a checked module with threads, under a schedule that isn't empty: the k-th pick of the run, counted from 0, takes of
@@ -324,4 +437,26 @@ pub fn run_threads(
 {
     let recorded = record_threads(alloc, m, setup, schedule)?;
     Ok(recorded.result)
+}
+
+/// The same, and the calls that stood at each of its reports, in order, and where it ended, where they are wanted.
+///
+/// A report takes as long as calls stand there; nothing else takes longer than in `run_threads`.
+pub fn run_threads_told(
+    alloc: Global,
+    m: &CheckedModule,
+    setup: &Setup,
+    schedule: &[u8],
+    wanted: bool,
+) -> Result<ToldRun, NoMemory>
+    requires limits { WithinLimits setup.now }
+    requires scheduled { IsSchedule schedule.now }
+    ensures { IfOk result (λ r. r ≡ plain_threads_told wanted m.now setup.now schedule.now) }
+{
+    let (recorded, calls, end_calls) = run_to_end(alloc, m, setup, schedule, wanted)?;
+    Ok(ToldRun {
+        result: recorded.result,
+        calls,
+        end_calls,
+    })
 }

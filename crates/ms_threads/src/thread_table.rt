@@ -1,8 +1,8 @@
 //! The threads of a run: what each is, and the parked frames of those that don't run now.
 ghost use Rattle.std.specs.Prelude.{◌≡◌, ℕ, ◌<◌, ◌≤◌, ◌+◌, ◌-◌, get_or, length, leb, true, false, None, Some, [], IfOk, OnOk, MatchBool, eqb, if◌then◌else◌, option_map};
 ghost use Rattle.ms_runs.specs.Threads.{fiber_limit, thread_at, join_answer as join_answer_of, has_ended as has_ended_of};
-ghost use Rattle.ms_runs_threads.specs.Fibers.{waits as waits_of, is_runnable as is_runnable_of};
-ghost use Rattle.ms_threads.specs.ThreadTables.{guest_at, asked_creates, call_joins, standing_of, standing_joins, threads_of, stand_of, stands_of, runnable_in, joined_guest, ended_guest, Counted, IsNew, Added, Changed, SameCalls, Stands, Picked, part_at, site_of};
+ghost use Rattle.ms_runs_threads.specs.{Fibers.{waits as waits_of, is_runnable as is_runnable_of}, Calls.{start_of}};
+ghost use Rattle.ms_threads.specs.ThreadTables.{guest_at, asked_creates, call_joins, standing_of, standing_joins, threads_of, starts_of, stand_of, stands_of, runnable_in, joined_guest, ended_guest, Counted, IsNew, Added, Changed, SameCalls, Stands, Picked, part_at, site_of};
 
 use crate::recorder::{Choice, Recorder};
 use ms_bits::NoMemory;
@@ -21,6 +21,8 @@ pub struct Thread {
     /// The number of the function that it begins with.
     pub func: u64,
     pub argument: u64,
+    /// The site of the call that made it.
+    pub start: u32,
     pub ended: bool,
     pub joined: bool,
     /// The word that it answered, where it has ended.
@@ -164,13 +166,20 @@ impl ThreadTable {
         self.threads.len() + 1 >= LIMIT
     }
 
-    /// Adds a thread that hasn't begun, whose number is that of those made before it.
-    pub fn add(&mut self, alloc: Global, func: u64, argument: u64) -> Result<(), NoMemory>
-        ensures { OnOk result (Added func argument self.old self.new) }
+    /// Adds a thread that hasn't begun, which a call at a site makes, and whose number is that of those made before it.
+    pub fn add(
+        &mut self,
+        alloc: Global,
+        func: u64,
+        argument: u64,
+        start: u32,
+    ) -> Result<(), NoMemory>
+        ensures { OnOk result (Added func argument start self.old self.new) }
     {
         self.threads.push(Thread {
             func,
             argument,
+            start,
             ended: false,
             joined: false,
             answer: 0,
@@ -189,6 +198,16 @@ impl ThreadTable {
             return None;
         }
         Some(self.threads[(number - 1) as usize])
+    }
+
+    /// The site of the call that made the thread that goes on; 0 for that of `main`.
+    pub fn start(&self) -> u32
+        ensures { result ≡ start_of self.now.turn (starts_of self.now) }
+    {
+        match self.thread(self.turn as u64) {
+            Some(thread) => thread.start,
+            None => 0,
+        }
     }
 
     /// Whether the thread with a number has ended.

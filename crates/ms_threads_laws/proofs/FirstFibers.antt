@@ -136,7 +136,7 @@ module _ (s : Setting) (m : Module) where
   due_free [] = refl
   due_free (f ∷ fs) = refl
 
-  site_free : (f : List (Frame Poisoned)) → frames_site (first_only s) m f ≡ frames_site s m f
+  pub site_free : (f : List (Frame Poisoned)) → frames_site (first_only s) m f ≡ frames_site s m f
   site_free [] = refl
   site_free (f ∷ fs) = refl
 

@@ -55,9 +55,9 @@ use Rattle.ms_runs.specs.Calls.{call_sites}
 use Rattle.ms_runs_threads.specs.Calls.{plain_threads_calls, shadow_threads_calls_by}
 use Rattle.ms_runs_threads.proofs.CallsAlike.{SaysSame}
 use Rattle.ms_pass_laws.proofs.SameCalls.{lower_sites, frames_sites, frames_reports, frames_blind}
-use Rattle.ms_runs_threads.specs.Blind.{plain_threads_blind, shadow_threads_blind_by}
+use Rattle.ms_runs_threads.specs.Blind.{plain_threads_blind, shadow_threads_blind_by, plain_threads_end_calls, shadow_threads_end_calls_by}
 use Rattle.ms_runs_threads.proofs.BlindAlike.{SaysBlind}
-use Rattle.ms_threads_laws.proofs.FollowedBlind.{followed_blind}
+use Rattle.ms_threads_laws.proofs.FollowedBlind.{followed_blind, followed_end}
 
 module _ (s : Setting) (numbers : ℕ → Numbering) (m : Module) (known : KnownModule s numbers m) where
   abbrev form : Module
@@ -426,9 +426,11 @@ module _ (s : Setting) (numbers : ℕ → Numbering) (m : Module) (known : Known
 
     pub says : SaysSame left right relation laws counts late (call_sites m) (call_sites (pass numbers m))
     says = record {
-      go = λ f w g t h. frames_sites s numbers m f w g t.slots t.world h.0;
-      site = site_followed;
-      at = stand_calls;
+      act = record {
+        go = λ f w g t h. frames_sites s numbers m f w g t.slots t.world h.0;
+        site = site_followed;
+        at = stand_calls;
+      };
       go_reports = λ f w g t h. frames_reports s numbers m f w g t.slots t.world h.0;
       go_threads = λ f w g t h. threads_same s numbers m known f w g t.slots t.world h.0;
       reports = λ w t h. ap (λ (u : World). u.reports) (sym h.0);
@@ -486,3 +488,12 @@ pub threads_blind_follow : (numbers : ℕ → Numbering) (m : Module) (setup : S
 threads_blind_follow numbers m setup schedule known kept bare placed frames world =
     let s = setting_of m setup in
     followed_blind by_formulas m (pass numbers m) known.strips setup schedule (relation s numbers m known kept) (threads_both numbers m setup known kept bare placed frames world) (says_blind s numbers m known kept)
+
+-- and it ends in the same calls
+pub threads_end_follow : (numbers : ℕ → Numbering) (m : Module) (setup : Setup) (schedule : List ℕ) (known : KnownModule (setting_of m setup) numbers m) (kept : Kept (setting_of m setup) numbers m known)
+    → params_at m (unwrap_or (func_index m.funcs main_name) 0) ≡ [] → RangedWorld (start_world m setup) → kept.Of (start_frame shadow_reading m ∷ []) → kept.In (start_world m setup)
+    → plain_threads_end_calls (pass numbers m) setup schedule ≡ shadow_threads_end_calls_by by_formulas m setup schedule
+unfolding threads_both
+threads_end_follow numbers m setup schedule known kept bare placed frames world =
+    let s = setting_of m setup in
+    followed_end by_formulas m (pass numbers m) known.strips setup schedule (relation s numbers m known kept) (threads_both numbers m setup known kept bare placed frames world) (says s numbers m known kept)

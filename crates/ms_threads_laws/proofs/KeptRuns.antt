@@ -56,9 +56,9 @@ use Rattle.ms_runs_threads.specs.Calls.{plain_threads_calls, shadow_threads_call
 use Rattle.ms_threads_laws.proofs.FollowedRuns.{computed_threads, computed_calls}
 use Rattle.ms_threads_laws.proofs.ShadowCalls.{Performed, acted}
 use Rattle.ms_threads_laws.proofs.ShadowKept.{WorldKept, any_bottom, checks_kept, ended_kept, turned_kept}
-use Rattle.ms_threads_laws.proofs.Following.{Kept, threads_follow, threads_calls_follow, threads_blind_follow}
-use Rattle.ms_runs_threads.specs.Blind.{plain_threads_blind, shadow_threads_blind, shadow_threads_blind_by}
-use Rattle.ms_threads_laws.proofs.FollowedBlind.{computed_blind}
+use Rattle.ms_threads_laws.proofs.Following.{Kept, threads_follow, threads_calls_follow, threads_blind_follow, threads_end_follow}
+use Rattle.ms_runs_threads.specs.Blind.{plain_threads_blind, shadow_threads_blind, shadow_threads_blind_by, plain_threads_end_calls, shadow_threads_end_calls, shadow_threads_end_calls_by}
+use Rattle.ms_threads_laws.proofs.FollowedBlind.{computed_blind, computed_end}
 use Rattle.ms_threads_laws.proofs.OwnSteps.{more_is, own_keeps}
 use Rattle.ms_threads_laws.proofs.StartedFibers.{AllStart, thread_starts, first_good, first_fits, first_clean_values, returns_pointer}
 
@@ -174,6 +174,11 @@ module _ (m : Module) (formed : Formed m) (valid : Valid m) (setup : Setup) (byt
       let sound = shadow_sound m formed valid setup bytes in
       threads_blind_follow numbers m setup schedule known run_kept (main_params m valid) (start_placed m formed valid setup bytes) (sound.frames, start_clean m setup) (sound.world, start_begun m setup)
 
+  end_follows : (schedule : List ℕ) → plain_threads_end_calls (pass numbers m) setup schedule ≡ shadow_threads_end_calls_by by_formulas m setup schedule
+  end_follows schedule =
+      let sound = shadow_sound m formed valid setup bytes in
+      threads_end_follow numbers m setup schedule known run_kept (main_params m valid) (start_placed m formed valid setup bytes) (sound.frames, start_clean m setup) (sound.world, start_begun m setup)
+
 -- with one schedule the instrumented form of a module runs as the shadow run says
 pub threads_followed : (m : Module) → Formed m → Valid m → (numbers : ℕ → Numbering)
     → ((n : ℕ) (f : Func) → func_at m n ≡ Some f → (x : Name) → (numbers n).env.clean x ≡ true → IsClean m f x)
@@ -194,3 +199,10 @@ pub blind_followed : (m : Module) → Formed m → Valid m → (numbers : ℕ �
     → (setup : Setup) → Fair setup → KnownModule (setting_of m setup) numbers m → (schedule : List ℕ) → plain_threads_blind (pass numbers m) setup schedule ≡ shadow_threads_blind m setup schedule
 blind_followed m formed valid numbers says setup fair known schedule =
     blind_follows m formed valid setup (record { input = fair.bytes; fill = fair.fill }) numbers known says schedule ∙ sym (computed_blind m setup schedule)
+
+-- and ends in the same calls
+pub end_followed : (m : Module) → Formed m → Valid m → (numbers : ℕ → Numbering)
+    → ((n : ℕ) (f : Func) → func_at m n ≡ Some f → (x : Name) → (numbers n).env.clean x ≡ true → IsClean m f x)
+    → (setup : Setup) → Fair setup → KnownModule (setting_of m setup) numbers m → (schedule : List ℕ) → plain_threads_end_calls (pass numbers m) setup schedule ≡ shadow_threads_end_calls m setup schedule
+end_followed m formed valid numbers says setup fair known schedule =
+    end_follows m formed valid setup (record { input = fair.bytes; fill = fair.fill }) numbers known says schedule ∙ sym (computed_end m setup schedule)

@@ -19,3 +19,6 @@ pub mod LowFibers
 pub mod FirstFibers
 pub mod ToldFibers
 pub mod UnderFills
+pub mod OneEach
+pub mod Unmade
+pub mod FirstCalls

@@ -591,9 +591,11 @@ module _ (m : Module) (formed : Formed m) (valid : Valid m) (bare : NoMarks m) (
 
   says : SaysSame left right relation laws counts late (call_sites m) (call_sites m)
   says = record {
-    go = λ f w g v h. low_calls m f g h.0;
-    site = λ f w g v h. site_low f g h.0;
-    at = λ f g h. low_calls m f g h.0;
+    act = record {
+      go = λ f w g v h. low_calls m f g h.0;
+      site = λ f w g v h. site_low f g h.0;
+      at = λ f g h. low_calls m f g h.0;
+    };
     go_reports = λ f w g v h. h.1.reports;
     go_threads = λ f w g v h. h.1.threads;
     reports = λ w v h. h.0.reports;

@@ -1,15 +1,17 @@
 -- What is said with the lines under each site is what is said without them, once these lines are taken out.
-use Rattle.std.proofs.Common.{◌≡◌, inl, inr, ℕ, Bool, true, false, List, ◌++◌, length, map, eqb, if◌then◌else◌, Option, Some, None, Result, Ok, Err, refl, sym, ap, ◌∙◌, append-nil, append_assoc, subst}
+use Rattle.std.proofs.Common.{◌≡◌, inl, inr, ℕ, Bool, true, false, List, [], ◌++◌, length, map, eqb, if◌then◌else◌, Option, Some, None, Result, Ok, Err, refl, sym, ap, ◌∙◌, append-nil, append_assoc, subst}
 use Rattle.std.specs.Prelude.{not}
 use Rattle.std.proofs.Math.Path.{ap₂}
 use Rattle.ms_ir.specs.declared.syntax.Module.{Module}
 use Rattle.ms_ir.specs.ThreadCalls.{is_threaded}
 use Rattle.ms_ir.specs.declared.forms.Form.{Form}
 use Rattle.ms_ir.specs.declared.forms.Form.TheVariants.{Plain}
+use Rattle.ms_runs.specs.declared.runs.Calls.{Calls}
 use Rattle.ms_runs.specs.declared.runs.RunResult.{RunResult}
+use Rattle.ms_runtime.specs.declared.runs.ToldRun.{ToldRun}
+use Rattle.ms_runtime.specs.ToldRuns.{plain_told}
 use Rattle.ms_runs.specs.declared.runs.Report.{Report}
 use Rattle.ms_runs.specs.declared.runs.Setup.{Setup}
-use Rattle.ms_runs.specs.Plain.{plain}
 use Rattle.ms_runs.specs.Verdict.{verdict_of}
 use Rattle.ms_trail_moves.specs.declared.moves.Source.{Source}
 use Rattle.ms_trail_moves.specs.declared.moves.Move.{Move}
@@ -30,7 +32,9 @@ use Rattle.ms_report.specs.ReportTexts.{report_text_of}
 use Rattle.ms_report.specs.RunTexts.{closing_of}
 use Rattle.ms_report.specs.WithLines.{Lines, no_lines, fault_site, reports_with, closing_text_with}
 use Rattle.ms_report.proofs.WithoutLines.{none_under, reports_alone, closing_alone}
-use Rattle.ms_report.proofs.Unindented.{reports_before, closing_before, closing_left, fault_left, refusal_left, threads_left}
+use Rattle.ms_report.proofs.Unindented.{fault_left, refusal_left, threads_left}
+use Rattle.ms_report.specs.CallTexts.{reports_calling, closing_calling}
+use Rattle.ms_report.proofs.CallLines.{none_called, none_called_last, calling_before, closing_calling_before, closing_calling_left}
 use Rattle.ms_report.proofs.TrailLines.{trail_left}
 use Rattle.ms_words.specs.declared.commands.Command.{Command}
 use Rattle.ms_words.specs.declared.commands.Command.TheVariants.{Run, Check, CheckSchedules, Explain, Corpus}
@@ -42,8 +46,8 @@ use Rattle.ms_top.specs.Added.{with_locations, without_lines, without_any_lines,
 use Rattle.ms_top.specs.Command.{form_of, located_file, only_input, setup_of}
 use Rattle.ms_top.specs.Explained.{way_with, trace_with, followed, no_report, explained_with}
 use Rattle.ms_top.specs.Lines.{AreLinesIn, AreLines, fault_text_with}
-use Rattle.ms_top.specs.Runs.{plain_under}
-use Rattle.ms_top.specs.Said.{answer_of, answer_of_explored, answer_of_results, run_text, says, status_of, tried_text, UnlessThreaded, IsExplanation, AreSections, IsAnswerToModule, IsAnswerToReading, IsAnswerToText}
+use Rattle.ms_top.specs.Runs.{silent, plain_calls_under, plain_end_calls_under, plain_told_under}
+use Rattle.ms_top.specs.Said.{answer_of, answer_of_result, explored_told, answer_of_explored, answer_of_results, run_text, says, status_of, tried_text, UnlessThreaded, IsExplanation, AreSections, IsAnswerToModule, IsAnswerToReading, IsAnswerToText}
 
 -- ---- lines
 
@@ -58,15 +62,21 @@ all_indented (Some file) form text m under (tokens, has, marks, stand, is) site 
 
 -- ---- pieces
 
-pub run_alone : (verdict : Bool) (m : Module) (r : RunResult) → run_text no_lines verdict m r ≡ report_text_of m r ++ closing_of m r verdict
-run_alone verdict m r = ap₂ (λ (reports closing : List ℕ). reports ++ closing) (reports_alone m 1 r.reports) (closing_alone m r verdict)
+-- where no calls are told there are no lines of theirs
+pub run_silent : (under : Lines) (verdict : Bool) (m : Module) (r : RunResult) → run_text under verdict m (silent r) ≡ reports_with under m 1 r.reports ++ closing_text_with under m r verdict
+run_silent under verdict m r = ap₂ (λ (reports closing : List ℕ). reports ++ closing) (none_called under m 0 r.reports) (none_called_last under m r verdict)
+
+pub run_alone : (verdict : Bool) (m : Module) (r : RunResult) → run_text no_lines verdict m (silent r) ≡ report_text_of m r ++ closing_of m r verdict
+run_alone verdict m r = run_silent no_lines verdict m r ∙ ap₂ (λ (reports closing : List ℕ). reports ++ closing) (reports_alone m 1 r.reports) (closing_alone m r verdict)
 
 pub fault_alone : (f : Fault) → fault_text_with no_lines f ≡ fault_text f
 fault_alone f = ap (λ (lines : List ℕ). fault_text f ++ lines) (none_under (fault_site (Some f))) ∙ append-nil (fault_text f)
 
-run_left : (under : Lines) → ((site : ℕ) → IsIndented (under site)) → (verdict : Bool) (m : Module) (r : RunResult) → unindented (run_text under verdict m r) ≡ report_text_of m r ++ closing_of m r verdict
-run_left under all verdict m r =
-    reports_before under all m 1 r.reports (closing_text_with under m r verdict) ∙ ap (λ (t : List ℕ). report_text_of m r ++ t) (closing_left under all m r verdict)
+run_left : (under : Lines) → ((site : ℕ) → IsIndented (under site)) → (verdict : Bool) (m : Module) (t : ToldRun) → unindented (run_text under verdict m t) ≡ run_text no_lines verdict m t
+run_left under all verdict m t =
+    let r = t.result in
+    calling_before under all m t.calls r.reports (closing_calling under m r t.end_calls verdict)
+    ∙ ap (λ (closing : List ℕ). reports_calling no_lines m t.calls 0 r.reports ++ closing) (closing_calling_left under all m r t.end_calls verdict)
 
 module _ (under : Lines) (all : (site : ℕ) → IsIndented (under site)) (m : Module) where
   way_left : (moves : List Move) (at : Source) (hops : Option (List Hop)) → unindented (way_with under m moves at hops) ≡ way_with no_lines m moves at hops
@@ -78,29 +88,27 @@ module _ (under : Lines) (all : (site : ℕ) → IsIndented (under site)) (m : M
   trace_left (TooLong n) = refl
   trace_left (Found moves at) = way_left moves at (trail_of moves at)
 
-  report_left : (rs : List Report) (t : Trace) (none : Bool) → unindented (if none then no_report else reports_with under m 1 rs ++ trace_with under m t)
-      ≡ (if none then no_report else reports_with no_lines m 1 rs ++ trace_with no_lines m t)
-  report_left rs t true = refl
-  report_left rs t false =
-      reports_before under all m 1 rs (trace_with under m t) ∙ ap₂ (λ (reports way : List ℕ). reports ++ way) (sym (reports_alone m 1 rs)) (trace_left t)
+  report_left : (rs : List Report) (calls : List Calls) (t : Trace) (none : Bool) → unindented (if none then no_report else reports_calling under m calls 0 rs ++ trace_with under m t)
+      ≡ (if none then no_report else reports_calling no_lines m calls 0 rs ++ trace_with no_lines m t)
+  report_left rs calls t true = refl
+  report_left rs calls t false = calling_before under all m calls rs (trace_with under m t) ∙ ap (λ (way : List ℕ). reports_calling no_lines m calls 0 rs ++ way) (trace_left t)
 
-  explained_left : (s : Setup) (r : RunResult) → unindented (explained_with under m s r) ≡ explained_with no_lines m s r
-  explained_left s r = report_left r.reports (followed m s) (eqb (length r.reports) 0)
+  explained_left : (s : Setup) (t : ToldRun) → unindented (explained_with under m s t) ≡ explained_with no_lines m s t
+  explained_left s t = report_left t.result.reports t.calls (followed m s) (eqb (length t.result.reports) 0)
 
-tried_left : (under : Lines) → ((site : ℕ) → IsIndented (under site)) → (m : Module) (e : Explored)
-    → unindented (run_text under true m e.result ++ tried_text e) ≡ run_text no_lines true m e.result ++ tried_text e
-tried_left under all m e =
+tried_left : (under : Lines) → ((site : ℕ) → IsIndented (under site)) → (m : Module) (e : Explored) (calls : List Calls) (last : Option Calls)
+    → unindented (run_text under true m (explored_told e calls last) ++ tried_text e) ≡ run_text no_lines true m (explored_told e calls last) ++ tried_text e
+tried_left under all m e calls last =
     let r = e.result in
     let lines = tried_text e in
-    ap unindented (append_assoc (reports_with under m 1 r.reports) (closing_text_with under m r true) lines)
-    ∙ reports_before under all m 1 r.reports (closing_text_with under m r true ++ lines)
-    ∙ ap (λ (t : List ℕ). report_text_of m r ++ t) (closing_before under all m r true e.tried e.all e.outcomes (not (is_clean (verdict_of r))) e.schedule)
-    ∙ sym (append_assoc (report_text_of m r) (closing_of m r true) lines)
-    ∙ ap (λ (t : List ℕ). t ++ lines) (sym (run_alone true m r))
+    ap unindented (append_assoc (reports_calling under m calls 0 r.reports) (closing_calling under m r last true) lines)
+    ∙ calling_before under all m calls r.reports (closing_calling under m r last true ++ lines)
+    ∙ ap (λ (t : List ℕ). reports_calling no_lines m calls 0 r.reports ++ t) (closing_calling_before under all m r last true e.tried e.all e.outcomes (not (is_clean (verdict_of r))) e.schedule)
+    ∙ sym (append_assoc (reports_calling no_lines m calls 0 r.reports) (closing_calling no_lines m r last true) lines)
 
-pub run_taken_out : (command : Command) (text : List ℕ) (m : Module) (under : Lines) (verdict : Bool) (r : RunResult) → AreLines command text m under
-    → unindented (run_text under verdict m r) ≡ report_text_of m r ++ closing_of m r verdict
-run_taken_out command text m under verdict r are = run_left under (all_indented (located_file command) (form_of command) text m under are) verdict m r
+pub run_taken_out : (command : Command) (text : List ℕ) (m : Module) (under : Lines) (verdict : Bool) (t : ToldRun) → AreLines command text m under
+    → unindented (run_text under verdict m t) ≡ run_text no_lines verdict m t
+run_taken_out command text m under verdict t are = run_left under (all_indented (located_file command) (form_of command) text m under are) verdict m t
 
 pub fault_taken_out : (command : Command) (text : List ℕ) (m : Module) (under : Lines) (f : Fault) → AreLines command text m under → unindented (fault_text_with under f) ≡ fault_text f
 fault_taken_out command text m under f are = fault_left under (all_indented (located_file command) (form_of command) text m under are) f (fault_site (Some f))
@@ -120,16 +128,15 @@ module _ (Gives : Module → Module → Type 0) where
       → without_lines a ≡ says 5 (fault_text_with no_lines f)
   fault_said command text m under f a are is = ap without_lines is ∙ ap (says 5) (fault_taken_out command text m under f are ∙ sym (fault_alone f))
 
-  run_said : (command : Command) (text : List ℕ) (m : Module) (under : Lines) (verdict : Bool) (r : RunResult) (a : Output) → AreLines command text m under
-      → a ≡ answer_of (status_of r) r.output (run_text under verdict m r) → without_lines a ≡ answer_of (status_of r) r.output (run_text no_lines verdict m r)
-  run_said command text m under verdict r a are is =
-      ap without_lines is ∙ ap (answer_of (status_of r) r.output) (run_taken_out command text m under verdict r are ∙ sym (run_alone verdict m r))
+  run_said : (command : Command) (text : List ℕ) (m : Module) (under : Lines) (verdict : Bool) (t : ToldRun) (a : Output) → AreLines command text m under
+      → a ≡ answer_of_result under verdict m t → without_lines a ≡ answer_of_result no_lines verdict m t
+  run_said command text m under verdict t a are is = ap without_lines is ∙ ap (answer_of (status_of t.result) t.result.output) (run_taken_out command text m under verdict t are)
 
-  explored_said : (command : Command) (text : List ℕ) (m : Module) (under : Lines) (e : Explored) (a : Output) → AreLines command text m under
-      → a ≡ answer_of_explored under m e → without_lines a ≡ answer_of_explored no_lines m e
-  explored_said command text m under e a are is =
+  explored_said : (command : Command) (text : List ℕ) (m : Module) (under : Lines) (e : Explored) (calls : List Calls) (last : Option Calls) (a : Output) → AreLines command text m under
+      → a ≡ answer_of_explored under m e calls last → without_lines a ≡ answer_of_explored no_lines m e calls last
+  explored_said command text m under e calls last a are is =
       ap without_lines is
-      ∙ ap (answer_of (status_of e.result) e.result.output) (tried_left under (all_indented (located_file command) (form_of command) text m under are) m e)
+      ∙ ap (answer_of (status_of e.result) e.result.output) (tried_left under (all_indented (located_file command) (form_of command) text m under are) m e calls last)
 
   reading_said : (cause : ReadError) (a : Output) → a ≡ says 5 (refusal_text (Read cause)) → without_lines a ≡ says 5 (refusal_text (Read cause))
   reading_said cause a is = ap without_lines is ∙ ap (says 5) (reading_left cause)
@@ -138,7 +145,7 @@ module _ (Gives : Module → Module → Type 0) where
     run_module : (m : Module) (under : Lines) (a : Output) → AreLines (Run file (with_locations true o)) text m under → IsAnswerToModule Gives under (Run file (with_locations true o)) inputs m a
         → IsAnswerToModule Gives no_lines (Run file (with_locations false o)) inputs m (without_lines a)
     run_module m under a are (inl (f, refused, is)) = inl (f, refused, fault_said (Run file (with_locations true o)) text m under f a are is)
-    run_module m under a are (inr (valid, is)) = inr (valid, run_said (Run file (with_locations true o)) text m under false (plain_under (is_threaded m) m (setup_of o (only_input inputs)) o.schedule) a are is)
+    run_module m under a are (inr (valid, is)) = inr (valid, run_said (Run file (with_locations true o)) text m under false (plain_told_under o.calls (is_threaded m) m (setup_of o (only_input inputs)) o.schedule) a are is)
 
     run_reading : (r : Result Module ReadError) (a : Output) → IsAnswerToReading Gives (Run file (with_locations true o)) inputs text r a
         → IsAnswerToReading Gives (Run file (with_locations false o)) inputs text r (without_lines a)
@@ -151,7 +158,7 @@ module _ (Gives : Module → Module → Type 0) where
         → IsAnswerToModule Gives no_lines (Check file (with_locations false o)) inputs m (without_lines a)
     check_module m under a are (inl (f, refused, is)) = inl (f, refused, fault_said (Check file (with_locations true o)) text m under f a are is)
     check_module m under a are (inr (valid, (j, gives, is))) =
-        inr (valid, (j, gives, run_said (Check file (with_locations true o)) text m under true (plain_under (is_threaded m) j (setup_of o (only_input inputs)) o.schedule) a are is))
+        inr (valid, (j, gives, run_said (Check file (with_locations true o)) text m under true (plain_told_under o.calls (is_threaded m) j (setup_of o (only_input inputs)) o.schedule) a are is))
 
     check_reading : (r : Result Module ReadError) (a : Output) → IsAnswerToReading Gives (Check file (with_locations true o)) inputs text r a
         → IsAnswerToReading Gives (Check file (with_locations false o)) inputs text r (without_lines a)
@@ -160,16 +167,17 @@ module _ (Gives : Module → Module → Type 0) where
     check_reading (Err (e.Refused number w token place)) a is = reading_said (e.Refused number w token place) a is
     check_reading (Err e.NoMemory) a is = is
 
-    explain_alone : (m : Module) (under : Lines) (a : Output) → AreLines (Explain file (with_locations true o)) text m under → IsExplanation Gives under (setup_of o (only_input inputs)) m a
-        → IsExplanation Gives no_lines (setup_of o (only_input inputs)) m (without_any_lines a)
+    explain_alone : (m : Module) (under : Lines) (a : Output) → AreLines (Explain file (with_locations true o)) text m under → IsExplanation Gives under o.calls (setup_of o (only_input inputs)) m a
+        → IsExplanation Gives no_lines o.calls (setup_of o (only_input inputs)) m (without_any_lines a)
     explain_alone m under a are (j, gives, is) =
         let s = setup_of o (only_input inputs) in
-        let r = plain j s in
+        let t = plain_told o.calls j s in
+        let r = t.result in
         let all = all_indented (located_file (Explain file (with_locations true o))) Plain text m under are in (
           j,
           gives,
           ap without_any_lines is
-              ∙ ap₂ (λ (out err : List ℕ). answer_of (status_of r) out err) (explained_left under all m s r) (closing_left under all m r true ∙ sym (closing_alone m r true)),
+              ∙ ap₂ (λ (out err : List ℕ). answer_of (status_of r) out err) (explained_left under all m s t) (closing_calling_left under all m r t.end_calls true),
         )
 
     explain_module : (m : Module) (under : Lines) (a : Output) → AreLines (Explain file (with_locations true o)) text m under → IsAnswerToModule Gives under (Explain file (with_locations true o)) inputs m a
@@ -178,7 +186,7 @@ module _ (Gives : Module → Module → Type 0) where
         inl (f, refused, ap (λ (x : Output). record x { out = unindented x.out }) (fault_said (Explain file (with_locations true o)) text m under f a are is))
     explain_module m under a are (inr (valid, is)) =
         let s = setup_of o (only_input inputs) in
-        inr (valid, by_threads (is_threaded m) (IsExplanation Gives under s m a) (IsExplanation Gives no_lines s m (without_any_lines a)) a (explain_alone m under a are) is)
+        inr (valid, by_threads (is_threaded m) (IsExplanation Gives under o.calls s m a) (IsExplanation Gives no_lines o.calls s m (without_any_lines a)) a (explain_alone m under a are) is)
 
     explain_reading : (r : Result Module ReadError) (a : Output) → IsAnswerToReading Gives (Explain file (with_locations true o)) inputs text r a
         → IsAnswerToReading Gives (Explain file (with_locations false o)) inputs text r (without_any_lines a)
@@ -194,7 +202,8 @@ module _ (Gives : Module → Module → Type 0) where
     schedules_module : (m : Module) (under : Lines) (a : Output) → AreLines (asking true) text m under → IsAnswerToModule Gives under (asking true) inputs m a
         → IsAnswerToModule Gives no_lines (asking false) inputs m (without_lines a)
     schedules_module m under a are (inl (f, refused, is)) = inl (f, refused, fault_said (asking true) text m under f a are is)
-    schedules_module m under a are (inr (valid, (j, gives, e, explored, is))) = inr (valid, (j, gives, e, explored, explored_said (asking true) text m under e a are is))
+    schedules_module m under a are (inr (valid, (j, gives, e, explored, is))) = inr (valid, (j, gives, e, explored, explored_said (asking true) text m under e (if o.calls then plain_calls_under (is_threaded m) j (setup_of o (only_input inputs)) e.schedule else [])
+        (if o.calls then plain_end_calls_under (is_threaded m) j (setup_of o (only_input inputs)) e.schedule else None) a are is))
 
     schedules_reading : (r : Result Module ReadError) (a : Output) → IsAnswerToReading Gives (asking true) inputs text r a
         → IsAnswerToReading Gives (asking false) inputs text r (without_lines a)
@@ -229,7 +238,7 @@ module _ (Gives : Module → Module → Type 0) where
               ),
             )
         by_each false alone (j, gives, is) =
-            let rs = map (λ input. plain j (setup_of o input)) inputs in
+            let rs = map (λ input. plain_told o.calls j (setup_of o input)) inputs in
             let same = answer_of_results no_lines m names rs in
             inr (
               m,

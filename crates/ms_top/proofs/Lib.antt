@@ -15,6 +15,7 @@ pub mod Reading
 pub mod SameLines
 pub mod Saying
 pub mod Statuses
+pub mod Uncalled
 pub mod WrittenRuns
 pub mod Plainly
 pub mod Sections

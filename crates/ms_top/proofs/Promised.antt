@@ -1,6 +1,7 @@
 -- What is read is bytes, so what `check` and `explain` say holds without a premise on their files.
-use Rattle.std.proofs.Common.{◌≡◌, ℕ, ◌^◌, ◌<◌, ◌≤◌, Bool, true, false, List, [], ◌∷◌, length, Option, Some, None, Result, Ok, Err, refl, sym, ap, ◌∙◌, subst, arith, ◌⊎◌, inl, inr}
+use Rattle.std.proofs.Common.{◌≡◌, ℕ, ◌^◌, ◌<◌, ◌≤◌, Bool, true, false, List, [], ◌∷◌, length, Option, Some, None, Result, Ok, Err, refl, sym, ap, ◌∙◌, subst, arith, ◌⊎◌, inl, inr, if◌then◌else◌}
 use Rattle.std.specs.Prelude.{All, nat_lt}
+use Rattle.std.proofs.Math.Path.{ap₂}
 use Rattle.std.proofs.lemmas.Bool.{and_from, lt-ltb}
 use Rattle.std.proofs.lemmas.List.Elements.{All-cons, All-nil, All-head, All-tail}
 use Rattle.ms_io.specs.Reading.{Holdings, IsWholeFile}
@@ -21,8 +22,8 @@ use Rattle.ms_top.specs.Files.{Counted, FilesRead, Whole, Fault, Long, CanRead}
 use Rattle.ms_top.specs.Instrumented.{IsInstrumented}
 use Rattle.ms_top.specs.Promised.{CorpusShown, HoldsUnderChanges, InputHolds, NothingRan, SchedulesShown, ShadowShown, ThreadsRefused, WayShown}
 use Rattle.ms_top.specs.Lines.{AreLines}
-use Rattle.ms_top.specs.Runs.{plain_under, shadow_under, shadow_picks_under, HoldsUnder}
-use Rattle.ms_top.specs.Said.{answer_of_result, says, IsExplanation, IsAnswerToValid, IsAnswerWithoutFile, IsAnswerToModule, IsAnswerToReading, IsAnswerToFiles, IsAnswerToCommand, IsAnswerFor, IsAnswer, AreSections}
+use Rattle.ms_top.specs.Runs.{plain_told_under, shadow_under, shadow_picks_under, HoldsUnder}
+use Rattle.ms_top.specs.Said.{answer_of_explored, answer_of_result, says, IsExplanation, IsAnswerToValid, IsAnswerWithoutFile, IsAnswerToModule, IsAnswerToReading, IsAnswerToFiles, IsAnswerToCommand, IsAnswerFor, IsAnswer, AreSections}
 use Rattle.ms_report.specs.WithLines.{Lines}
 use Rattle.ms_check_valid.specs.Valid.{Valid}
 use Rattle.ms_check_valid.proofs.Refused.{invalid}
@@ -31,6 +32,7 @@ use Rattle.ms_words.proofs.WithinLimits.{command_within}
 use Rattle.ms_text_grammar.specs.Texts.{Reads, max_bytes}
 use Rattle.ms_ir.specs.declared.forms.Form.TheVariants.{Plain}
 use Rattle.ms_text_laws.proofs.FormedModules.{read_formed}
+use Rattle.ms_runs.specs.declared.runs.Calls.{Calls}
 use Rattle.ms_runs.specs.declared.runs.Setup.{Setup}
 use Rattle.ms_ir.specs.Instructions.{NoMarks}
 use Rattle.ms_check_valid.specs.Formed.{Formed}
@@ -40,7 +42,7 @@ use Rattle.ms_check_valid.specs.FormedNames.{are_bytes}
 use Rattle.ms_top.proofs.Answered.{text_read, corpus_refused, explain_refused}
 use Rattle.ms_top.proofs.Answering.{scheduled}
 use Rattle.ms_top.proofs.Explaining.{WaysStay, explained_shadow, explained_way, explained_none}
-use Rattle.ms_top.proofs.Faithful.{corpus_shown, fair_options, alone_says, holds_alone, runs_alone}
+use Rattle.ms_top.proofs.Faithful.{corpus_shown, fair_options, alone_says, calls_alone, holds_alone, runs_alone, told_same}
 use Rattle.ms_text_grammar.proofs.Readings.{one_reading}
 use Rattle.ms_text_laws.proofs.SmallLimits.{can_instrument}
 use Rattle.ms_threads_explore.specs.Explorations.{IsExplored}
@@ -210,8 +212,9 @@ shadow_is_shown c file o a fit h =
       under = h.under;
       lines = h.lines;
       fair = fair;
-      shown = h.answer.2 ∙ ap (answer_of_result h.under true h.module_read) (made.runs s fair o.schedule some);
+      shown = h.answer.2 ∙ ap (answer_of_result h.under true h.module_read) (told_same h.module_read j made o.calls s fair o.schedule some);
       fills = subst (HoldsUnder (is_threaded h.module_read) h.module_read s o.schedule) (made.runs s fair o.schedule some) (made.holds s fair o.schedule some);
+      calls_hold = made.calls_hold s fair o.schedule some;
       choices = λ alone. subst (HoldsUnderChoices h.module_read s) (runs_alone h.module_read j made alone s fair) (made.choices alone s fair);
       changes = λ alone. under_changes h.module_read formed h.valid alone unmarked s fair;
     }
@@ -257,9 +260,11 @@ schedules_are_shown c file o runs workers a fit h =
       fair = fair;
       explored = e;
       explores = of_shadow;
-      shown = h.answer.4;
+      shown = h.answer.4
+          ∙ ap₂ (λ (calls : List Calls) (last : Option Calls). answer_of_explored h.under m e (if o.calls then calls else []) (if o.calls then last else None)) (made.calls s fair e.schedule some) (made.ends s fair e.schedule some);
       repeats = sym (made.runs s fair e.schedule some) ∙ again;
       fills = subst (HoldsUnder t m s e.schedule) again (made.holds s fair e.schedule some);
+      calls_hold = made.calls_hold s fair e.schedule some;
       all = λ threads all clean.
           all_schedules_hold m formed h.valid (can_instrument h.text m h.reads) s (record { input = fair.bytes; fill = fair.fill }) runs e
           (subst (λ (t : Bool). IsExplored (shadow_picks_under t m s) (shadow_under t m s) runs e) threads of_shadow) all clean;
@@ -280,10 +285,10 @@ schedules_words_promise c words file o runs workers a is answer =
 
 -- what `check` says of the text of which this is what `explain` says
 abbrev check_of : (o : Options) (m j : Module) (under : Lines) (inputs : List (List ℕ)) → Output
-check_of o m j under inputs = answer_of_result under true m (plain_under (is_threaded m) j (setup_of o (only_input inputs)) o.schedule)
+check_of o m j under inputs = answer_of_result under true m (plain_told_under o.calls (is_threaded m) j (setup_of o (only_input inputs)) o.schedule)
 
 abbrev explanation_of : (c : Counted) (file : List ℕ) (o : Options) (a : Output) → Answered c (Explain file o) a → Type 0
-explanation_of c file o a h = IsExplanation IsInstrumented h.under (setup_of o (only_input h.inputs)) h.module_read a
+explanation_of c file o a h = IsExplanation IsInstrumented h.under o.calls (setup_of o (only_input h.inputs)) h.module_read a
 
 abbrev checked_too : (c : Counted) (file : List ℕ) (o : Options) (a : Output) → (h : Answered c (Explain file o) a) (x : explanation_of c file o a h)
     → Answered c (Check file o) (check_of o h.module_read x.0 h.under h.inputs)
@@ -369,6 +374,7 @@ all_hold m j made formed valid alone unmarked o (input ∷ rest) fair =
     (record {
       fair = here;
       fills = holds_alone m j made alone s here;
+      calls_hold = calls_alone m j made alone s here;
       choices = subst (HoldsUnderChoices m s) (runs_alone m j made alone s here) (made.choices alone s here);
       changes = under_changes m formed valid alone unmarked s here;
     })

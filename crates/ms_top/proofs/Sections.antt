@@ -2,7 +2,7 @@
 use Rattle.std.proofs.Common.{◌≡◌, ℕ, zero, suc, ◌+◌, ◌<◌, ◌≤◌, Bool, true, false, List, [], ◌∷◌, ◌++◌, length, slice_index_or, drop, min, refl, sym, ap, ◌∙◌, append-nil, drop-cons, arith}
 use Rattle.std.specs.List.{list_any}
 use Rattle.ms_ir.specs.declared.syntax.Module.{Module}
-use Rattle.ms_runs.specs.declared.runs.RunResult.{RunResult}
+use Rattle.ms_runtime.specs.declared.runs.ToldRun.{ToldRun}
 use Rattle.ms_report.specs.WithLines.{Lines}
 use Rattle.ms_top.specs.Said.{sections_of}
 
@@ -20,7 +20,7 @@ any_passed p xs i x lt at miss same =
 
 module _ (under : Lines) (m : Module) where
   -- no section is left after the shorter list
-  none_left : (names : List (List ℕ)) (rs : List RunResult) (n i : ℕ) → min (length names) (length rs) ≤ i → sections_of under m n (drop i names) (drop i rs) ≡ []
+  none_left : (names : List (List ℕ)) (rs : List ToldRun) (n i : ℕ) → min (length names) (length rs) ≤ i → sections_of under m n (drop i names) (drop i rs) ≡ []
   none_left [] rs n zero past = refl
   none_left (name ∷ names) [] n zero past = refl
   none_left (name ∷ names) (r ∷ rs) n zero past = absurd (omega arith)
@@ -32,6 +32,6 @@ module _ (under : Lines) (m : Module) where
       no_results n (name ∷ names) = refl
   none_left (name ∷ names) (r ∷ rs) n (suc i) past = none_left names rs n i (omega arith)
 
-  pub section_end : (names : List (List ℕ)) (rs : List RunResult) (i : ℕ) (text whole : List ℕ) → min (length names) (length rs) ≤ i
+  pub section_end : (names : List (List ℕ)) (rs : List ToldRun) (i : ℕ) (text whole : List ℕ) → min (length names) (length rs) ≤ i
       → text ++ sections_of under m (i + 1) (drop i names) (drop i rs) ≡ whole → text ≡ whole
   section_end names rs i text whole past before = sym (append-nil text) ∙ ap (λ t. text ++ t) (sym (none_left names rs (i + 1) i past)) ∙ before

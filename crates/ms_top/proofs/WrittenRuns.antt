@@ -25,7 +25,7 @@ use Rattle.ms_top.specs.Command.{only_input, setup_of}
 use Rattle.ms_report.specs.WithLines.{Lines}
 use Rattle.ms_top.specs.Instrumented.{IsInstrumented}
 use Rattle.ms_top.specs.Said.{answer_of_result, IsAnswerOfInstrument, IsAnswerOfCheck, IsAnswerToValid, IsAnswerToReading, IsAnswerToText}
-use Rattle.ms_top.specs.Runs.{plain_under}
+use Rattle.ms_top.specs.Runs.{plain_told_under}
 use Rattle.ms_top.specs.Written.{IsLimitRefusal, RunsAlike}
 use Rattle.ms_top.proofs.Answered.{text_answered}
 use Rattle.ms_top.proofs.OneAnswer.{made_once}
@@ -38,7 +38,7 @@ pub named : (under : Lines) (file : List ℕ) (inputs : List (List ℕ)) (m j : 
 named under file inputs m j a (k, made, is) formed text = subst (IsInstrumented m) (same_text k j made.formed formed (sym (ap (λ x. x.out) is) ∙ text)) made
 
 module _ (under : Lines) (name : List ℕ) (inputs : List (List ℕ)) (o : Options) (m : Module) (a b c : Output)
-    (answered : IsAnswerOfInstrument IsInstrumented m a) (read : IsAnswerToText IsInstrumented (Run name o) inputs a.out b) (checked : IsAnswerOfCheck IsInstrumented under (setup_of o (only_input inputs)) o.schedule m c) where
+    (answered : IsAnswerOfInstrument IsInstrumented m a) (read : IsAnswerToText IsInstrumented (Run name o) inputs a.out b) (checked : IsAnswerOfCheck IsInstrumented under o.calls (setup_of o (only_input inputs)) o.schedule m c) where
   j : Module
   j = answered.0
 
@@ -54,18 +54,18 @@ module _ (under : Lines) (name : List ℕ) (inputs : List (List ℕ)) (o : Optio
   read_alike : Reads Instrumented a.out j → RunsAlike m name o a.out under b c
   read_alike reads =
       let s = setup_of o (only_input inputs) in
-      let r = plain_under (is_threaded m) j s o.schedule in
+      let r = plain_told_under o.calls (is_threaded m) j s o.schedule in
       let run = text_answered (Run name o) inputs a.out j b reads made.valid read in
       record {
         made = j;
         instrumented = made;
         below = run.0;
         lines = run.1;
-        result = r;
+        told = r;
         run =
-            run.2 ∙ ap (λ t. answer_of_result run.0 false j (plain_under t j s o.schedule)) (same_threads m j made.valid made.strips)
+            run.2 ∙ ap (λ t. answer_of_result run.0 false j (plain_told_under o.calls t j s o.schedule)) (same_threads m j made.valid made.strips)
             ∙ same_answer run.0 m j made.strips false r;
-        check = checked.2 ∙ ap (λ n. answer_of_result under true m (plain_under (is_threaded m) n s o.schedule)) (made_once m checked.0 j checked.1 made);
+        check = checked.2 ∙ ap (λ n. answer_of_result under true m (plain_told_under o.calls (is_threaded m) n s o.schedule)) (made_once m checked.0 j checked.1 made);
       }
 
   -- a text within the limits does

@@ -2,7 +2,7 @@
 use Rattle.std.specs.Prelude.{◌≡◌, ◌⊎◌, ℕ, true, false, List, [], ◌∷◌, Some}
 use Rattle.ms_io.specs.Reading.{Holdings, IsWholeFile}
 use Rattle.ms_ir.specs.declared.syntax.Module.{Module}
-use Rattle.ms_runs.specs.declared.runs.RunResult.{RunResult}
+use Rattle.ms_runtime.specs.declared.runs.ToldRun.{ToldRun}
 use Rattle.ms_runs.specs.Faithful.{Prefix, Undisturbed}
 use Rattle.ms_ir.specs.ThreadCalls.{is_threaded}
 use Rattle.ms_report.specs.WithLines.{Lines}
@@ -31,11 +31,11 @@ IsDoneStatus n = (n ≡ statuses.done) ⊎ ((n ≡ statuses.trapped) ⊎ ((n ≡
 -- a is what `check` says of a module and b is what `run` says of it, each with some lines under its sites: the output of a is a
 -- beginning of that of b, and unless the checked run ends as reported, output and end are the same
 pub record Begins (m : Module) (a b : Output) : Type 0 where
-  pub checked : RunResult
-  pub plainly : RunResult
+  pub checked : ToldRun
+  pub plainly : ToldRun
   pub under : Lines
   pub below : Lines
   pub check : a ≡ answer_of_result under true m checked
   pub run : b ≡ answer_of_result below false m plainly
-  pub undisturbed : Undisturbed checked plainly
+  pub undisturbed : Undisturbed checked.result plainly.result
   pub output : Prefix a.out b.out

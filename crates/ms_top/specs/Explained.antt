@@ -1,18 +1,19 @@
 -- What `explain` says of a run: its first report, and the way on which the bits of that report came.
 use Rattle.std.specs.Prelude.{◌<◌, ◌^◌, List, [], ◌++◌, length, Option, Some, None, eqb, ℕ, if◌then◌else◌, codes}
 use Rattle.ms_ir.specs.declared.syntax.Module.{Module}
-use Rattle.ms_runs.specs.declared.runs.RunResult.{RunResult}
 use Rattle.ms_runs.specs.declared.runs.Setup.{Setup}
 use Rattle.ms_trail_moves.specs.declared.moves.Source.{Source}
 use Rattle.ms_trail_moves.specs.declared.moves.Move.{Move}
 use Rattle.ms_trail_moves.specs.declared.moves.Hop.{Hop}
 use Rattle.ms_trail_moves.specs.Scanned.{Ascending, trail_of}
 use Rattle.ms_trail_moves.specs.Traces.{trace}
+use Rattle.ms_runtime.specs.declared.runs.ToldRun.{ToldRun}
 use Rattle.ms_trail.specs.declared.found.Trace.{Trace}
 use Rattle.ms_trail.specs.declared.found.Trace.TheVariants.{NoReport, TooLong, Found}
 use Rattle.ms_trail.specs.Tracing.{limited}
 use Rattle.ms_report.specs.TrailTexts.{trail_with}
-use Rattle.ms_report.specs.WithLines.{Lines, reports_with}
+use Rattle.ms_report.specs.WithLines.{Lines}
+use Rattle.ms_report.specs.CallTexts.{reports_calling}
 
 -- ---- the text
 
@@ -38,9 +39,9 @@ abbrev pub no_report : List ℕ
 no_report = codes "no report\n"
 
 -- the lines of the report of a run with this setup, and of the way of its bits
-abbrev pub explained_with : Lines → Module → Setup → RunResult → List ℕ
-explained_with under m s r =
-    if eqb (length r.reports) 0 then no_report else reports_with under m 1 r.reports ++ trace_with under m (followed m s)
+abbrev pub explained_with : Lines → Module → Setup → ToldRun → List ℕ
+explained_with under m s t =
+    if eqb (length t.result.reports) 0 then no_report else reports_calling under m t.calls 0 t.result.reports ++ trace_with under m (followed m s)
 
 -- ---- what is known of it
 

@@ -1,9 +1,10 @@
 -- What `check` and `explain` promise of the program, from what they are to say alone.
-use Rattle.std.specs.Prelude.{◌≡◌, ◌≢◌, ◌<◌, ◌≤◌, ◌⊎◌, ℕ, true, false, All, List, [], ◌∷◌, ◌++◌, length, map, codes}
+use Rattle.std.specs.Prelude.{◌≡◌, ◌≢◌, ◌<◌, ◌≤◌, ◌⊎◌, ℕ, Bool, true, false, All, List, [], ◌∷◌, ◌++◌, length, map, None, if◌then◌else◌, codes}
 use Rattle.ms_ir.specs.declared.forms.Form.TheVariants.{Plain}
 use Rattle.ms_ir.specs.declared.syntax.Module.{Module}
 use Rattle.ms_ir.specs.Instructions.{NoMarks}
 use Rattle.ms_ir.specs.ThreadCalls.{is_threaded}
+use Rattle.ms_runs.specs.Calls.{shadow_calls}
 use Rattle.ms_runs.specs.Faithful.{Fair}
 use Rattle.ms_runs.specs.Masks.{by_completions}
 use Rattle.ms_runs.specs.Plain.{PlainState, Stepped, plain_start, setting_of}
@@ -14,6 +15,7 @@ use Rattle.ms_text_grammar.specs.Texts.{Reads}
 use Rattle.ms_check_valid.specs.Formed.{Formed}
 use Rattle.ms_check_valid.specs.Valid.{Valid}
 use Rattle.ms_runs_fills_laws.specs.Changing.{ComesTo, shown_by}
+use Rattle.ms_runs_fills_laws.specs.CallsAlike.{CallsUnderFills}
 use Rattle.ms_runs_fills_laws.specs.Checked.{HoldsUnderFills}
 use Rattle.ms_runs_fills_laws.specs.Chosen.{HoldsUnderChoices}
 use Rattle.ms_runs_good_laws.specs.Fills.{SameShown, to_first_report}
@@ -29,7 +31,9 @@ use Rattle.ms_threads_explore.specs.declared.explorer.Explored.{Explored}
 use Rattle.ms_threads_explore.specs.Explorations.{IsExplored}
 use Rattle.ms_report.specs.RunTexts.{line}
 use Rattle.ms_report.specs.TrailTexts.{trail_with}
-use Rattle.ms_report.specs.WithLines.{Lines, reports_with}
+use Rattle.ms_report.specs.WithLines.{Lines}
+use Rattle.ms_report.specs.CallTexts.{reports_calling}
+use Rattle.ms_runtime.specs.ToldRuns.{shadow_told}
 use Rattle.ms_report.specs.RefusalTexts.{threads_text}
 use Rattle.ms_words.specs.declared.commands.Command.{Command}
 use Rattle.ms_words.specs.declared.commands.Command.TheVariants.{Check, CheckSchedules, Corpus, Explain}
@@ -39,7 +43,7 @@ use Rattle.ms_top.specs.Command.{files_of, only_input, setup_of}
 use Rattle.ms_top.specs.Files.{Counted, CanRead, Whole, Fault, Long}
 use Rattle.ms_top.specs.Lines.{AreLines}
 use Rattle.ms_top.specs.Explained.{too_long, no_report}
-use Rattle.ms_top.specs.Runs.{shadow_under, shadow_picks_under, HoldsUnder}
+use Rattle.ms_top.specs.Runs.{shadow_under, shadow_picks_under, shadow_calls_under, shadow_end_calls_under, shadow_told_under, HoldsUnder, CallsHoldUnder}
 use Rattle.ms_top.specs.Said.{answer_of_result, answer_of_results, answer_of_explained, answer_of_explored, says}
 use Rattle.ms_top.specs.Statuses as statuses
 
@@ -70,8 +74,8 @@ HoldsUnderChanges m s =
     → SameShown (shown_by z) (shadow m s)
 
 -- A text was read as a valid module, and the answer a says what the module's shadow run with a fair setup is, with the lines that
--- are asked for; where it has threads, under the schedule that is asked for. A clean verdict and a first report hold under every
--- fill, a clean verdict without threads also where each step has a fill of its own, and where uninitialised bits change between
+-- are asked for; where it has threads, under the schedule that is asked for. A clean verdict and a first report with its calls hold under
+-- every fill, a clean verdict without threads also where each step has a fill of its own, and where uninitialised bits change between
 -- steps
 pub record ShadowShown (c : Counted) (file : List ℕ) (o : Options) (a : Output) : Type 0 where
   pub text : List ℕ
@@ -85,9 +89,10 @@ pub record ShadowShown (c : Counted) (file : List ℕ) (o : Options) (a : Output
   pub under : Lines
   pub lines : AreLines (Check file o) text module_read under
   pub fair : Fair (setup_of o (only_input inputs))
-  pub shown : a ≡ answer_of_result under true module_read (shadow_under (is_threaded module_read) module_read (setup_of o (only_input inputs)) o.schedule)
+  pub shown : a ≡ answer_of_result under true module_read (shadow_told_under o.calls (is_threaded module_read) module_read (setup_of o (only_input inputs)) o.schedule)
   pub fills : HoldsUnder (is_threaded module_read) module_read (setup_of o (only_input inputs)) o.schedule
       (shadow_under (is_threaded module_read) module_read (setup_of o (only_input inputs)) o.schedule)
+  pub calls_hold : CallsHoldUnder (is_threaded module_read) module_read (setup_of o (only_input inputs)) o.schedule
   pub choices : is_threaded module_read ≡ false → HoldsUnderChoices module_read (setup_of o (only_input inputs)) (shadow module_read (setup_of o (only_input inputs)))
   pub changes : is_threaded module_read ≡ false → HoldsUnderChanges module_read (setup_of o (only_input inputs))
 
@@ -112,8 +117,11 @@ pub record SchedulesShown (c : Counted) (file : List ℕ) (o : Options) (runs wo
   pub explores : IsExplored (shadow_picks_under (is_threaded module_read) module_read (setup_of o (only_input inputs)))
       (shadow_under (is_threaded module_read) module_read (setup_of o (only_input inputs))) runs explored
   pub shown : a ≡ answer_of_explored under module_read explored
+      (if o.calls then shadow_calls_under (is_threaded module_read) module_read (setup_of o (only_input inputs)) explored.schedule else [])
+      (if o.calls then shadow_end_calls_under (is_threaded module_read) module_read (setup_of o (only_input inputs)) explored.schedule else None)
   pub repeats : shadow_under (is_threaded module_read) module_read (setup_of o (only_input inputs)) explored.schedule ≡ explored.result
   pub fills : HoldsUnder (is_threaded module_read) module_read (setup_of o (only_input inputs)) explored.schedule explored.result
+  pub calls_hold : CallsHoldUnder (is_threaded module_read) module_read (setup_of o (only_input inputs)) explored.schedule
   pub all : is_threaded module_read ≡ true → explored.all ≡ true → verdict_of explored.result ≡ Clean
       → RunsAsOne module_read (setup_of o (only_input inputs)) (schedules_tried module_read (setup_of o (only_input inputs)) runs)
 
@@ -128,15 +136,19 @@ pub record ThreadsRefused (c : Counted) (command : Command) (a : Output) : Type 
   pub threads : is_threaded module_read ≡ true
   pub refused : a ≡ says statuses.refused threads_text
 
+-- the lines of the report of a shadow run, with those of its calls where they are wanted
+abbrev pub told_reports : Lines → (calls : Bool) → Module → Setup → List ℕ
+told_reports under calls m setup = let t = shadow_told calls m setup in reports_calling under m t.calls 0 t.result.reports
+
 -- The text that explains a run with a report: the moves before it are too many, or it shows a way over them. That begins at a root
 -- which the run had reached, each hop's target is what the next hop reads, and the last is what the report's use reads. The same bits
 -- of each place stay poisoned until the next hop, or the use, reads it
-pub record ShowsWay (under : Lines) (m : Module) (setup : Setup) (text : List ℕ) : Type 0 where
+pub record ShowsWay (under : Lines) (calls : Bool) (m : Module) (setup : Setup) (text : List ℕ) : Type 0 where
   pub moves : List Move
   pub at : Source
   pub traced : trace m setup ≡ Found moves at
-  pub shown : ((4194304 < length moves) × (text ≡ reports_with under m 1 (shadow m setup).reports ++ too_long))
-      ⊎ ((length moves ≤ 4194304) × (way : FromReached m (to_first_report setup) moves at) × (text ≡ reports_with under m 1 (shadow m setup).reports ++ trail_with under m moves at way.hops))
+  pub shown : ((4194304 < length moves) × (text ≡ told_reports under calls m setup ++ too_long))
+      ⊎ ((length moves ≤ 4194304) × (way : FromReached m (to_first_report setup) moves at) × (text ≡ told_reports under calls m setup ++ trail_with under m moves at way.hops))
   pub stays : (hops : List Hop) → Leads moves at hops → ReadsToReport m (to_first_report setup) moves at hops
 
 -- The answer a explains what `check` says of the same files with the same options, and shows the way of a report's bits where there
@@ -145,8 +157,8 @@ pub record WayShown (c : Counted) (file : List ℕ) (o : Options) (a : Output) :
   pub checked : Output
   pub shadow_shown : ShadowShown c file o checked
   pub alone : is_threaded shadow_shown.module_read ≡ false
-  pub explained : a ≡ answer_of_explained shadow_shown.under shadow_shown.module_read (setup_of o (only_input shadow_shown.inputs)) (shadow shadow_shown.module_read (setup_of o (only_input shadow_shown.inputs)))
-  pub way : (shadow shadow_shown.module_read (setup_of o (only_input shadow_shown.inputs))).reports ≢ [] → ShowsWay shadow_shown.under shadow_shown.module_read (setup_of o (only_input shadow_shown.inputs)) a.out
+  pub explained : a ≡ answer_of_explained shadow_shown.under shadow_shown.module_read (setup_of o (only_input shadow_shown.inputs)) (shadow_told o.calls shadow_shown.module_read (setup_of o (only_input shadow_shown.inputs)))
+  pub way : (shadow shadow_shown.module_read (setup_of o (only_input shadow_shown.inputs))).reports ≢ [] → ShowsWay shadow_shown.under o.calls shadow_shown.module_read (setup_of o (only_input shadow_shown.inputs)) a.out
   pub none : (shadow shadow_shown.module_read (setup_of o (only_input shadow_shown.inputs))).reports ≡ [] → a.out ≡ no_report
 
 -- what is said of one of the inputs of a corpus holds: under every fill, also where each step has one of its own, and where
@@ -154,6 +166,7 @@ pub record WayShown (c : Counted) (file : List ℕ) (o : Options) (a : Output) :
 pub record InputHolds (m : Module) (setup : Setup) : Type 0 where
   pub fair : Fair setup
   pub fills : HoldsUnderFills m setup (shadow m setup)
+  pub calls_hold : CallsUnderFills m setup (shadow m setup).blind (shadow_calls m setup)
   pub choices : HoldsUnderChoices m setup (shadow m setup)
   pub changes : HoldsUnderChanges m setup
 
@@ -170,5 +183,5 @@ pub record CorpusShown (c : Counted) (file : List ℕ) (names : List (List ℕ))
   pub alone : is_threaded module_read ≡ false
   pub under : Lines
   pub lines : AreLines (Corpus file names o workers) text module_read under
-  pub shown : a ≡ answer_of_results under module_read names (map (λ input. shadow module_read (setup_of o input)) inputs)
+  pub shown : a ≡ answer_of_results under module_read names (map (λ input. shadow_told o.calls module_read (setup_of o input)) inputs)
   pub holds : All (λ input. InputHolds module_read (setup_of o input)) inputs

@@ -2,7 +2,7 @@
 use Rattle.std.specs.Prelude.{◌≡◌, ◌⊎◌, ℕ, true, false, List}
 use Rattle.ms_lex.specs.declared.errors.LexError.TheVariants.{TooManyTokens}
 use Rattle.ms_ir.specs.declared.syntax.Module.{Module}
-use Rattle.ms_runs.specs.declared.runs.RunResult.{RunResult}
+use Rattle.ms_runtime.specs.declared.runs.ToldRun.{ToldRun}
 use Rattle.ms_read_body.specs.declared.errors.ReadError.{ReadError}
 use Rattle.ms_read_body.specs.declared.errors.ReadError.TheVariants.{Lex, Refused, NoMemory}
 use Rattle.ms_report.specs.declared.refusals.Refusal.TheVariants.{Read}
@@ -26,13 +26,13 @@ IsBeyondLimit NoMemory = ⊥
 abbrev pub IsLimitRefusal : Output → Type 0
 IsLimitRefusal b = (cause : ReadError) × IsBeyondLimit cause × (b ≡ says statuses.refused (refusal_text (Read cause)))
 
--- b is what `run` says of a text, and c is what `check` says of m: both of one result, b without the verdict. The text is read as a
+-- b is what `run` says of a text, and c is what `check` says of m: both of one run, b without the verdict. The text is read as a
 -- module that the pass makes of m; each answer has lines of its own under the sites
 pub record RunsAlike (m : Module) (name : List ℕ) (o : Options) (text : List ℕ) (under : Lines) (b c : Output) : Type 0 where
   pub made : Module
   pub instrumented : IsInstrumented m made
   pub below : Lines
   pub lines : AreLines (Run name o) text made below
-  pub result : RunResult
-  pub run : b ≡ answer_of_result below false m result
-  pub check : c ≡ answer_of_result under true m result
+  pub told : ToldRun
+  pub run : b ≡ answer_of_result below false m told
+  pub check : c ≡ answer_of_result under true m told

@@ -17,6 +17,7 @@ use ms_fork::Gate;
 use ms_ir::Module;
 use ms_report::SiteLines;
 use ms_runs::{RunResult, Setup};
+use ms_runtime::ToldRun;
 use ms_words::Options;
 use ms_write_values::push_number;
 use std::alloc::Global;
@@ -64,26 +65,26 @@ impl<R: Threads + Sync, P: Pass, G: Gate + Sync, L: SiteLines> ModuleJob<'_, R, 
         )
     }
 
-    /// The runs, with these options, of the module that the pass gives, one for each input in order.
-    fn run_all_with(&self, options: &Options, workers: u8) -> Result<List<RunResult>, NoMemory>
+    /// What is told of the runs, with these options, of the module that the pass gives, one for each input in order.
+    fn run_all_with(&self, options: &Options, workers: u8) -> Result<List<ToldRun>, NoMemory>
         requires plain { CanInstrument self.now.m.now }
         requires limits { RunsWithinLimits options.now }
         requires workers { (1 ≤ workers) × (workers ≤ 8) }
         requires inputs { AreShort self.now.inputs.now }
         requires alone { is_threaded self.now.m.now ≡ false }
-        ensures { IfOk result (λ rs. AreRunsOfGiven P.gives self.now.m.now (setup_with options.now []) self.now.inputs.now rs) }
+        ensures { IfOk result (λ rs. AreRunsOfGiven P.gives self.now.m.now (setup_with options.now []) options.now.calls self.now.inputs.now rs) }
     {
         let setup = setup_of(self.job.alloc, options, b"")?;
-        self.run_inputs(&setup, workers)
+        self.run_inputs(&setup, options.calls, workers)
     }
 
-    /// The runs of the module that the pass gives, each with this setup but its own input.
-    fn run_inputs(&self, setup: &Setup, workers: u8) -> Result<List<RunResult>, NoMemory>
+    /// What is told of the runs of the module that the pass gives, each with this setup but its own input.
+    fn run_inputs(&self, setup: &Setup, calls: bool, workers: u8) -> Result<List<ToldRun>, NoMemory>
         requires plain { CanInstrument self.now.m.now }
         requires limits { AreWithinLimits setup.now self.now.inputs.now }
         requires workers { (1 ≤ workers) × (workers ≤ 8) }
         requires alone { is_threaded self.now.m.now ≡ false }
-        ensures { IfOk result (λ rs. AreRunsOfGiven P.gives self.now.m.now setup.now self.now.inputs.now rs) }
+        ensures { IfOk result (λ rs. AreRunsOfGiven P.gives self.now.m.now setup.now calls self.now.inputs.now rs) }
     {
         let job = self.job;
         let instrumented = instrumented_by(job.rt, job.alloc, self.m, job.pass)?;
@@ -93,6 +94,7 @@ impl<R: Threads + Sync, P: Pass, G: Gate + Sync, L: SiteLines> ModuleJob<'_, R, 
             instrumented.get(),
             self.inputs,
             setup,
+            calls,
             workers,
             job.gate,
         )
@@ -104,7 +106,7 @@ fn output_of_runs<L: SiteLines>(
     alloc: Global,
     m: &Module,
     names: &[Text],
-    results: &[RunResult],
+    results: &[ToldRun],
     lines: &L,
 ) -> Result<Output, NoMemory>
     requires { Formed m.now }
@@ -123,7 +125,7 @@ fn sections<L: SiteLines>(
     alloc: Global,
     m: &Module,
     names: &[Text],
-    results: &[RunResult],
+    results: &[ToldRun],
     lines: &L,
 ) -> Result<Vec<u8>, NoMemory>
     requires { Formed m.now }
@@ -149,17 +151,18 @@ fn push_section<L: SiteLines>(
     m: &Module,
     number: u64,
     name: &Text,
-    r: &RunResult,
+    told: &ToldRun,
     lines: &L,
 ) -> Result<(), NoMemory>
     requires { Formed m.now }
-    ensures { IfOk result (λ _. text.new.items ≡ text.old.items ++ section_of (L.lines lines.now) m.now number name.now r.now) }
+    ensures { IfOk result (λ _. text.new.items ≡ text.old.items ++ section_of (L.lines lines.now) m.now number name.now told.now) }
 {
     let alloc = *text.allocator();
+    let r = &told.result;
     push_heading(text, number, name, r)?;
     text.extend_from_slice(r.output.as_slice())?;
     text.push(b'\n')?;
-    let run = text_of_run(alloc, m, r, true, lines)?;
+    let run = text_of_run(alloc, m, told, true, lines)?;
     text.extend_from_slice(&run)?;
     Ok(())
 }
@@ -187,11 +190,11 @@ fn push_size(text: &mut Vec<u8>, number: u64, size: u64) -> Result<(), NoMemory>
 
 /// Whether one of the runs has this status.
 #[tactic(auto, using(crate::proofs::Sections::any_here, crate::proofs::Sections::any_passed))]
-fn any_with(results: &[RunResult], status: u8) -> bool
+fn any_with(results: &[ToldRun], status: u8) -> bool
     ensures { result ≡ has_status status results.now }
 {
-    for result in results {
-        if status_of(result) == status {
+    for told in results {
+        if status_of(&told.result) == status {
             return true;
         }
     }
@@ -199,7 +202,7 @@ fn any_with(results: &[RunResult], status: u8) -> bool
 }
 
 /// The status of runs: 77 where one has a report, else 3 where one trapped, else 4 where one is spent.
-fn status_of_all(results: &[RunResult]) -> u8
+fn status_of_all(results: &[ToldRun]) -> u8
     ensures { result ≡ status_of_runs results.now }
 {
     if any_with(results, Status::Reported as u8) {

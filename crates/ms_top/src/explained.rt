@@ -9,15 +9,16 @@ ghost use Rattle.ms_top.specs.Command.{input_limit, only_input, setup_of as setu
 ghost use Rattle.ms_top.specs.Explained.{CanLead, explained_with, followed, trace_with, way_with};
 ghost use Rattle.ms_top.specs.Said.{answer_of_explained, IsExplanation, IsAnswerOfExplain};
 
-use crate::modules::{ModuleJob, setup_of, status_of};
+use crate::modules::{ModuleJob, closing_of_run, setup_of, status_of};
 use crate::output::Output;
 use crate::passes::{Pass, has_threads};
 use crate::refused::refused_threads;
 use ms_bits::{Bytes, NoMemory};
 use ms_fork::Gate;
 use ms_ir::Module;
-use ms_report::{SiteLines, closing_with, report_text_with, trail_text_with};
-use ms_runs::{RunResult, Setup};
+use ms_report::{SiteLines, report_text_calling, trail_text_with};
+use ms_runs::Setup;
+use ms_runtime::ToldRun;
 use ms_trail::found::Trace;
 use ms_trail::traces::trace;
 use ms_trail_moves::back::trail;
@@ -33,7 +34,7 @@ impl<R: Threads + Sync, P: Pass, G: Gate + Sync, L: SiteLines> ModuleJob<'_, R, 
         requires plain { CanInstrument self.now.m.now }
         requires limits { RunsWithinLimits options.now }
         requires input { length (only_input self.now.inputs.now) ≤ input_limit }
-        ensures { IfOk result (λ a. IsAnswerOfExplain P.gives (L.lines self.now.lines.now) (setup_with options.now (only_input self.now.inputs.now)) self.now.m.now a) }
+        ensures { IfOk result (λ a. IsAnswerOfExplain P.gives (L.lines self.now.lines.now) options.now.calls (setup_with options.now (only_input self.now.inputs.now)) self.now.m.now a) }
     {
         if has_threads(self.m) {
             refused_threads(self.job.alloc)
@@ -48,23 +49,25 @@ impl<R: Threads + Sync, P: Pass, G: Gate + Sync, L: SiteLines> ModuleJob<'_, R, 
         requires limits { RunsWithinLimits options.now }
         requires input { length (only_input self.now.inputs.now) ≤ input_limit }
         requires alone { is_threaded self.now.m.now ≡ false }
-        ensures { IfOk result (λ a. IsExplanation P.gives (L.lines self.now.lines.now) (setup_with options.now (only_input self.now.inputs.now)) self.now.m.now a) }
+        ensures { IfOk result (λ a. IsExplanation P.gives (L.lines self.now.lines.now) options.now.calls (setup_with options.now (only_input self.now.inputs.now)) self.now.m.now a) }
     {
         let setup = setup_of(self.job.alloc, options, self.input())?;
-        let result = self.job.run(self.m, &setup, options.schedule.as_slice())?;
-        self.explanation(&setup, &result)
+        let schedule = options.schedule.as_slice();
+        let told = self.job.run(self.m, &setup, schedule, options.calls)?;
+        self.explanation(&setup, &told)
     }
 
-    /// The output that explains the result of a run with a setup.
-    fn explanation(&self, setup: &Setup, r: &RunResult) -> Result<Output, NoMemory>
+    /// The output that explains what is told of a run with a setup.
+    fn explanation(&self, setup: &Setup, told: &ToldRun) -> Result<Output, NoMemory>
         requires plain { CanInstrument self.now.m.now }
         requires limits { WithinLimits setup.now }
         requires alone { is_threaded self.now.m.now ≡ false }
-        ensures { IfOk result (λ a. a ≡ answer_of_explained (L.lines self.now.lines.now) self.now.m.now setup.now r.now) }
+        ensures { IfOk result (λ a. a ≡ answer_of_explained (L.lines self.now.lines.now) self.now.m.now setup.now told.now) }
     {
         self.m.law_valid();
-        let out = self.explained(setup, r)?;
-        let err = closing_with(self.job.alloc, self.m.module(), r, true, self.lines)?;
+        let r = &told.result;
+        let out = self.explained(setup, told)?;
+        let err = closing_of_run(self.job.alloc, self.m.module(), told, true, self.lines)?;
         Ok(Output {
             status: status_of(r),
             out: Bytes::from_vec(out),
@@ -73,18 +76,20 @@ impl<R: Threads + Sync, P: Pass, G: Gate + Sync, L: SiteLines> ModuleJob<'_, R, 
     }
 
     /// The lines of the report of a run with a setup, and of the way to what its use read.
-    fn explained(&self, setup: &Setup, r: &RunResult) -> Result<Vec<u8>, NoMemory>
+    fn explained(&self, setup: &Setup, told: &ToldRun) -> Result<Vec<u8>, NoMemory>
         requires plain { CanInstrument self.now.m.now }
         requires limits { WithinLimits setup.now }
         requires alone { is_threaded self.now.m.now ≡ false }
-        ensures { IfOk result (λ text. text.items ≡ explained_with (L.lines self.now.lines.now) self.now.m.now setup.now r.now) }
+        ensures { IfOk result (λ text. text.items ≡ explained_with (L.lines self.now.lines.now) self.now.m.now setup.now told.now) }
     {
         self.m.law_valid();
         let alloc = self.job.alloc;
+        let r = &told.result;
         if r.reports.as_slice().is_empty() {
             return Vec::from_slice(alloc, b"no report\n");
         }
-        let mut text = report_text_with(alloc, self.m.module(), r, self.lines)?;
+        let calls = told.calls.as_slice();
+        let mut text = report_text_calling(alloc, self.m.module(), r, calls, self.lines)?;
         let way = self.lines_of_run(setup)?;
         text.extend_from_slice(&way)?;
         Ok(text)

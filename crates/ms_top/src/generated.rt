@@ -55,8 +55,8 @@ impl<R: Threads + Sync, P: Pass, G: Gate + Sync> Job<'_, R, P, G> {
     {
         m.law_valid();
         let setup = default_setup(self.alloc)?;
-        let result = self.run(m, &setup, default_schedule())?;
-        output_of_summary(self.alloc, m.module(), &result)
+        let told = self.run(m, &setup, default_schedule(), false)?;
+        output_of_summary(self.alloc, m.module(), &told.result)
     }
 }
 

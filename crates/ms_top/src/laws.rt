@@ -4,18 +4,19 @@ ghost use Rattle.std.specs.Prelude.{◌≡◌, ◌≢◌, ◌⊎◌, ℕ, true, 
 ghost use Rattle.ms_io.specs.{Counts.{Rose}, Reading.{Holdings}};
 ghost use Rattle.ms_ir.specs.{declared.syntax.Module.{Module}, ThreadCalls.{is_threaded}};
 ghost use Rattle.ms_ir.specs.declared.forms.Form.TheVariants.{Plain};
-ghost use Rattle.ms_runs.specs.{declared.runs.RunResult.{RunResult}, Faithful.{Fair, Faithful}, Shadow.{shadow}};
+ghost use Rattle.ms_runs.specs.{declared.runs.RunResult.{RunResult}, Calls.{SameCalls}, Faithful.{Fair, Faithful}, Shadow.{shadow}};
+ghost use Rattle.ms_runtime.specs.{declared.runs.ToldRun.{ToldRun}, ToldRuns.{shadow_told}};
 ghost use Rattle.ms_runs_fills_laws.specs.Checked.{HoldsUnderFills};
 ghost use Rattle.ms_check_valid.specs.{Formed.{Formed}, Refusals.{Fault}, Valid.{Valid}};
 ghost use Rattle.ms_text_grammar.specs.LayoutModules.{written};
 ghost use Rattle.ms_text_laws.specs.Fits.{FitsText};
 ghost use Rattle.ms_pass_form_laws.specs.Elided.{IsElided};
 ghost use Rattle.ms_top.specs.{declared.output.Output.{Output}, Answered.{AreHeld, IsTaken, IsDoneStatus, Begins}};
-ghost use Rattle.ms_top.specs.Added.{with_locations, without_lines, without_any_lines, CorpusAdds};
+ghost use Rattle.ms_top.specs.Added.{with_locations, without_lines, without_any_lines, CorpusAdds, telling, without_calls, without_any_calls, CorpusTells};
 ghost use Rattle.ms_top.specs.{Command.{files_of, form_of, input_limit, only_input, setup_of}, Explained.{no_report}};
 ghost use Rattle.ms_top.specs.Files.{Counted, CanRead, Whole};
 ghost use Rattle.ms_top.specs.Promised.{CorpusShown, NothingRan, SchedulesShown, ShadowShown, ThreadsRefused, ShowsWay, WayShown};
-ghost use Rattle.ms_top.specs.{Runs.{shadow_under, HoldsUnder}, Instrumented.{IsInstrumented}};
+ghost use Rattle.ms_top.specs.{Runs.{shadow_told_under, shadow_under, silent, CallsHoldUnder, HoldsUnder}, Instrumented.{IsInstrumented}};
 ghost use Rattle.ms_top.specs.Lines.{AreLines, fault_text_with};
 ghost use Rattle.ms_top.specs.Said.{IsAnswer, IsAnswerToCommand, IsAnswerOfGen, IsAnswerToText, IsAnswerToValid, DifferInPath, answer_of, answer_of_result, answer_of_explained, answer_of_results, run_text, says, status_of};
 ghost use Rattle.ms_top.specs.Written.{IsLimitRefusal, RunsAlike};
@@ -27,7 +28,7 @@ ghost use Rattle.ms_words.specs.Words.{asks, command_of, defaults};
 ghost use Rattle.ms_where_places.specs.Indented.{unindented};
 ghost use Rattle.ms_report.specs.{FaultTexts.{fault_text}, RefusalTexts.{threads_text}, ReportTexts.{report_text_of}};
 ghost use Rattle.ms_report.specs.{RunTexts.{closing_of}, SummaryTexts.{summary_of}, WithLines.{Lines, no_lines}};
-ghost use Rattle.ms_report.specs.WordsTexts.{words_text};
+ghost use Rattle.ms_report.specs.{Uncalled.{uncalled}, WordsTexts.{words_text}};
 ghost use Rattle.ms_gen.specs.Generator.{generated};
 ghost use Rattle.ms_text_grammar.specs.Texts.{Reads};
 ghost use Rattle.ms_threads.specs.Faithful.{IsSchedule};
@@ -59,15 +60,17 @@ pub fn law_questions_are_answered()
 /// What is said of a checked module is its shadow run with the verdict, where the setup is fair, as those of options within the
 /// limits are with an input of bytes that is within its limit; of one with threads that under the schedule of the options. Of a
 /// generated one that is run, which has no threads, it is the summary of its shadow run with the default options, whose setup is
-/// fair: no input, the fill a5, ten million steps, one report, the schedule 00. A clean verdict, and a first report where no blind use was counted, hold under
+/// fair: no input, the fill a5, ten million steps, one report, the schedule 00. A clean verdict, and a first report where no blind use was counted, with its calls, hold under
 /// every fill, with threads under the same schedule; of two schedules nothing is said.
 pub fn law_checks_show_the_shadow_run()
     ensures shadow { (under : Lines) (file : List ℕ) (inputs : List (List ℕ)) (o : Options) (m : Module) (a : Output) → let s = setup_of o (only_input inputs) in Fair s → IsSchedule o.schedule
-        → IsAnswerToValid IsInstrumented under (Check file o) inputs m a → a ≡ answer_of_result under true m (shadow_under (is_threaded m) m s o.schedule) }
+        → IsAnswerToValid IsInstrumented under (Check file o) inputs m a → a ≡ answer_of_result under true m (shadow_told_under o.calls (is_threaded m) m s o.schedule) }
     ensures under_fills { (under : Lines) (file : List ℕ) (inputs : List (List ℕ)) (o : Options) (m : Module) (a : Output) → let s = setup_of o (only_input inputs) in Fair s → IsSchedule o.schedule
         → IsAnswerToValid IsInstrumented under (Check file o) inputs m a → HoldsUnder (is_threaded m) m s o.schedule (shadow_under (is_threaded m) m s o.schedule) }
+    ensures calls_under_fills { (under : Lines) (file : List ℕ) (inputs : List (List ℕ)) (o : Options) (m : Module) (a : Output) → let s = setup_of o (only_input inputs) in Fair s → IsSchedule o.schedule
+        → IsAnswerToValid IsInstrumented under (Check file o) inputs m a → CallsHoldUnder (is_threaded m) m s o.schedule }
     ensures sections { (under : Lines) (file : List ℕ) (names inputs : List (List ℕ)) (o : Options) (workers : ℕ) (m : Module) (a : Output) → is_threaded m ≡ false → All (λ input. Fair (setup_of o input)) inputs
-        → IsAnswerToValid IsInstrumented under (Corpus file names o workers) inputs m a → a ≡ answer_of_results under m names (map (λ input. shadow m (setup_of o input)) inputs) }
+        → IsAnswerToValid IsInstrumented under (Corpus file names o workers) inputs m a → a ≡ answer_of_results under m names (map (λ input. shadow_told o.calls m (setup_of o input)) inputs) }
     ensures sections_under_fills { (under : Lines) (file : List ℕ) (names inputs : List (List ℕ)) (o : Options) (workers : ℕ) (m : Module) (a : Output) → is_threaded m ≡ false
         → IsAnswerToValid IsInstrumented under (Corpus file names o workers) inputs m a → (input : List ℕ) → Fair (setup_of o input) → HoldsUnderFills m (setup_of o input) (shadow m (setup_of o input)) }
     ensures summary { (m : Module) (a : Output) → IsAnswerOfGen IsInstrumented true m a
@@ -76,7 +79,7 @@ pub fn law_checks_show_the_shadow_run()
         → let r = shadow (generated seed functions) (setup_of defaults []) in a ≡ answer_of (status_of r) (summary_of (generated seed functions) r) [] }
     ensures fair { (o : Options) (input : List ℕ) → RunsWithinLimits o → length input ≤ input_limit → All (λ b. b < 2 ^ 8) input → Fair (setup_of o input) }
     ensures defaults { Fair (setup_of defaults []) }
-    ensures spelled { defaults ≡ record { input = None; fill = 0xa5 ∷ []; steps = 10000000; reports = 1; schedule = 0 ∷ []; locations = false } }
+    ensures spelled { defaults ≡ record { input = None; fill = 0xa5 ∷ []; steps = 10000000; reports = 1; schedule = 0 ∷ []; locations = false; calls = false } }
 {}
 
 /// What `explain` says of a checked module is the first report of its shadow run, where the setup is fair, with the way of that
@@ -86,9 +89,9 @@ pub fn law_checks_show_the_shadow_run()
 /// with threads is refused.
 pub fn law_explanations_show_the_way()
     ensures shadow { (under : Lines) (file : List ℕ) (inputs : List (List ℕ)) (o : Options) (m : Module) (a : Output) → is_threaded m ≡ false → let s = setup_of o (only_input inputs) in Fair s
-        → IsAnswerToValid IsInstrumented under (Explain file o) inputs m a → a ≡ answer_of_explained under m s (shadow m s) }
+        → IsAnswerToValid IsInstrumented under (Explain file o) inputs m a → a ≡ answer_of_explained under m s (shadow_told o.calls m s) }
     ensures way { (under : Lines) (file : List ℕ) (inputs : List (List ℕ)) (o : Options) (m : Module) (a : Output) → is_threaded m ≡ false → let s = setup_of o (only_input inputs) in Fair s
-        → IsAnswerToValid IsInstrumented under (Explain file o) inputs m a → (shadow m s).reports ≢ [] → ShowsWay under m s a.out }
+        → IsAnswerToValid IsInstrumented under (Explain file o) inputs m a → (shadow m s).reports ≢ [] → ShowsWay under o.calls m s a.out }
     ensures none { (under : Lines) (file : List ℕ) (inputs : List (List ℕ)) (o : Options) (m : Module) (a : Output) → is_threaded m ≡ false → let s = setup_of o (only_input inputs) in Fair s
         → IsAnswerToValid IsInstrumented under (Explain file o) inputs m a → (shadow m s).reports ≡ [] → a.out ≡ no_report }
     ensures threads { (under : Lines) (file : List ℕ) (o : Options) (inputs : List (List ℕ)) (m : Module) (a : Output) → is_threaded m ≡ true
@@ -97,10 +100,10 @@ pub fn law_explanations_show_the_way()
     moves_read_poison();
 }
 
-/// What `explain` says holds of every pass whose modules are faithful.
+/// What `explain` says holds of every pass whose modules are faithful and name the same calls at their reports.
 pub fn law_faithful_passes_explain<P: Pass>()
-    ensures { (under : Lines) (file : List ℕ) (inputs : List (List ℕ)) (o : Options) (m : Module) (a : Output) → ((j : Module) → P.gives m j → Faithful m j)
-        → is_threaded m ≡ false → let s = setup_of o (only_input inputs) in Fair s → IsAnswerToValid P.gives under (Explain file o) inputs m a → a ≡ answer_of_explained under m s (shadow m s) }
+    ensures { (under : Lines) (file : List ℕ) (inputs : List (List ℕ)) (o : Options) (m : Module) (a : Output) → ((j : Module) → P.gives m j → Faithful m j × SameCalls m j)
+        → is_threaded m ≡ false → let s = setup_of o (only_input inputs) in Fair s → IsAnswerToValid P.gives under (Explain file o) inputs m a → a ≡ answer_of_explained under m s (shadow_told o.calls m s) }
 {}
 
 /// What `instrument` writes is the text of a faithful module, and of no other formed module. `run` says of that text what `check`
@@ -133,11 +136,30 @@ pub fn law_lines_are_added()
         → IsAnswerToText IsInstrumented (Explain file (with_locations false o)) inputs text (without_any_lines a) }
     ensures corpus { (file : List ℕ) (names inputs : List (List ℕ)) (o : Options) (workers : ℕ) (text : List ℕ) (a : Output)
         → IsAnswerToText IsInstrumented (Corpus file names (with_locations true o) workers) inputs text a → CorpusAdds IsInstrumented file names o workers inputs text a }
-    ensures runs { (command : Command) (text : List ℕ) (m : Module) (under : Lines) (verdict : Bool) (r : RunResult) → AreLines command text m under
-        → unindented (run_text under verdict m r) ≡ report_text_of m r ++ closing_of m r verdict }
+    ensures runs { (command : Command) (text : List ℕ) (m : Module) (under : Lines) (verdict : Bool) (t : ToldRun) → AreLines command text m under
+        → unindented (run_text under verdict m t) ≡ run_text no_lines verdict m t }
     ensures faults { (command : Command) (text : List ℕ) (m : Module) (under : Lines) (fault : Fault) → AreLines command text m under → unindented (fault_text_with under fault) ≡ fault_text fault }
-    ensures none_in_runs { (verdict : Bool) (m : Module) (r : RunResult) → run_text no_lines verdict m r ≡ report_text_of m r ++ closing_of m r verdict }
+    ensures none_in_runs { (verdict : Bool) (m : Module) (r : RunResult) → run_text no_lines verdict m (silent r) ≡ report_text_of m r ++ closing_of m r verdict }
     ensures none_in_faults { (fault : Fault) → fault_text_with no_lines fault ≡ fault_text fault }
+{}
+
+/// What the option `--calls` adds is lines that tell of calls, below those of reports: without the option `--where` what `run`, `check` and
+/// `explain` say with the option is what they say without it, or that is left once these lines are taken out. So is each text of which the
+/// sections of `corpus` are made beside the output.
+pub fn law_calls_are_added()
+    ensures run { (file : List ℕ) (o : Options) (inputs : List (List ℕ)) (text : List ℕ) (a : Output) → IsAnswerToText IsInstrumented (Run file (telling true o)) inputs text a
+        → IsAnswerToText IsInstrumented (Run file (telling false o)) inputs text a ⊎ IsAnswerToText IsInstrumented (Run file (telling false o)) inputs text (without_calls a) }
+    ensures check { (file : List ℕ) (o : Options) (inputs : List (List ℕ)) (text : List ℕ) (a : Output) → IsAnswerToText IsInstrumented (Check file (telling true o)) inputs text a
+        → IsAnswerToText IsInstrumented (Check file (telling false o)) inputs text a ⊎ IsAnswerToText IsInstrumented (Check file (telling false o)) inputs text (without_calls a) }
+    ensures schedules { (file : List ℕ) (o : Options) (runs workers : ℕ) (inputs : List (List ℕ)) (text : List ℕ) (a : Output)
+        → IsAnswerToText IsInstrumented (CheckSchedules file (telling true o) runs workers) inputs text a
+        → IsAnswerToText IsInstrumented (CheckSchedules file (telling false o) runs workers) inputs text a
+        ⊎ IsAnswerToText IsInstrumented (CheckSchedules file (telling false o) runs workers) inputs text (without_calls a) }
+    ensures explain { (file : List ℕ) (o : Options) (inputs : List (List ℕ)) (text : List ℕ) (a : Output) → IsAnswerToText IsInstrumented (Explain file (telling true o)) inputs text a
+        → IsAnswerToText IsInstrumented (Explain file (telling false o)) inputs text a ⊎ IsAnswerToText IsInstrumented (Explain file (telling false o)) inputs text (without_any_calls a) }
+    ensures corpus { (file : List ℕ) (names : List (List ℕ)) (o : Options) (workers : ℕ) (inputs : List (List ℕ)) (text : List ℕ) (a : Output)
+        → IsAnswerToText IsInstrumented (Corpus file names (telling true o) workers) inputs text a → CorpusTells IsInstrumented file names o workers inputs text a }
+    ensures runs { (verdict : Bool) (m : Module) (t : ToldRun) → uncalled (run_text no_lines verdict m t) ≡ run_text no_lines verdict m (silent t.result) }
 {}
 
 /// A valid module is never refused: where a text reads as a valid module, what is to be said of it is an answer for that module.
@@ -172,8 +194,8 @@ pub fn law_checks_begin_runs()
 /// What is read is bytes, whether the files tell what they hold or not, and the fields of a command that words ask for are within
 /// their limits. So of any words that ask for a check what is to be said is this, with no premise on files: nothing was run, since a
 /// file couldn't be read or was too long, or since the text that was read isn't a valid module's; or a text was read as a valid
-/// module, and the answer is its shadow run with a fair setup. Then a clean verdict and a first report hold under every fill, with
-/// threads under the same schedule, and without threads a clean verdict also where each step has a fill of its own, and where
+/// module, and the answer is its shadow run with a fair setup. Then a clean verdict and a first report with its calls hold under every fill,
+/// with threads under the same schedule, and without threads a clean verdict also where each step has a fill of its own, and where
 /// uninitialised bits of memory and words change between steps.
 pub fn law_checks_hold()
     ensures words { (c : Counted) (words : List (List ℕ)) (file : List ℕ) (o : Options) (a : Output) → command_of words ≡ Ok (Check file o)

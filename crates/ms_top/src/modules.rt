@@ -3,10 +3,11 @@ ghost use Rattle.std.specs.Prelude.{◌≡◌, ◌≤◌, length, false, IfOk};
 ghost use Rattle.ms_ir.specs.ThreadCalls.{is_threaded};
 ghost use Rattle.ms_runs.specs.Limits.{WithinLimits};
 ghost use Rattle.ms_check_valid.specs.{Formed.{Formed}, Uninstrumented.{CanInstrument}};
+ghost use Rattle.ms_report.specs.CallTexts.{closing_calling as closing_lines};
 ghost use Rattle.ms_words.specs.Limits.{RunsWithinLimits, IsWithinLimits};
 ghost use Rattle.ms_threads.specs.Faithful.{IsSchedule};
 ghost use Rattle.ms_top.specs.Command.{setup_of as setup_with, input_limit, only_input};
-ghost use Rattle.ms_top.specs.{OnFile.{command_of}, Parts.{AreShort, IsReady, IsRunOfGiven}, Runs.{plain_under}};
+ghost use Rattle.ms_top.specs.{OnFile.{command_of}, Parts.{AreShort, IsReady, IsRunOfGiven}, Runs.{plain_told_under}};
 ghost use Rattle.ms_top.specs.Said.{answer_of_result, run_text, status_of as status_of_run, IsAnswerOfInstrument, IsAnswerOfCheck, IsAnswerToValid};
 
 use crate::commands::{Action, FileCommand};
@@ -19,27 +20,29 @@ use ms_bits::{Bytes, NoMemory};
 use ms_check::CheckedModule;
 use ms_fork::Gate;
 use ms_ir::Module;
-use ms_report::{SiteLines, closing_with, report_text_with};
+use ms_report::{SiteLines, closing_calling, report_text_calling};
 use ms_runs::{End, RunResult, Setup};
-use ms_runtime::run;
-use ms_threads::run_threads;
+use ms_runtime::{ToldRun, run_told};
+use ms_threads::run_threads_told;
 use ms_words::Options;
 use std::alloc::Global;
 use std::mem::forget;
 use std::thread::Threads;
 
 impl<R: Threads + Sync, P: Pass, G: Gate + Sync> Job<'_, R, P, G> {
-    /// The run of the module that the pass gives; of one with threads under this schedule.
+    /// The run of the module that the pass gives, of one with threads under this schedule; and where they are wanted the calls at its
+    /// reports.
     pub fn run(
         &self,
         m: &CheckedModule,
         setup: &Setup,
         schedule: &[u8],
-    ) -> Result<RunResult, NoMemory>
+        calls: bool,
+    ) -> Result<ToldRun, NoMemory>
         requires plain { CanInstrument m.now }
         requires limits { WithinLimits setup.now }
         requires scheduled { IsSchedule schedule.now }
-        ensures { IfOk result (λ r. IsRunOfGiven P.gives m.now setup.now schedule.now r) }
+        ensures { IfOk result (λ t. IsRunOfGiven P.gives m.now setup.now schedule.now calls t) }
     {
         let instrumented = instrumented_by(self.rt, self.alloc, m, self.pass)?;
         run_under(
@@ -48,6 +51,7 @@ impl<R: Threads + Sync, P: Pass, G: Gate + Sync> Job<'_, R, P, G> {
             has_threads(m),
             setup,
             schedule,
+            calls,
         )
     }
 }
@@ -115,14 +119,15 @@ impl<R: Threads + Sync, P: Pass, G: Gate + Sync, L: SiteLines> ModuleJob<'_, R, 
         requires limits { RunsWithinLimits options.now }
         requires input { length (only_input self.now.inputs.now) ≤ input_limit }
         ensures { IfOk result (λ a. a ≡ answer_of_result (L.lines self.now.lines.now) false self.now.m.now
-            (plain_under (is_threaded self.now.m.now) self.now.m.now (setup_with options.now (only_input self.now.inputs.now)) options.now.schedule)) }
+            (plain_told_under options.now.calls (is_threaded self.now.m.now) self.now.m.now (setup_with options.now (only_input self.now.inputs.now)) options.now.schedule)) }
     {
         self.m.law_valid();
         let alloc = self.job.alloc;
         let setup = setup_of(alloc, options, self.input())?;
         let schedule = options.schedule.as_slice();
-        let result = run_under(alloc, self.m, has_threads(self.m), &setup, schedule)?;
-        output_of_run(alloc, self.m.module(), result, false, self.lines)
+        let threads = has_threads(self.m);
+        let told = run_under(alloc, self.m, threads, &setup, schedule, options.calls)?;
+        output_of_run(alloc, self.m.module(), told, false, self.lines)
     }
 
     /// `check`: the run of the module that the pass gives.
@@ -130,33 +135,35 @@ impl<R: Threads + Sync, P: Pass, G: Gate + Sync, L: SiteLines> ModuleJob<'_, R, 
         requires plain { CanInstrument self.now.m.now }
         requires limits { RunsWithinLimits options.now }
         requires input { length (only_input self.now.inputs.now) ≤ input_limit }
-        ensures { IfOk result (λ a. IsAnswerOfCheck P.gives (L.lines self.now.lines.now) (setup_with options.now (only_input self.now.inputs.now)) options.now.schedule self.now.m.now a) }
+        ensures { IfOk result (λ a. IsAnswerOfCheck P.gives (L.lines self.now.lines.now) options.now.calls (setup_with options.now (only_input self.now.inputs.now)) options.now.schedule self.now.m.now a) }
     {
         self.m.law_valid();
         let alloc = self.job.alloc;
         let setup = setup_of(alloc, options, self.input())?;
-        let result = self.job.run(self.m, &setup, options.schedule.as_slice())?;
-        output_of_run(alloc, self.m.module(), result, true, self.lines)
+        let schedule = options.schedule.as_slice();
+        let told = self.job.run(self.m, &setup, schedule, options.calls)?;
+        output_of_run(alloc, self.m.module(), told, true, self.lines)
     }
 }
 
-/// The run of a module, with threads under a schedule.
-fn run_under(
+/// The run of a module, with threads under a schedule, and where they are wanted the calls at its reports.
+pub fn run_under(
     alloc: Global,
     m: &CheckedModule,
     threads: bool,
     setup: &Setup,
     schedule: &[u8],
-) -> Result<RunResult, NoMemory>
+    calls: bool,
+) -> Result<ToldRun, NoMemory>
     requires threads { threads ≡ is_threaded m.now }
     requires limits { WithinLimits setup.now }
     requires scheduled { IsSchedule schedule.now }
-    ensures { IfOk result (λ r. r ≡ plain_under threads m.now setup.now schedule.now) }
+    ensures { IfOk result (λ t. t ≡ plain_told_under calls threads m.now setup.now schedule.now) }
 {
     if threads {
-        run_threads(alloc, m, setup, schedule)
+        run_threads_told(alloc, m, setup, schedule, calls)
     } else {
-        run(alloc, m, setup)
+        run_told(alloc, m, setup, calls)
     }
 }
 
@@ -179,37 +186,60 @@ pub fn setup_of(alloc: Global, options: &Options, input: &[u8]) -> Result<Setup,
 fn output_of_run<L: SiteLines>(
     alloc: Global,
     m: &Module,
-    r: RunResult,
+    told: ToldRun,
     verdict: bool,
     lines: &L,
 ) -> Result<Output, NoMemory>
     requires { Formed m.now }
-    ensures { IfOk result (λ a. a ≡ answer_of_result (L.lines lines.now) verdict m.now r) }
+    ensures { IfOk result (λ a. a ≡ answer_of_result (L.lines lines.now) verdict m.now told) }
 {
-    let err = text_of_run(alloc, m, &r, verdict, lines)?;
+    let err = text_of_run(alloc, m, &told, verdict, lines)?;
+    let result = told.result;
     Ok(Output {
-        status: status_of(&r),
-        out: r.output,
+        status: status_of(&result),
+        out: result.output,
         err: Bytes::from_vec(err),
     })
 }
 
-/// The lines of a run's reports, and then the closing lines, with or without the verdict, and these lines under each that names a
-/// site.
+/// The lines of a run's reports, with those of their calls that are told, and then the closing lines, with or without the verdict,
+/// and these lines under each that names a site.
 pub fn text_of_run<L: SiteLines>(
     alloc: Global,
     m: &Module,
-    r: &RunResult,
+    told: &ToldRun,
     verdict: bool,
     lines: &L,
 ) -> Result<Vec<u8>, NoMemory>
     requires { Formed m.now }
-    ensures { IfOk result (λ text. text.items ≡ run_text (L.lines lines.now) verdict m.now r.now) }
+    ensures { IfOk result (λ text. text.items ≡ run_text (L.lines lines.now) verdict m.now told.now) }
 {
-    let mut text = report_text_with(alloc, m, r, lines)?;
-    let closing = closing_with(alloc, m, r, verdict, lines)?;
+    let r = &told.result;
+    let mut text = report_text_calling(alloc, m, r, told.calls.as_slice(), lines)?;
+    let closing = closing_of_run(alloc, m, told, verdict, lines)?;
     text.extend_from_slice(&closing)?;
     Ok(text)
+}
+
+/// The closing lines of a run, with those of the calls that are told where it ended.
+pub fn closing_of_run<L: SiteLines>(
+    alloc: Global,
+    m: &Module,
+    told: &ToldRun,
+    verdict: bool,
+    lines: &L,
+) -> Result<Vec<u8>, NoMemory>
+    requires { Formed m.now }
+    ensures { IfOk result (λ text. text.items ≡ closing_lines (L.lines lines.now) m.now told.now.result told.now.end_calls verdict) }
+{
+    closing_calling(
+        alloc,
+        m,
+        &told.result,
+        told.end_calls.as_ref(),
+        verdict,
+        lines,
+    )
 }
 
 /// The status that a run decides: 77 exactly where it has a report.

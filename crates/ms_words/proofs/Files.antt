@@ -78,83 +78,111 @@ settles rows file rest few =
 
 -- ---- the words of a corpus
 
-abbrev option_words : (workers fill steps reports : Word) → (locations : Option Word) → List Word
-option_words workers fill steps reports locations =
+abbrev option_words : (workers fill steps reports : Word) → (locations calls : Option Word) → List Word
+option_words workers fill steps reports locations calls =
     spelled_option option.Workers (Some workers) ++ (spelled_option option.Fill (Some fill) ++ (spelled_option option.Steps (Some steps)
-    ++ (spelled_option option.Reports (Some reports) ++ (spelled_option option.Where locations ++ []))))
+    ++ (spelled_option option.Reports (Some reports) ++ (spelled_option option.Where locations ++ (spelled_option option.Calls calls ++ [])))))
 
-abbrev pub corpus_form : (workers fill steps reports : Word) → (locations : Option Word) → List Word → List Word
-corpus_form workers fill steps reports locations files = codes "corpus" ∷ (option_words workers fill steps reports locations ++ codes "--" ∷ files)
+abbrev pub corpus_form : (workers fill steps reports : Word) → (locations calls : Option Word) → List Word → List Word
+corpus_form workers fill steps reports locations calls files = codes "corpus" ∷ (option_words workers fill steps reports locations calls ++ codes "--" ∷ files)
 
-abbrev option_rows : (b c d e : Word) → Option Word → List Row
-option_rows b c d e w = (walk rules [] nothing_held (option_words b c d e w)).held.rows
+abbrev option_rows : (b c d e : Word) → (w k : Option Word) → List Row
+option_rows b c d e w k = (walk rules [] nothing_held (option_words b c d e w k)).held.rows
 
 -- where the walk stands after the words of a corpus
-abbrev at_end : (b c d e : Word) → Option Word → (file : Word) → List Word → Walk
-at_end b c d e w file rest = after (option_rows b c d e w) (file ∷ rest)
+abbrev at_end : (b c d e : Word) → (w k : Option Word) → (file : Word) → List Word → Walk
+at_end b c d e w k file rest = after (option_rows b c d e w k) (file ∷ rest)
 
-rows_at_end : (b c d e : Word) (w : Option Word) (file : Word) (rest : List Word)
-    → matches_of (app_for Corpus) (corpus_form b c d e w (file ∷ rest)) ≡ finished rules (at_end b c d e w file rest).held
+rows_at_end : (b c d e : Word) (w k : Option Word) (file : Word) (rest : List Word)
+    → matches_of (app_for Corpus) (corpus_form b c d e w k (file ∷ rest)) ≡ finished rules (at_end b c d e w k file rest).held
 unfolding clap_on_literals
-rows_at_end b c d e None file rest = ap (λ (w : Walk). finished rules w.held) (all_files (option_rows b c d e None) (file ∷ []) rest)
-rows_at_end b c d e (Some v) file rest = ap (λ (w : Walk). finished rules w.held) (all_files (option_rows b c d e (Some v)) (file ∷ []) rest)
+rows_at_end b c d e None None file rest = ap (λ (w : Walk). finished rules w.held) (all_files (option_rows b c d e None None) (file ∷ []) rest)
+rows_at_end b c d e None (Some z) file rest = ap (λ (w : Walk). finished rules w.held) (all_files (option_rows b c d e None (Some z)) (file ∷ []) rest)
+rows_at_end b c d e (Some v) None file rest = ap (λ (w : Walk). finished rules w.held) (all_files (option_rows b c d e (Some v) None) (file ∷ []) rest)
+rows_at_end b c d e (Some v) (Some z) file rest = ap (λ (w : Walk). finished rules w.held) (all_files (option_rows b c d e (Some v) (Some z)) (file ∷ []) rest)
 
 abbrev passes_by : Bool → Walk → Bool
 passes_by passes end =
     is_simple (app_for Corpus) && (entered_passes app end.stopped && (passes && (settle_passes rules app.top.args_override_self end.held
     && (list_all default_passes rules && is_valid app.top (finished rules end.held) (is_some (entered app end.stopped))))))
 
-takes_by : (b c d e : Word) (w : Option Word) (file : Word) (rest : List Word) → takes_words (app_for Corpus) (corpus_form b c d e w (file ∷ rest))
-    ≡ passes_by (walk_passes app.top [] (at_end b c d e w file []) rest) (fold (walked rules []) (at_end b c d e w file []) rest)
+takes_by : (b c d e : Word) (w k : Option Word) (file : Word) (rest : List Word) → takes_words (app_for Corpus) (corpus_form b c d e w k (file ∷ rest))
+    ≡ passes_by (walk_passes app.top [] (at_end b c d e w k file []) rest) (fold (walked rules []) (at_end b c d e w k file []) rest)
 unfolding clap_on_literals
-takes_by b c d e None file rest = refl
-takes_by b c d e (Some v) file rest = refl
+takes_by b c d e None None file rest = refl
+takes_by b c d e None (Some z) file rest = refl
+takes_by b c d e (Some v) None file rest = refl
+takes_by b c d e (Some v) (Some z) file rest = refl
 
-end_passes : (b c d e : Word) (w : Option Word) (file : Word) (rest : List Word) → length rest ≤ 256 → passes_by true (at_end b c d e w file rest) ≡ true
+end_passes : (b c d e : Word) (w k : Option Word) (file : Word) (rest : List Word) → length rest ≤ 256 → passes_by true (at_end b c d e w k file rest) ≡ true
 unfolding clap_on_literals
-end_passes b c d e None file rest few = ap (λ (b : Bool). b && true) (settles (option_rows b c d e None) file rest few)
-end_passes b c d e (Some v) file rest few = ap (λ (b : Bool). b && true) (settles (option_rows b c d e (Some v)) file rest few)
+end_passes b c d e None None file rest few = ap (λ (b : Bool). b && true) (settles (option_rows b c d e None None) file rest few)
+end_passes b c d e None (Some z) file rest few = ap (λ (b : Bool). b && true) (settles (option_rows b c d e None (Some z)) file rest few)
+end_passes b c d e (Some v) None file rest few = ap (λ (b : Bool). b && true) (settles (option_rows b c d e (Some v) None) file rest few)
+end_passes b c d e (Some v) (Some z) file rest few = ap (λ (b : Bool). b && true) (settles (option_rows b c d e (Some v) (Some z)) file rest few)
 
 -- the command of `clap` takes the words of a corpus
-pub corpus_takes : (b c d e : Word) (w : Option Word) (file : Word) (rest : List Word) → length rest ≤ 256 → takes_words (app_for Corpus) (corpus_form b c d e w (file ∷ rest)) ≡ true
-corpus_takes b c d e w file rest few =
-    takes_by b c d e w file rest
-    ∙ ap₂ passes_by (all_pass (option_rows b c d e w) (file ∷ []) rest) (all_files (option_rows b c d e w) (file ∷ []) rest)
-    ∙ end_passes b c d e w file rest few
+pub corpus_takes : (b c d e : Word) (w k : Option Word) (file : Word) (rest : List Word) → length rest ≤ 256 → takes_words (app_for Corpus) (corpus_form b c d e w k (file ∷ rest)) ≡ true
+corpus_takes b c d e w k file rest few =
+    takes_by b c d e w k file rest
+    ∙ ap₂ passes_by (all_pass (option_rows b c d e w k) (file ∷ []) rest) (all_files (option_rows b c d e w k) (file ∷ []) rest)
+    ∙ end_passes b c d e w k file rest few
 
 -- and finds their values
-pub corpus_workers : (b c d e : Word) (w : Option Word) (file : Word) (rest : List Word) → first_of (codes "workers") (matches_of (app_for Corpus) (corpus_form b c d e w (file ∷ rest))) ≡ Some b
+pub corpus_workers : (b c d e : Word) (w k : Option Word) (file : Word) (rest : List Word) → first_of (codes "workers") (matches_of (app_for Corpus) (corpus_form b c d e w k (file ∷ rest))) ≡ Some b
 unfolding clap_on_literals
-corpus_workers b c d e None file rest = ap (first_of (codes "workers")) (rows_at_end b c d e None file rest)
-corpus_workers b c d e (Some v) file rest = ap (first_of (codes "workers")) (rows_at_end b c d e (Some v) file rest)
+corpus_workers b c d e None None file rest = ap (first_of (codes "workers")) (rows_at_end b c d e None None file rest)
+corpus_workers b c d e None (Some z) file rest = ap (first_of (codes "workers")) (rows_at_end b c d e None (Some z) file rest)
+corpus_workers b c d e (Some v) None file rest = ap (first_of (codes "workers")) (rows_at_end b c d e (Some v) None file rest)
+corpus_workers b c d e (Some v) (Some z) file rest = ap (first_of (codes "workers")) (rows_at_end b c d e (Some v) (Some z) file rest)
 
-pub corpus_fill : (b c d e : Word) (w : Option Word) (file : Word) (rest : List Word) → first_of (codes "fill") (matches_of (app_for Corpus) (corpus_form b c d e w (file ∷ rest))) ≡ Some c
+pub corpus_fill : (b c d e : Word) (w k : Option Word) (file : Word) (rest : List Word) → first_of (codes "fill") (matches_of (app_for Corpus) (corpus_form b c d e w k (file ∷ rest))) ≡ Some c
 unfolding clap_on_literals
-corpus_fill b c d e None file rest = ap (first_of (codes "fill")) (rows_at_end b c d e None file rest)
-corpus_fill b c d e (Some v) file rest = ap (first_of (codes "fill")) (rows_at_end b c d e (Some v) file rest)
+corpus_fill b c d e None None file rest = ap (first_of (codes "fill")) (rows_at_end b c d e None None file rest)
+corpus_fill b c d e None (Some z) file rest = ap (first_of (codes "fill")) (rows_at_end b c d e None (Some z) file rest)
+corpus_fill b c d e (Some v) None file rest = ap (first_of (codes "fill")) (rows_at_end b c d e (Some v) None file rest)
+corpus_fill b c d e (Some v) (Some z) file rest = ap (first_of (codes "fill")) (rows_at_end b c d e (Some v) (Some z) file rest)
 
-pub corpus_steps : (b c d e : Word) (w : Option Word) (file : Word) (rest : List Word) → first_of (codes "steps") (matches_of (app_for Corpus) (corpus_form b c d e w (file ∷ rest))) ≡ Some d
+pub corpus_steps : (b c d e : Word) (w k : Option Word) (file : Word) (rest : List Word) → first_of (codes "steps") (matches_of (app_for Corpus) (corpus_form b c d e w k (file ∷ rest))) ≡ Some d
 unfolding clap_on_literals
-corpus_steps b c d e None file rest = ap (first_of (codes "steps")) (rows_at_end b c d e None file rest)
-corpus_steps b c d e (Some v) file rest = ap (first_of (codes "steps")) (rows_at_end b c d e (Some v) file rest)
+corpus_steps b c d e None None file rest = ap (first_of (codes "steps")) (rows_at_end b c d e None None file rest)
+corpus_steps b c d e None (Some z) file rest = ap (first_of (codes "steps")) (rows_at_end b c d e None (Some z) file rest)
+corpus_steps b c d e (Some v) None file rest = ap (first_of (codes "steps")) (rows_at_end b c d e (Some v) None file rest)
+corpus_steps b c d e (Some v) (Some z) file rest = ap (first_of (codes "steps")) (rows_at_end b c d e (Some v) (Some z) file rest)
 
-pub corpus_reports : (b c d e : Word) (w : Option Word) (file : Word) (rest : List Word) → first_of (codes "reports") (matches_of (app_for Corpus) (corpus_form b c d e w (file ∷ rest))) ≡ Some e
+pub corpus_reports : (b c d e : Word) (w k : Option Word) (file : Word) (rest : List Word) → first_of (codes "reports") (matches_of (app_for Corpus) (corpus_form b c d e w k (file ∷ rest))) ≡ Some e
 unfolding clap_on_literals
-corpus_reports b c d e None file rest = ap (first_of (codes "reports")) (rows_at_end b c d e None file rest)
-corpus_reports b c d e (Some v) file rest = ap (first_of (codes "reports")) (rows_at_end b c d e (Some v) file rest)
+corpus_reports b c d e None None file rest = ap (first_of (codes "reports")) (rows_at_end b c d e None None file rest)
+corpus_reports b c d e None (Some z) file rest = ap (first_of (codes "reports")) (rows_at_end b c d e None (Some z) file rest)
+corpus_reports b c d e (Some v) None file rest = ap (first_of (codes "reports")) (rows_at_end b c d e (Some v) None file rest)
+corpus_reports b c d e (Some v) (Some z) file rest = ap (first_of (codes "reports")) (rows_at_end b c d e (Some v) (Some z) file rest)
 
-pub corpus_locations : (b c d e : Word) (w : Option Word) (file : Word) (rest : List Word)
-    → is_some (found_by Nothing (first_of (codes "where") (matches_of (app_for Corpus) (corpus_form b c d e w (file ∷ rest))))) ≡ is_some w
+pub corpus_locations : (b c d e : Word) (w k : Option Word) (file : Word) (rest : List Word)
+    → is_some (found_by Nothing (first_of (codes "where") (matches_of (app_for Corpus) (corpus_form b c d e w k (file ∷ rest))))) ≡ is_some w
 unfolding clap_on_literals
-corpus_locations b c d e None file rest = ap (λ rows. is_some (found_by Nothing (first_of (codes "where") rows))) (rows_at_end b c d e None file rest)
-corpus_locations b c d e (Some v) file rest = ap (λ rows. is_some (found_by Nothing (first_of (codes "where") rows))) (rows_at_end b c d e (Some v) file rest)
+corpus_locations b c d e None None file rest = ap (λ rows. is_some (found_by Nothing (first_of (codes "where") rows))) (rows_at_end b c d e None None file rest)
+corpus_locations b c d e None (Some z) file rest = ap (λ rows. is_some (found_by Nothing (first_of (codes "where") rows))) (rows_at_end b c d e None (Some z) file rest)
+corpus_locations b c d e (Some v) None file rest = ap (λ rows. is_some (found_by Nothing (first_of (codes "where") rows))) (rows_at_end b c d e (Some v) None file rest)
+corpus_locations b c d e (Some v) (Some z) file rest = ap (λ rows. is_some (found_by Nothing (first_of (codes "where") rows))) (rows_at_end b c d e (Some v) (Some z) file rest)
 
-pub corpus_file : (b c d e : Word) (w : Option Word) (file : Word) (rest : List Word) → first_of (codes "files") (matches_of (app_for Corpus) (corpus_form b c d e w (file ∷ rest))) ≡ Some file
+pub corpus_calls : (b c d e : Word) (w k : Option Word) (file : Word) (rest : List Word)
+    → is_some (found_by Nothing (first_of (codes "calls") (matches_of (app_for Corpus) (corpus_form b c d e w k (file ∷ rest))))) ≡ is_some k
 unfolding clap_on_literals
-corpus_file b c d e None file rest = ap (first_of (codes "files")) (rows_at_end b c d e None file rest)
-corpus_file b c d e (Some v) file rest = ap (first_of (codes "files")) (rows_at_end b c d e (Some v) file rest)
+corpus_calls b c d e None None file rest = ap (λ rows. is_some (found_by Nothing (first_of (codes "calls") rows))) (rows_at_end b c d e None None file rest)
+corpus_calls b c d e None (Some z) file rest = ap (λ rows. is_some (found_by Nothing (first_of (codes "calls") rows))) (rows_at_end b c d e None (Some z) file rest)
+corpus_calls b c d e (Some v) None file rest = ap (λ rows. is_some (found_by Nothing (first_of (codes "calls") rows))) (rows_at_end b c d e (Some v) None file rest)
+corpus_calls b c d e (Some v) (Some z) file rest = ap (λ rows. is_some (found_by Nothing (first_of (codes "calls") rows))) (rows_at_end b c d e (Some v) (Some z) file rest)
 
-pub corpus_files : (b c d e : Word) (w : Option Word) (file : Word) (rest : List Word) → all_of (codes "files") (matches_of (app_for Corpus) (corpus_form b c d e w (file ∷ rest))) ≡ Some (file ∷ rest)
+pub corpus_file : (b c d e : Word) (w k : Option Word) (file : Word) (rest : List Word) → first_of (codes "files") (matches_of (app_for Corpus) (corpus_form b c d e w k (file ∷ rest))) ≡ Some file
 unfolding clap_on_literals
-corpus_files b c d e None file rest = ap (all_of (codes "files")) (rows_at_end b c d e None file rest)
-corpus_files b c d e (Some v) file rest = ap (all_of (codes "files")) (rows_at_end b c d e (Some v) file rest)
+corpus_file b c d e None None file rest = ap (first_of (codes "files")) (rows_at_end b c d e None None file rest)
+corpus_file b c d e None (Some z) file rest = ap (first_of (codes "files")) (rows_at_end b c d e None (Some z) file rest)
+corpus_file b c d e (Some v) None file rest = ap (first_of (codes "files")) (rows_at_end b c d e (Some v) None file rest)
+corpus_file b c d e (Some v) (Some z) file rest = ap (first_of (codes "files")) (rows_at_end b c d e (Some v) (Some z) file rest)
+
+pub corpus_files : (b c d e : Word) (w k : Option Word) (file : Word) (rest : List Word) → all_of (codes "files") (matches_of (app_for Corpus) (corpus_form b c d e w k (file ∷ rest))) ≡ Some (file ∷ rest)
+unfolding clap_on_literals
+corpus_files b c d e None None file rest = ap (all_of (codes "files")) (rows_at_end b c d e None None file rest)
+corpus_files b c d e None (Some z) file rest = ap (all_of (codes "files")) (rows_at_end b c d e None (Some z) file rest)
+corpus_files b c d e (Some v) None file rest = ap (all_of (codes "files")) (rows_at_end b c d e (Some v) None file rest)
+corpus_files b c d e (Some v) (Some z) file rest = ap (all_of (codes "files")) (rows_at_end b c d e (Some v) (Some z) file rest)

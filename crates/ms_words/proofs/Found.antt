@@ -19,7 +19,7 @@ use Rattle.ms_words.specs.Words.{value_of, number_by, options_by, explain_option
 use Rattle.ms_words.specs.ClapForm.{app_for, files_rule, with_options, spelled, spelled_option, spelled_options}
 use Rattle.ms_words.specs.Fields.{Fits, FitsRun, FitsScheduled, FitsCheck, FitsCorpus, found_value, found_file, found_inputs, found_by}
 use Rattle.ms_words.specs.Accepted.{Whole}
-use Rattle.ms_words.proofs.Files.{corpus_form, corpus_takes, corpus_workers, corpus_fill, corpus_steps, corpus_reports, corpus_locations, corpus_file, corpus_files}
+use Rattle.ms_words.proofs.Files.{corpus_form, corpus_takes, corpus_workers, corpus_fill, corpus_steps, corpus_reports, corpus_locations, corpus_calls, corpus_file, corpus_files}
 use Rattle.ms_words.proofs.GoodValues.{IsGood, good_value, hex_good, number_good}
 
 -- ---- the command that runs a module, by its words' form
@@ -27,106 +27,160 @@ use Rattle.ms_words.proofs.GoodValues.{IsGood, good_value, hex_good, number_good
 abbrev run_app : Word → App
 run_app word = with_rule (with_options (new_app word) (options_of Run)) files_rule
 
-abbrev run_form : Word → Option Word → (fill steps reports schedule : Word) → Option Word → (file : Word) → List Word
-run_form word input fill steps reports schedule locations file =
+abbrev run_form : Word → Option Word → (fill steps reports schedule : Word) → (locations calls : Option Word) → (file : Word) → List Word
+run_form word input fill steps reports schedule locations calls file =
     word ∷ ((spelled_option option.Input input ++ (spelled_option option.Fill (Some fill) ++ (spelled_option option.Steps (Some steps)
-    ++ (spelled_option option.Reports (Some reports) ++ (spelled_option option.Schedule (Some schedule) ++ (spelled_option option.Where locations ++ [])))))) ++ codes "--" ∷ file ∷ [])
+    ++ (spelled_option option.Reports (Some reports) ++ (spelled_option option.Schedule (Some schedule) ++ (spelled_option option.Where locations
+    ++ (spelled_option option.Calls calls ++ []))))))) ++ codes "--" ∷ file ∷ [])
 
-run_takes : (word : Word) (a : Option Word) (b c d s : Word) (e : Option Word) (f : Word) → takes_words (run_app word) (run_form word a b c d s e f) ≡ true
+run_takes : (word : Word) (a : Option Word) (b c d s : Word) (e k : Option Word) (f : Word) → takes_words (run_app word) (run_form word a b c d s e k f) ≡ true
 unfolding clap_on_literals
-run_takes word None b c d s None f = refl
-run_takes word None b c d s (Some e) f = refl
-run_takes word (Some a) b c d s None f = refl
-run_takes word (Some a) b c d s (Some e) f = refl
+run_takes word None b c d s None None f = refl
+run_takes word None b c d s None (Some k) f = refl
+run_takes word None b c d s (Some e) None f = refl
+run_takes word None b c d s (Some e) (Some k) f = refl
+run_takes word (Some a) b c d s None None f = refl
+run_takes word (Some a) b c d s None (Some k) f = refl
+run_takes word (Some a) b c d s (Some e) None f = refl
+run_takes word (Some a) b c d s (Some e) (Some k) f = refl
 
-run_input : (word : Word) (a : Option Word) (b c d s : Word) (e : Option Word) (f : Word) → first_of (codes "input") (matches_of (run_app word) (run_form word a b c d s e f)) ≡ a
+run_input : (word : Word) (a : Option Word) (b c d s : Word) (e k : Option Word) (f : Word) → first_of (codes "input") (matches_of (run_app word) (run_form word a b c d s e k f)) ≡ a
 unfolding clap_on_literals
-run_input word None b c d s None f = refl
-run_input word None b c d s (Some e) f = refl
-run_input word (Some a) b c d s None f = refl
-run_input word (Some a) b c d s (Some e) f = refl
+run_input word None b c d s None None f = refl
+run_input word None b c d s None (Some k) f = refl
+run_input word None b c d s (Some e) None f = refl
+run_input word None b c d s (Some e) (Some k) f = refl
+run_input word (Some a) b c d s None None f = refl
+run_input word (Some a) b c d s None (Some k) f = refl
+run_input word (Some a) b c d s (Some e) None f = refl
+run_input word (Some a) b c d s (Some e) (Some k) f = refl
 
-run_fill : (word : Word) (a : Option Word) (b c d s : Word) (e : Option Word) (f : Word) → first_of (codes "fill") (matches_of (run_app word) (run_form word a b c d s e f)) ≡ Some b
+run_fill : (word : Word) (a : Option Word) (b c d s : Word) (e k : Option Word) (f : Word) → first_of (codes "fill") (matches_of (run_app word) (run_form word a b c d s e k f)) ≡ Some b
 unfolding clap_on_literals
-run_fill word None b c d s None f = refl
-run_fill word None b c d s (Some e) f = refl
-run_fill word (Some a) b c d s None f = refl
-run_fill word (Some a) b c d s (Some e) f = refl
+run_fill word None b c d s None None f = refl
+run_fill word None b c d s None (Some k) f = refl
+run_fill word None b c d s (Some e) None f = refl
+run_fill word None b c d s (Some e) (Some k) f = refl
+run_fill word (Some a) b c d s None None f = refl
+run_fill word (Some a) b c d s None (Some k) f = refl
+run_fill word (Some a) b c d s (Some e) None f = refl
+run_fill word (Some a) b c d s (Some e) (Some k) f = refl
 
-run_steps : (word : Word) (a : Option Word) (b c d s : Word) (e : Option Word) (f : Word) → first_of (codes "steps") (matches_of (run_app word) (run_form word a b c d s e f)) ≡ Some c
+run_steps : (word : Word) (a : Option Word) (b c d s : Word) (e k : Option Word) (f : Word) → first_of (codes "steps") (matches_of (run_app word) (run_form word a b c d s e k f)) ≡ Some c
 unfolding clap_on_literals
-run_steps word None b c d s None f = refl
-run_steps word None b c d s (Some e) f = refl
-run_steps word (Some a) b c d s None f = refl
-run_steps word (Some a) b c d s (Some e) f = refl
+run_steps word None b c d s None None f = refl
+run_steps word None b c d s None (Some k) f = refl
+run_steps word None b c d s (Some e) None f = refl
+run_steps word None b c d s (Some e) (Some k) f = refl
+run_steps word (Some a) b c d s None None f = refl
+run_steps word (Some a) b c d s None (Some k) f = refl
+run_steps word (Some a) b c d s (Some e) None f = refl
+run_steps word (Some a) b c d s (Some e) (Some k) f = refl
 
-run_reports : (word : Word) (a : Option Word) (b c d s : Word) (e : Option Word) (f : Word) → first_of (codes "reports") (matches_of (run_app word) (run_form word a b c d s e f)) ≡ Some d
+run_reports : (word : Word) (a : Option Word) (b c d s : Word) (e k : Option Word) (f : Word) → first_of (codes "reports") (matches_of (run_app word) (run_form word a b c d s e k f)) ≡ Some d
 unfolding clap_on_literals
-run_reports word None b c d s None f = refl
-run_reports word None b c d s (Some e) f = refl
-run_reports word (Some a) b c d s None f = refl
-run_reports word (Some a) b c d s (Some e) f = refl
+run_reports word None b c d s None None f = refl
+run_reports word None b c d s None (Some k) f = refl
+run_reports word None b c d s (Some e) None f = refl
+run_reports word None b c d s (Some e) (Some k) f = refl
+run_reports word (Some a) b c d s None None f = refl
+run_reports word (Some a) b c d s None (Some k) f = refl
+run_reports word (Some a) b c d s (Some e) None f = refl
+run_reports word (Some a) b c d s (Some e) (Some k) f = refl
 
-run_schedule : (word : Word) (a : Option Word) (b c d s : Word) (e : Option Word) (f : Word) → first_of (codes "schedule") (matches_of (run_app word) (run_form word a b c d s e f)) ≡ Some s
+run_schedule : (word : Word) (a : Option Word) (b c d s : Word) (e k : Option Word) (f : Word) → first_of (codes "schedule") (matches_of (run_app word) (run_form word a b c d s e k f)) ≡ Some s
 unfolding clap_on_literals
-run_schedule word None b c d s None f = refl
-run_schedule word None b c d s (Some e) f = refl
-run_schedule word (Some a) b c d s None f = refl
-run_schedule word (Some a) b c d s (Some e) f = refl
+run_schedule word None b c d s None None f = refl
+run_schedule word None b c d s None (Some k) f = refl
+run_schedule word None b c d s (Some e) None f = refl
+run_schedule word None b c d s (Some e) (Some k) f = refl
+run_schedule word (Some a) b c d s None None f = refl
+run_schedule word (Some a) b c d s None (Some k) f = refl
+run_schedule word (Some a) b c d s (Some e) None f = refl
+run_schedule word (Some a) b c d s (Some e) (Some k) f = refl
 
-run_file : (word : Word) (a : Option Word) (b c d s : Word) (e : Option Word) (f : Word) → first_of (codes "files") (matches_of (run_app word) (run_form word a b c d s e f)) ≡ Some f
+run_file : (word : Word) (a : Option Word) (b c d s : Word) (e k : Option Word) (f : Word) → first_of (codes "files") (matches_of (run_app word) (run_form word a b c d s e k f)) ≡ Some f
 unfolding clap_on_literals
-run_file word None b c d s None f = refl
-run_file word None b c d s (Some e) f = refl
-run_file word (Some a) b c d s None f = refl
-run_file word (Some a) b c d s (Some e) f = refl
+run_file word None b c d s None None f = refl
+run_file word None b c d s None (Some k) f = refl
+run_file word None b c d s (Some e) None f = refl
+run_file word None b c d s (Some e) (Some k) f = refl
+run_file word (Some a) b c d s None None f = refl
+run_file word (Some a) b c d s None (Some k) f = refl
+run_file word (Some a) b c d s (Some e) None f = refl
+run_file word (Some a) b c d s (Some e) (Some k) f = refl
 
-run_locations : (word : Word) (a : Option Word) (b c d s : Word) (e : Option Word) (f : Word)
-    → is_some (found_by Nothing (first_of (codes "where") (matches_of (run_app word) (run_form word a b c d s e f)))) ≡ is_some e
+run_locations : (word : Word) (a : Option Word) (b c d s : Word) (e k : Option Word) (f : Word)
+    → is_some (found_by Nothing (first_of (codes "where") (matches_of (run_app word) (run_form word a b c d s e k f)))) ≡ is_some e
 unfolding clap_on_literals
-run_locations word None b c d s None f = refl
-run_locations word None b c d s (Some e) f = refl
-run_locations word (Some a) b c d s None f = refl
-run_locations word (Some a) b c d s (Some e) f = refl
+run_locations word None b c d s None None f = refl
+run_locations word None b c d s None (Some k) f = refl
+run_locations word None b c d s (Some e) None f = refl
+run_locations word None b c d s (Some e) (Some k) f = refl
+run_locations word (Some a) b c d s None None f = refl
+run_locations word (Some a) b c d s None (Some k) f = refl
+run_locations word (Some a) b c d s (Some e) None f = refl
+run_locations word (Some a) b c d s (Some e) (Some k) f = refl
+
+run_calls : (word : Word) (a : Option Word) (b c d s : Word) (e k : Option Word) (f : Word)
+    → is_some (found_by Nothing (first_of (codes "calls") (matches_of (run_app word) (run_form word a b c d s e k f)))) ≡ is_some k
+unfolding clap_on_literals
+run_calls word None b c d s None None f = refl
+run_calls word None b c d s None (Some k) f = refl
+run_calls word None b c d s (Some e) None f = refl
+run_calls word None b c d s (Some e) (Some k) f = refl
+run_calls word (Some a) b c d s None None f = refl
+run_calls word (Some a) b c d s None (Some k) f = refl
+run_calls word (Some a) b c d s (Some e) None f = refl
+run_calls word (Some a) b c d s (Some e) (Some k) f = refl
 
 at : (f : Found) (id : Word) (rows : List Row) → rows_of f ≡ rows → first_value f id ≡ first_of id rows
 at f id rows are = first_value-rows f id ∙ ap (first_of id) are
 
-run_fields : (word : Word) (a : Option Word) (b c d s : Word) (e : Option Word) (file : Word) (f : Found) → rows_of f ≡ matches_of (run_app word) (run_form word a b c d s e file)
-    → (options_by (found_value f) ≡ record { input = a; fill = hex_bytes b; steps = number c; reports = number d; schedule = hex_bytes s; locations = is_some e })
+run_fields : (word : Word) (a : Option Word) (b c d s : Word) (e k : Option Word) (file : Word) (f : Found) → rows_of f ≡ matches_of (run_app word) (run_form word a b c d s e k file)
+    → (options_by (found_value f) ≡ record { input = a; fill = hex_bytes b; steps = number c; reports = number d; schedule = hex_bytes s; locations = is_some e; calls = is_some k })
     × (found_file f ≡ file)
-run_fields word a b c d s e file f are =
-    let input = at f (codes "input") _ are ∙ run_input word a b c d s e file in
-    let fill = at f (codes "fill") _ are ∙ run_fill word a b c d s e file in
-    let steps = at f (codes "steps") _ are ∙ run_steps word a b c d s e file in
-    let reports = at f (codes "reports") _ are ∙ run_reports word a b c d s e file in
-    let schedule = at f (codes "schedule") _ are ∙ run_schedule word a b c d s e file in
-    let locations = ap (λ (v : Option Word). is_some (found_by Nothing v)) (at f (codes "where") _ are) ∙ run_locations word a b c d s e file in
-    let files = at f (codes "files") _ are ∙ run_file word a b c d s e file in (
-      rw (input, fill, steps, reports, schedule, locations) refl,
+run_fields word a b c d s e k file f are =
+    let input = at f (codes "input") _ are ∙ run_input word a b c d s e k file in
+    let fill = at f (codes "fill") _ are ∙ run_fill word a b c d s e k file in
+    let steps = at f (codes "steps") _ are ∙ run_steps word a b c d s e k file in
+    let reports = at f (codes "reports") _ are ∙ run_reports word a b c d s e k file in
+    let schedule = at f (codes "schedule") _ are ∙ run_schedule word a b c d s e k file in
+    let locations = ap (λ (v : Option Word). is_some (found_by Nothing v)) (at f (codes "where") _ are) ∙ run_locations word a b c d s e k file in
+    let calls = ap (λ (v : Option Word). is_some (found_by Nothing v)) (at f (codes "calls") _ are) ∙ run_calls word a b c d s e k file in
+    let files = at f (codes "files") _ are ∙ run_file word a b c d s e k file in (
+      rw (input, fill, steps, reports, schedule, locations, calls) refl,
       rw files refl,
     )
 
 -- ---- the command that checks a module, by its words' form
 
-abbrev check_form : Option Word → (fill steps reports schedule : Word) → (schedules : Option Word) → (workers : Word) → (locations : Option Word) → (file : Word) → List Word
-check_form input fill steps reports schedule schedules workers locations file =
+abbrev check_form : Option Word → (fill steps reports schedule : Word) → (schedules : Option Word) → (workers : Word) → (locations calls : Option Word) → (file : Word) → List Word
+check_form input fill steps reports schedule schedules workers locations calls file =
     codes "check" ∷ ((spelled_option option.Input input ++ (spelled_option option.Fill (Some fill) ++ (spelled_option option.Steps (Some steps)
     ++ (spelled_option option.Reports (Some reports) ++ (spelled_option option.Schedule (Some schedule) ++ (spelled_option option.Schedules schedules
-    ++ (spelled_option option.Workers (Some workers) ++ (spelled_option option.Where locations ++ [])))))))) ++ codes "--" ∷ file ∷ [])
+    ++ (spelled_option option.Workers (Some workers) ++ (spelled_option option.Where locations ++ (spelled_option option.Calls calls ++ []))))))))) ++ codes "--" ∷ file ∷ [])
 
-check_takes : (a : Option Word) (b c d s : Word) (n : Option Word) (w : Word) (e : Option Word) (file : Word) → takes_words (app_for Check) (check_form a b c d s n w e file) ≡ true
+check_takes : (a : Option Word) (b c d s : Word) (n : Option Word) (w : Word) (e k : Option Word) (file : Word) → takes_words (app_for Check) (check_form a b c d s n w e k file) ≡ true
 unfolding clap_on_literals
-check_takes None b c d s None w None file = refl
-check_takes None b c d s None w (Some e) file = refl
-check_takes None b c d s (Some n) w None file = refl
-check_takes None b c d s (Some n) w (Some e) file = refl
-check_takes (Some a) b c d s None w None file = refl
-check_takes (Some a) b c d s None w (Some e) file = refl
-check_takes (Some a) b c d s (Some n) w None file = refl
-check_takes (Some a) b c d s (Some n) w (Some e) file = refl
+check_takes None b c d s None w None None file = refl
+check_takes None b c d s None w None (Some k) file = refl
+check_takes None b c d s None w (Some e) None file = refl
+check_takes None b c d s None w (Some e) (Some k) file = refl
+check_takes None b c d s (Some n) w None None file = refl
+check_takes None b c d s (Some n) w None (Some k) file = refl
+check_takes None b c d s (Some n) w (Some e) None file = refl
+check_takes None b c d s (Some n) w (Some e) (Some k) file = refl
+check_takes (Some a) b c d s None w None None file = refl
+check_takes (Some a) b c d s None w None (Some k) file = refl
+check_takes (Some a) b c d s None w (Some e) None file = refl
+check_takes (Some a) b c d s None w (Some e) (Some k) file = refl
+check_takes (Some a) b c d s (Some n) w None None file = refl
+check_takes (Some a) b c d s (Some n) w None (Some k) file = refl
+check_takes (Some a) b c d s (Some n) w (Some e) None file = refl
+check_takes (Some a) b c d s (Some n) w (Some e) (Some k) file = refl
 
-pub record CheckFound (a : Option Word) (b c d s : Word) (n : Option Word) (w : Word) (e : Option Word) (file : Word) (rows : List Row) : Type 0 where
+pub record CheckFound (a : Option Word) (b c d s : Word) (n : Option Word) (w : Word) (e k : Option Word) (file : Word) (rows : List Row) : Type 0 where
   pub input : first_of (codes "input") rows ≡ a
   pub fill : first_of (codes "fill") rows ≡ Some b
   pub steps : first_of (codes "steps") rows ≡ Some c
@@ -135,25 +189,34 @@ pub record CheckFound (a : Option Word) (b c d s : Word) (n : Option Word) (w : 
   pub schedules : first_of (codes "schedules") rows ≡ n
   pub workers : first_of (codes "workers") rows ≡ Some w
   pub locations : is_some (found_by Nothing (first_of (codes "where") rows)) ≡ is_some e
+  pub calls : is_some (found_by Nothing (first_of (codes "calls") rows)) ≡ is_some k
   pub files : first_of (codes "files") rows ≡ Some file
 
-check_found : (a : Option Word) (b c d s : Word) (n : Option Word) (w : Word) (e : Option Word) (file : Word)
-    → CheckFound a b c d s n w e file (matches_of (app_for Check) (check_form a b c d s n w e file))
+check_found : (a : Option Word) (b c d s : Word) (n : Option Word) (w : Word) (e k : Option Word) (file : Word)
+    → CheckFound a b c d s n w e k file (matches_of (app_for Check) (check_form a b c d s n w e k file))
 unfolding clap_on_literals
-check_found None b c d s None w None file = record { input = refl; fill = refl; steps = refl; reports = refl; schedule = refl; schedules = refl; workers = refl; locations = refl; files = refl }
-check_found None b c d s None w (Some e) file = record { input = refl; fill = refl; steps = refl; reports = refl; schedule = refl; schedules = refl; workers = refl; locations = refl; files = refl }
-check_found None b c d s (Some n) w None file = record { input = refl; fill = refl; steps = refl; reports = refl; schedule = refl; schedules = refl; workers = refl; locations = refl; files = refl }
-check_found None b c d s (Some n) w (Some e) file = record { input = refl; fill = refl; steps = refl; reports = refl; schedule = refl; schedules = refl; workers = refl; locations = refl; files = refl }
-check_found (Some a) b c d s None w None file = record { input = refl; fill = refl; steps = refl; reports = refl; schedule = refl; schedules = refl; workers = refl; locations = refl; files = refl }
-check_found (Some a) b c d s None w (Some e) file = record { input = refl; fill = refl; steps = refl; reports = refl; schedule = refl; schedules = refl; workers = refl; locations = refl; files = refl }
-check_found (Some a) b c d s (Some n) w None file = record { input = refl; fill = refl; steps = refl; reports = refl; schedule = refl; schedules = refl; workers = refl; locations = refl; files = refl }
-check_found (Some a) b c d s (Some n) w (Some e) file = record { input = refl; fill = refl; steps = refl; reports = refl; schedule = refl; schedules = refl; workers = refl; locations = refl; files = refl }
+check_found None b c d s None w None None file = record { input = refl; fill = refl; steps = refl; reports = refl; schedule = refl; schedules = refl; workers = refl; locations = refl; calls = refl; files = refl }
+check_found None b c d s None w None (Some k) file = record { input = refl; fill = refl; steps = refl; reports = refl; schedule = refl; schedules = refl; workers = refl; locations = refl; calls = refl; files = refl }
+check_found None b c d s None w (Some e) None file = record { input = refl; fill = refl; steps = refl; reports = refl; schedule = refl; schedules = refl; workers = refl; locations = refl; calls = refl; files = refl }
+check_found None b c d s None w (Some e) (Some k) file = record { input = refl; fill = refl; steps = refl; reports = refl; schedule = refl; schedules = refl; workers = refl; locations = refl; calls = refl; files = refl }
+check_found None b c d s (Some n) w None None file = record { input = refl; fill = refl; steps = refl; reports = refl; schedule = refl; schedules = refl; workers = refl; locations = refl; calls = refl; files = refl }
+check_found None b c d s (Some n) w None (Some k) file = record { input = refl; fill = refl; steps = refl; reports = refl; schedule = refl; schedules = refl; workers = refl; locations = refl; calls = refl; files = refl }
+check_found None b c d s (Some n) w (Some e) None file = record { input = refl; fill = refl; steps = refl; reports = refl; schedule = refl; schedules = refl; workers = refl; locations = refl; calls = refl; files = refl }
+check_found None b c d s (Some n) w (Some e) (Some k) file = record { input = refl; fill = refl; steps = refl; reports = refl; schedule = refl; schedules = refl; workers = refl; locations = refl; calls = refl; files = refl }
+check_found (Some a) b c d s None w None None file = record { input = refl; fill = refl; steps = refl; reports = refl; schedule = refl; schedules = refl; workers = refl; locations = refl; calls = refl; files = refl }
+check_found (Some a) b c d s None w None (Some k) file = record { input = refl; fill = refl; steps = refl; reports = refl; schedule = refl; schedules = refl; workers = refl; locations = refl; calls = refl; files = refl }
+check_found (Some a) b c d s None w (Some e) None file = record { input = refl; fill = refl; steps = refl; reports = refl; schedule = refl; schedules = refl; workers = refl; locations = refl; calls = refl; files = refl }
+check_found (Some a) b c d s None w (Some e) (Some k) file = record { input = refl; fill = refl; steps = refl; reports = refl; schedule = refl; schedules = refl; workers = refl; locations = refl; calls = refl; files = refl }
+check_found (Some a) b c d s (Some n) w None None file = record { input = refl; fill = refl; steps = refl; reports = refl; schedule = refl; schedules = refl; workers = refl; locations = refl; calls = refl; files = refl }
+check_found (Some a) b c d s (Some n) w None (Some k) file = record { input = refl; fill = refl; steps = refl; reports = refl; schedule = refl; schedules = refl; workers = refl; locations = refl; calls = refl; files = refl }
+check_found (Some a) b c d s (Some n) w (Some e) None file = record { input = refl; fill = refl; steps = refl; reports = refl; schedule = refl; schedules = refl; workers = refl; locations = refl; calls = refl; files = refl }
+check_found (Some a) b c d s (Some n) w (Some e) (Some k) file = record { input = refl; fill = refl; steps = refl; reports = refl; schedule = refl; schedules = refl; workers = refl; locations = refl; calls = refl; files = refl }
 
-check_fields : (a : Option Word) (b c d s : Word) (n : Option Word) (w : Word) (e : Option Word) (file : Word) (f : Found) → rows_of f ≡ matches_of (app_for Check) (check_form a b c d s n w e file)
+check_fields : (a : Option Word) (b c d s : Word) (n : Option Word) (w : Word) (e k : Option Word) (file : Word) (f : Found) → rows_of f ≡ matches_of (app_for Check) (check_form a b c d s n w e k file)
     → check_by (found_value f option.Schedules) (options_by (found_value f)) (number_by (found_value f option.Schedules)) (number_by (found_value f option.Workers)) (found_file f)
-    ≡ check_by n (record { input = a; fill = hex_bytes b; steps = number c; reports = number d; schedule = hex_bytes s; locations = is_some e }) (number_by n) (number w) file
-check_fields a b c d s n w e file f are =
-    let found = check_found a b c d s n w e file in
+    ≡ check_by n (record { input = a; fill = hex_bytes b; steps = number c; reports = number d; schedule = hex_bytes s; locations = is_some e; calls = is_some k }) (number_by n) (number w) file
+check_fields a b c d s n w e k file f are =
+    let found = check_found a b c d s n w e k file in
     let input = at f (codes "input") _ are ∙ found.input in
     let fill = at f (codes "fill") _ are ∙ found.fill in
     let steps = at f (codes "steps") _ are ∙ found.steps in
@@ -162,48 +225,59 @@ check_fields a b c d s n w e file f are =
     let schedules = at f (codes "schedules") _ are ∙ found.schedules in
     let workers = at f (codes "workers") _ are ∙ found.workers in
     let locations = ap (λ (v : Option Word). is_some (found_by Nothing v)) (at f (codes "where") _ are) ∙ found.locations in
+    let calls = ap (λ (v : Option Word). is_some (found_by Nothing v)) (at f (codes "calls") _ are) ∙ found.calls in
     let files = at f (codes "files") _ are ∙ found.files in
-    rw (input, fill, steps, reports, schedule, schedules, workers, locations, files) refl
+    rw (input, fill, steps, reports, schedule, schedules, workers, locations, calls, files) refl
 
 -- ---- the command that explains a report, by its words' form
 
-abbrev explain_form : Option Word → (fill steps : Word) → Option Word → (file : Word) → List Word
-explain_form input fill steps locations file =
+abbrev explain_form : Option Word → (fill steps : Word) → (locations calls : Option Word) → (file : Word) → List Word
+explain_form input fill steps locations calls file =
     codes "explain" ∷ ((spelled_option option.Input input ++ (spelled_option option.Fill (Some fill) ++ (spelled_option option.Steps (Some steps)
-    ++ (spelled_option option.Where locations ++ [])))) ++ codes "--" ∷ file ∷ [])
+    ++ (spelled_option option.Where locations ++ (spelled_option option.Calls calls ++ []))))) ++ codes "--" ∷ file ∷ [])
 
-explain_takes : (a : Option Word) (b c : Word) (e : Option Word) (file : Word) → takes_words (app_for Explain) (explain_form a b c e file) ≡ true
+explain_takes : (a : Option Word) (b c : Word) (e k : Option Word) (file : Word) → takes_words (app_for Explain) (explain_form a b c e k file) ≡ true
 unfolding clap_on_literals
-explain_takes None b c None file = refl
-explain_takes None b c (Some e) file = refl
-explain_takes (Some a) b c None file = refl
-explain_takes (Some a) b c (Some e) file = refl
+explain_takes None b c None None file = refl
+explain_takes None b c None (Some k) file = refl
+explain_takes None b c (Some e) None file = refl
+explain_takes None b c (Some e) (Some k) file = refl
+explain_takes (Some a) b c None None file = refl
+explain_takes (Some a) b c None (Some k) file = refl
+explain_takes (Some a) b c (Some e) None file = refl
+explain_takes (Some a) b c (Some e) (Some k) file = refl
 
-pub record ExplainFound (a : Option Word) (b c : Word) (e : Option Word) (file : Word) (rows : List Row) : Type 0 where
+pub record ExplainFound (a : Option Word) (b c : Word) (e k : Option Word) (file : Word) (rows : List Row) : Type 0 where
   pub input : first_of (codes "input") rows ≡ a
   pub fill : first_of (codes "fill") rows ≡ Some b
   pub steps : first_of (codes "steps") rows ≡ Some c
   pub locations : is_some (found_by Nothing (first_of (codes "where") rows)) ≡ is_some e
+  pub calls : is_some (found_by Nothing (first_of (codes "calls") rows)) ≡ is_some k
   pub files : first_of (codes "files") rows ≡ Some file
 
-explain_found : (a : Option Word) (b c : Word) (e : Option Word) (file : Word) → ExplainFound a b c e file (matches_of (app_for Explain) (explain_form a b c e file))
+explain_found : (a : Option Word) (b c : Word) (e k : Option Word) (file : Word) → ExplainFound a b c e k file (matches_of (app_for Explain) (explain_form a b c e k file))
 unfolding clap_on_literals
-explain_found None b c None file = record { input = refl; fill = refl; steps = refl; locations = refl; files = refl }
-explain_found None b c (Some e) file = record { input = refl; fill = refl; steps = refl; locations = refl; files = refl }
-explain_found (Some a) b c None file = record { input = refl; fill = refl; steps = refl; locations = refl; files = refl }
-explain_found (Some a) b c (Some e) file = record { input = refl; fill = refl; steps = refl; locations = refl; files = refl }
+explain_found None b c None None file = record { input = refl; fill = refl; steps = refl; locations = refl; calls = refl; files = refl }
+explain_found None b c None (Some k) file = record { input = refl; fill = refl; steps = refl; locations = refl; calls = refl; files = refl }
+explain_found None b c (Some e) None file = record { input = refl; fill = refl; steps = refl; locations = refl; calls = refl; files = refl }
+explain_found None b c (Some e) (Some k) file = record { input = refl; fill = refl; steps = refl; locations = refl; calls = refl; files = refl }
+explain_found (Some a) b c None None file = record { input = refl; fill = refl; steps = refl; locations = refl; calls = refl; files = refl }
+explain_found (Some a) b c None (Some k) file = record { input = refl; fill = refl; steps = refl; locations = refl; calls = refl; files = refl }
+explain_found (Some a) b c (Some e) None file = record { input = refl; fill = refl; steps = refl; locations = refl; calls = refl; files = refl }
+explain_found (Some a) b c (Some e) (Some k) file = record { input = refl; fill = refl; steps = refl; locations = refl; calls = refl; files = refl }
 
-explain_fields : (a : Option Word) (b c : Word) (e : Option Word) (file : Word) (f : Found) → rows_of f ≡ matches_of (app_for Explain) (explain_form a b c e file)
-    → (explain_options_by (found_value f) ≡ record { input = a; fill = hex_bytes b; steps = number c; reports = 1; schedule = no_schedule; locations = is_some e })
+explain_fields : (a : Option Word) (b c : Word) (e k : Option Word) (file : Word) (f : Found) → rows_of f ≡ matches_of (app_for Explain) (explain_form a b c e k file)
+    → (explain_options_by (found_value f) ≡ record { input = a; fill = hex_bytes b; steps = number c; reports = 1; schedule = no_schedule; locations = is_some e; calls = is_some k })
     × (found_file f ≡ file)
-explain_fields a b c e file f are =
-    let found = explain_found a b c e file in
+explain_fields a b c e k file f are =
+    let found = explain_found a b c e k file in
     let input = at f (codes "input") _ are ∙ found.input in
     let fill = at f (codes "fill") _ are ∙ found.fill in
     let steps = at f (codes "steps") _ are ∙ found.steps in
     let locations = ap (λ (v : Option Word). is_some (found_by Nothing v)) (at f (codes "where") _ are) ∙ found.locations in
+    let calls = ap (λ (v : Option Word). is_some (found_by Nothing v)) (at f (codes "calls") _ are) ∙ found.calls in
     let files = at f (codes "files") _ are ∙ found.files in (
-      rw (input, fill, steps, locations) refl,
+      rw (input, fill, steps, locations, calls) refl,
       rw files refl,
     )
 
@@ -270,18 +344,19 @@ some_files (file ∷ inputs) least most = (file, inputs, refl, omega (arith, mos
 all_at : (f : Found) (id : Word) (rows : List Row) → rows_of f ≡ rows → option_map raw_values (matched_of f id) ≡ all_of id rows
 all_at f id rows are = raw_values-rows f id ∙ ap (all_of id) are
 
-corpus_fields : (b c d e : Word) (w : Option Word) (file : Word) (inputs : List Word) (f : Found) → rows_of f ≡ matches_of (app_for Corpus) (corpus_form b c d e w (file ∷ inputs))
+corpus_fields : (b c d e : Word) (w k : Option Word) (file : Word) (inputs : List Word) (f : Found) → rows_of f ≡ matches_of (app_for Corpus) (corpus_form b c d e w k (file ∷ inputs))
     → made.Corpus (found_file f) (found_inputs f) (corpus_options_by (found_value f)) (number_by (found_value f option.Workers))
-    ≡ made.Corpus file inputs (record { input = None; fill = hex_bytes c; steps = number d; reports = number e; schedule = no_schedule; locations = is_some w }) (number b)
-corpus_fields b c d e w file inputs f are =
-    let workers = at f (codes "workers") _ are ∙ corpus_workers b c d e w file inputs in
-    let fill = at f (codes "fill") _ are ∙ corpus_fill b c d e w file inputs in
-    let steps = at f (codes "steps") _ are ∙ corpus_steps b c d e w file inputs in
-    let reports = at f (codes "reports") _ are ∙ corpus_reports b c d e w file inputs in
-    let locations = ap (λ (v : Option Word). is_some (found_by Nothing v)) (at f (codes "where") _ are) ∙ corpus_locations b c d e w file inputs in
-    let first = at f (codes "files") _ are ∙ corpus_file b c d e w file inputs in
-    let all = all_at f (codes "files") _ are ∙ corpus_files b c d e w file inputs in
-    rw (workers, fill, steps, reports, locations, first, all) refl
+    ≡ made.Corpus file inputs (record { input = None; fill = hex_bytes c; steps = number d; reports = number e; schedule = no_schedule; locations = is_some w; calls = is_some k }) (number b)
+corpus_fields b c d e w k file inputs f are =
+    let workers = at f (codes "workers") _ are ∙ corpus_workers b c d e w k file inputs in
+    let fill = at f (codes "fill") _ are ∙ corpus_fill b c d e w k file inputs in
+    let steps = at f (codes "steps") _ are ∙ corpus_steps b c d e w k file inputs in
+    let reports = at f (codes "reports") _ are ∙ corpus_reports b c d e w k file inputs in
+    let locations = ap (λ (v : Option Word). is_some (found_by Nothing v)) (at f (codes "where") _ are) ∙ corpus_locations b c d e w k file inputs in
+    let calls = ap (λ (v : Option Word). is_some (found_by Nothing v)) (at f (codes "calls") _ are) ∙ corpus_calls b c d e w k file inputs in
+    let first = at f (codes "files") _ are ∙ corpus_file b c d e w k file inputs in
+    let all = all_at f (codes "files") _ are ∙ corpus_files b c d e w k file inputs in
+    rw (workers, fill, steps, reports, locations, calls, first, all) refl
 
 -- the words of a corpus in their form, with its files
 with_files : (g : Given) (files : List Word) (rows : List Row) → g.files ≡ files → rows ≡ matches_of (app_for Corpus) (spelled Corpus g)
@@ -292,12 +367,12 @@ with_files g files rows is are =
 -- the command of `clap` takes accepted words
 pub takes_spelled : (c : CommandName) (g : Given) → Whole c g → takes_words (app_for c) (spelled c g) ≡ true
 takes_spelled Instrument g whole = let one = one_file g.files whole.enough whole.few in rw one.1 (instrument_takes one.0)
-takes_spelled Run g whole = let one = one_file g.files whole.enough whole.few in rw one.1 (run_takes (codes "run") (value_of option.Input g) _ _ _ _ (value_of option.Where g) one.0)
+takes_spelled Run g whole = let one = one_file g.files whole.enough whole.few in rw one.1 (run_takes (codes "run") (value_of option.Input g) _ _ _ _ (value_of option.Where g) (value_of option.Calls g) one.0)
 takes_spelled Check g whole =
     let one = one_file g.files whole.enough whole.few in
-    rw one.1 (check_takes (value_of option.Input g) _ _ _ _ (value_of option.Schedules g) _ (value_of option.Where g) one.0)
-takes_spelled Explain g whole = let one = one_file g.files whole.enough whole.few in rw one.1 (explain_takes (value_of option.Input g) _ _ (value_of option.Where g) one.0)
-takes_spelled Corpus g whole = let some = some_files g.files whole.enough whole.few in rw some.2 (corpus_takes _ _ _ _ (value_of option.Where g) some.0 some.1 some.3)
+    rw one.1 (check_takes (value_of option.Input g) _ _ _ _ (value_of option.Schedules g) _ (value_of option.Where g) (value_of option.Calls g) one.0)
+takes_spelled Explain g whole = let one = one_file g.files whole.enough whole.few in rw one.1 (explain_takes (value_of option.Input g) _ _ (value_of option.Where g) (value_of option.Calls g) one.0)
+takes_spelled Corpus g whole = let some = some_files g.files whole.enough whole.few in rw some.2 (corpus_takes _ _ _ _ (value_of option.Where g) (value_of option.Calls g) some.0 some.1 some.3)
 takes_spelled Gen g whole = rw (no_files g.files whole.few) (gen_takes (value_of option.Seed g) (value_of option.Functions g) (value_of option.Run g))
 
 -- the same with its one file
@@ -317,20 +392,20 @@ fields_found Instrument g f whole are =
     ap (λ (file : Word). made.Instrument file) (ap (λ (o : Option Word). unwrap_or o []) found ∙ sym (first_of_files g one.0 one.1))
 fields_found Run g f whole are =
     let one = one_file g.files whole.enough whole.few in
-    let fields = run_fields (codes "run") (value_of option.Input g) _ _ _ _ (value_of option.Where g) one.0 f (with_file Run g one.0 (rows_of f) one.1 are) in
+    let fields = run_fields (codes "run") (value_of option.Input g) _ _ _ _ (value_of option.Where g) (value_of option.Calls g) one.0 f (with_file Run g one.0 (rows_of f) one.1 are) in
     ap₂ (λ (file : Word) (o : Options). made.Run file o) (fields.1 ∙ sym (first_of_files g one.0 one.1)) fields.0
 fields_found Check g f whole are =
     let one = one_file g.files whole.enough whole.few in
-    check_fields (value_of option.Input g) _ _ _ _ (value_of option.Schedules g) _ (value_of option.Where g) one.0 f (with_file Check g one.0 (rows_of f) one.1 are)
+    check_fields (value_of option.Input g) _ _ _ _ (value_of option.Schedules g) _ (value_of option.Where g) (value_of option.Calls g) one.0 f (with_file Check g one.0 (rows_of f) one.1 are)
     ∙ ap (check_by (value_of option.Schedules g) (options_by (λ o. value_of o g)) (number_by (value_of option.Schedules g)) (number_by (value_of option.Workers g)))
     (sym (first_of_files g one.0 one.1))
 fields_found Explain g f whole are =
     let one = one_file g.files whole.enough whole.few in
-    let fields = explain_fields (value_of option.Input g) _ _ (value_of option.Where g) one.0 f (with_file Explain g one.0 (rows_of f) one.1 are) in
+    let fields = explain_fields (value_of option.Input g) _ _ (value_of option.Where g) (value_of option.Calls g) one.0 f (with_file Explain g one.0 (rows_of f) one.1 are) in
     ap₂ (λ (file : Word) (o : Options). made.Explain file o) (fields.1 ∙ sym (first_of_files g one.0 one.1)) fields.0
 fields_found Corpus g f whole are =
     let some = some_files g.files whole.enough whole.few in
-    corpus_fields _ _ _ _ (value_of option.Where g) some.0 some.1 f (with_files g (some.0 ∷ some.1) (rows_of f) some.2 are)
+    corpus_fields _ _ _ _ (value_of option.Where g) (value_of option.Calls g) some.0 some.1 f (with_files g (some.0 ∷ some.1) (rows_of f) some.2 are)
     ∙ ap (λ (files : List Word). made.Corpus (unwrap_or (slice_get files 0) []) (drop 1 files) (corpus_options_by (λ o. value_of o g)) (number_by (value_of option.Workers g))) (sym some.2)
 fields_found Gen g f whole are =
     gen_fields (value_of option.Seed g) (value_of option.Functions g) (value_of option.Run g) f
@@ -344,18 +419,18 @@ run_fits : (word : Word) (g : Given) (file : Word) (f : Found) → All (λ p. va
 run_fits word g file f all are = record {
   run = record {
     run = record {
-      fill = hex_good 2048 _ (found_good option.Fill g (found_value f option.Fill) all (at f (codes "fill") _ are ∙ run_fill word (value_of option.Input g) _ _ _ _ (value_of option.Where g) file));
-      steps = number_good 0 1000000000 (2 ^ 64 - 1) _ (omega arith) (found_good option.Steps g (found_value f option.Steps) all (at f (codes "steps") _ are ∙ run_steps word (value_of option.Input g) _ _ _ _ (value_of option.Where g) file));
+      fill = hex_good 2048 _ (found_good option.Fill g (found_value f option.Fill) all (at f (codes "fill") _ are ∙ run_fill word (value_of option.Input g) _ _ _ _ (value_of option.Where g) (value_of option.Calls g) file));
+      steps = number_good 0 1000000000 (2 ^ 64 - 1) _ (omega arith) (found_good option.Steps g (found_value f option.Steps) all (at f (codes "steps") _ are ∙ run_steps word (value_of option.Input g) _ _ _ _ (value_of option.Where g) (value_of option.Calls g) file));
     };
-    reports = number_good 1 1000 1000 _ (omega arith) (found_good option.Reports g (found_value f option.Reports) all (at f (codes "reports") _ are ∙ run_reports word (value_of option.Input g) _ _ _ _ (value_of option.Where g) file));
+    reports = number_good 1 1000 1000 _ (omega arith) (found_good option.Reports g (found_value f option.Reports) all (at f (codes "reports") _ are ∙ run_reports word (value_of option.Input g) _ _ _ _ (value_of option.Where g) (value_of option.Calls g) file));
   };
-  schedule = hex_good 2048 _ (found_good option.Schedule g (found_value f option.Schedule) all (at f (codes "schedule") _ are ∙ run_schedule word (value_of option.Input g) _ _ _ _ (value_of option.Where g) file));
+  schedule = hex_good 2048 _ (found_good option.Schedule g (found_value f option.Schedule) all (at f (codes "schedule") _ are ∙ run_schedule word (value_of option.Input g) _ _ _ _ (value_of option.Where g) (value_of option.Calls g) file));
 }
 
 check_fits : (g : Given) (file : Word) (f : Found) → All (λ p. value_fault (takes p.0) 0 p.1 ≡ None) g.options
     → rows_of f ≡ matches_of (app_for Check) (command_word Check ∷ (spelled_options (options_of Check) g ++ codes "--" ∷ file ∷ [])) → FitsCheck (found_value f)
 check_fits g file f all are =
-    let found = check_found (value_of option.Input g) _ _ _ _ (value_of option.Schedules g) _ (value_of option.Where g) file in
+    let found = check_found (value_of option.Input g) _ _ _ _ (value_of option.Schedules g) _ (value_of option.Where g) (value_of option.Calls g) file in
     record {
       run = record {
         run = record {
@@ -374,7 +449,7 @@ check_fits g file f all are =
 explain_fits : (g : Given) (file : Word) (f : Found) → All (λ p. value_fault (takes p.0) 0 p.1 ≡ None) g.options
     → rows_of f ≡ matches_of (app_for Explain) (command_word Explain ∷ (spelled_options (options_of Explain) g ++ codes "--" ∷ file ∷ [])) → FitsRun (found_value f)
 explain_fits g file f all are =
-    let found = explain_found (value_of option.Input g) _ _ (value_of option.Where g) file in
+    let found = explain_found (value_of option.Input g) _ _ (value_of option.Where g) (value_of option.Calls g) file in
     record {
       fill = hex_good 2048 _ (found_good option.Fill g (found_value f option.Fill) all (at f (codes "fill") _ are ∙ found.fill));
       steps = number_good 0 1000000000 (2 ^ 64 - 1) _ (omega arith) (found_good option.Steps g (found_value f option.Steps) all (at f (codes "steps") _ are ∙ found.steps));
@@ -385,12 +460,12 @@ corpus_fits : (g : Given) (file : Word) (inputs : List Word) (f : Found) → All
 corpus_fits g file inputs f all are = record {
   run = record {
     run = record {
-      fill = hex_good 2048 _ (found_good option.Fill g (found_value f option.Fill) all (at f (codes "fill") _ are ∙ corpus_fill _ _ _ _ (value_of option.Where g) file inputs));
-      steps = number_good 0 1000000000 (2 ^ 64 - 1) _ (omega arith) (found_good option.Steps g (found_value f option.Steps) all (at f (codes "steps") _ are ∙ corpus_steps _ _ _ _ (value_of option.Where g) file inputs));
+      fill = hex_good 2048 _ (found_good option.Fill g (found_value f option.Fill) all (at f (codes "fill") _ are ∙ corpus_fill _ _ _ _ (value_of option.Where g) (value_of option.Calls g) file inputs));
+      steps = number_good 0 1000000000 (2 ^ 64 - 1) _ (omega arith) (found_good option.Steps g (found_value f option.Steps) all (at f (codes "steps") _ are ∙ corpus_steps _ _ _ _ (value_of option.Where g) (value_of option.Calls g) file inputs));
     };
-    reports = number_good 1 1000 1000 _ (omega arith) (found_good option.Reports g (found_value f option.Reports) all (at f (codes "reports") _ are ∙ corpus_reports _ _ _ _ (value_of option.Where g) file inputs));
+    reports = number_good 1 1000 1000 _ (omega arith) (found_good option.Reports g (found_value f option.Reports) all (at f (codes "reports") _ are ∙ corpus_reports _ _ _ _ (value_of option.Where g) (value_of option.Calls g) file inputs));
   };
-  workers = number_good 1 8 8 _ (omega arith) (found_good option.Workers g (found_value f option.Workers) all (at f (codes "workers") _ are ∙ corpus_workers _ _ _ _ (value_of option.Where g) file inputs));
+  workers = number_good 1 8 8 _ (omega arith) (found_good option.Workers g (found_value f option.Workers) all (at f (codes "workers") _ are ∙ corpus_workers _ _ _ _ (value_of option.Where g) (value_of option.Calls g) file inputs));
 }
 
 -- and these can be made fields

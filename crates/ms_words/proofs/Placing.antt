@@ -7,7 +7,7 @@ use Rattle.std.proofs.lemmas.List.Folds.{list_any-append}
 use Rattle.std.proofs.lemmas.Bool.{ltb-true}
 use Rattle.ms_words.specs.declared.names.CommandName.{CommandName}
 use Rattle.ms_words.specs.declared.names.OptionName.{OptionName}
-use Rattle.ms_words.specs.declared.names.OptionName.TheVariants.{Input, Fill, Steps, Reports, Schedule, Schedules, Workers, Seed, Functions, Run, Where}
+use Rattle.ms_words.specs.declared.names.OptionName.TheVariants.{Input, Fill, Steps, Reports, Schedule, Schedules, Workers, Seed, Functions, Run, Where, Calls}
 use Rattle.ms_words.specs.declared.names.CommandName.TheVariants.{Instrument, Check, Explain, Corpus, Gen}
 use Rattle.ms_words.specs.declared.names.CommandName.TheVariants as name
 use Rattle.ms_words.specs.declared.reading.Next.{Next}
@@ -80,6 +80,7 @@ option_self Seed = refl
 option_self Functions = refl
 option_self Run = refl
 option_self Where = refl
+option_self Calls = refl
 
 given_with : (a o : OptionName) (v : Word) (g : Given) → is_given a (with_option o v g) ≡ (is_given a g || (option_eq o a || false))
 given_with a o v g = list_any-append (λ p. option_eq p.0 a) g.options ((o, v) ∷ [])

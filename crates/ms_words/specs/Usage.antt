@@ -34,6 +34,7 @@ about_option option.Seed = codes "number that the module is made from"
 about_option option.Functions = codes "number of functions beside main"
 about_option option.Run = codes "check the module instead of writing it"
 about_option option.Where = codes "below each line that names a site, print where it stands in FILE and in the source"
+about_option option.Calls = codes "below each report and trap, print the calls that stand there, the innermost first"
 
 abbrev pub about_topic : Topic → Word
 about_topic Help = codes "print this text"

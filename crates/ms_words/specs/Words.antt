@@ -38,6 +38,7 @@ options_by value = record {
   reports = number_by (value option.Reports);
   schedule = option_map_or hex_bytes (value option.Schedule) [];
   locations = is_some (value option.Where);
+  calls = is_some (value option.Calls);
 }
 
 -- the schedule of a command that takes none: it runs no module with threads
@@ -52,7 +53,7 @@ explain_options_by value = record (options_by value) { reports = 1; schedule = n
 abbrev pub corpus_options_by : (OptionName → Option Word) → Options
 corpus_options_by value = record (options_by value) { input = None; schedule = no_schedule }
 
--- what is given where no option is: no input, the fill a5, ten million steps, one report, the schedule 00, and no locations
+-- what is given where no option is: no input, the fill a5, ten million steps, one report, the schedule 00, and neither locations nor calls
 abbrev pub defaults : Options
 defaults = options_by (λ o. value_of o nothing)
 

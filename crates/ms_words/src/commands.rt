@@ -21,6 +21,8 @@ pub struct Options {
     pub schedule: Bytes,
     /// Whether each line that names a site is followed by where it stands.
     pub locations: bool,
+    /// Whether each report is followed by the calls that stood there.
+    pub calls: bool,
 }
 
 /// What is asked for.

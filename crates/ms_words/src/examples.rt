@@ -123,6 +123,21 @@ pub fn words_with_schedules()
     ensures of_gen { command_of (codes "gen" ∷ codes "--schedules=5" ∷ []) ≡ Err (UnknownOption 1) }
 {}
 
+/// The option that asks for the calls at each report.
+pub fn words_with_calls()
+    ensures of_run { command_of (codes "run" ∷ codes "--calls" ∷ codes "f" ∷ []) ≡ Ok (Run (codes "f") (record defaults { calls = true })) }
+    ensures of_check { command_of (codes "check" ∷ codes "--calls" ∷ codes "--where" ∷ codes "f" ∷ []) ≡ Ok (Check (codes "f") (record defaults { locations = true; calls = true })) }
+    ensures of_schedules { command_of (codes "check" ∷ codes "--schedules=5" ∷ codes "--calls" ∷ codes "f" ∷ []) ≡ Ok (CheckSchedules (codes "f") (record defaults { calls = true }) 5 2) }
+    ensures of_explain { command_of (codes "explain" ∷ codes "--calls" ∷ codes "f" ∷ []) ≡ Ok (Explain (codes "f") (record defaults { calls = true })) }
+    ensures of_corpus { command_of (codes "corpus" ∷ codes "--calls" ∷ codes "f" ∷ codes "a" ∷ []) ≡ Ok (Corpus (codes "f") (codes "a" ∷ []) (record defaults { calls = true }) 2) }
+    ensures not_given { command_of (codes "run" ∷ codes "--where" ∷ codes "f" ∷ []) ≡ Ok (Run (codes "f") (record defaults { locations = true; calls = false })) }
+    ensures a_file { command_of (codes "run" ∷ codes "--" ∷ codes "--calls" ∷ []) ≡ Ok (Run (codes "--calls") defaults) }
+    ensures with_a_value { command_of (codes "run" ∷ codes "--calls=1" ∷ codes "f" ∷ []) ≡ Err (UnknownOption 1) }
+    ensures twice { command_of (codes "check" ∷ codes "--calls" ∷ codes "--calls" ∷ codes "f" ∷ []) ≡ Err (Repeated 2) }
+    ensures of_instrument { command_of (codes "instrument" ∷ codes "--calls" ∷ codes "f" ∷ []) ≡ Err (UnknownOption 1) }
+    ensures of_gen { command_of (codes "gen" ∷ codes "--calls" ∷ []) ≡ Err (UnknownOption 1) }
+{}
+
 /// Where the options end.
 pub fn end_of_options()
     ensures one_dash_is_a_file { command_of (codes "run" ∷ codes "-" ∷ []) ≡ Ok (Run (codes "-") defaults) }
@@ -187,10 +202,10 @@ pub fn questions()
 /// The lines of commands in the usage.
 pub fn lines_of_commands()
     ensures instrument { synopsis name.Instrument ≡ codes "  msan instrument FILE\n" }
-    ensures run { synopsis name.Run ≡ codes "  msan run [--input FILE] [--fill HEX] [--steps N] [--reports N] [--schedule HEX] [--where] FILE\n" }
-    ensures check { synopsis name.Check ≡ codes "  msan check [--input FILE] [--fill HEX] [--steps N] [--reports N] [--schedule HEX] [--schedules N] [--workers N] [--where] FILE\n" }
-    ensures explain { synopsis name.Explain ≡ codes "  msan explain [--input FILE] [--fill HEX] [--steps N] [--where] FILE\n" }
-    ensures corpus { synopsis name.Corpus ≡ codes "  msan corpus [--workers N] [--fill HEX] [--steps N] [--reports N] [--where] FILE INPUT...\n" }
+    ensures run { synopsis name.Run ≡ codes "  msan run [--input FILE] [--fill HEX] [--steps N] [--reports N] [--schedule HEX] [--where] [--calls] FILE\n" }
+    ensures check { synopsis name.Check ≡ codes "  msan check [--input FILE] [--fill HEX] [--steps N] [--reports N] [--schedule HEX] [--schedules N] [--workers N] [--where] [--calls] FILE\n" }
+    ensures explain { synopsis name.Explain ≡ codes "  msan explain [--input FILE] [--fill HEX] [--steps N] [--where] [--calls] FILE\n" }
+    ensures corpus { synopsis name.Corpus ≡ codes "  msan corpus [--workers N] [--fill HEX] [--steps N] [--reports N] [--where] [--calls] FILE INPUT...\n" }
     ensures inputs { command_about name.Corpus ≡ codes "      check the module in FILE with each INPUT as its standard input: " ++ decimal 1 ++ codes " to " ++ decimal 256 ++ codes " inputs\n" }
     ensures generates { synopsis name.Gen ≡ codes "  msan gen --seed N --functions N [--run]\n" }
     ensures help { topic_line topic.Help ≡ codes "  msan help, --help, -h: print this text\n" }
@@ -209,5 +224,6 @@ pub fn lines_of_options()
     ensures seed { option_line option.Seed ≡ codes "  --seed N        number that the module is made from: " ++ decimal 0 ++ codes " to " ++ decimal 18446744073709551615 ++ codes "\n" }
     ensures functions { option_line option.Functions ≡ codes "  --functions N   number of functions beside main: " ++ decimal 1 ++ codes " to " ++ decimal 1000 ++ codes "\n" }
     ensures runs { option_line option.Run ≡ codes "  --run           check the module instead of writing it\n" }
+    ensures calls { option_line option.Calls ≡ codes "  --calls         below each report and trap, print the calls that stand there, the innermost first\n" }
     ensures locations { option_line option.Where ≡ codes "  --where         below each line that names a site, print where it stands in FILE and in the source\n" }
 {}

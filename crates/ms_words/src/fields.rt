@@ -136,6 +136,7 @@ fn options_with(
         reports,
         schedule,
         locations: is_set(found, OptionName::Where),
+        calls: is_set(found, OptionName::Calls),
     })
 }
 

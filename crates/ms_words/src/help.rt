@@ -72,6 +72,9 @@ impl OptionName {
             OptionName::Where => {
                 "below each line that names a site, print where it stands in FILE and in the source"
             }
+            OptionName::Calls => {
+                "below each report and trap, print the calls that stand there, the innermost first"
+            }
         }
     }
 }

@@ -30,6 +30,7 @@ pub enum OptionName {
     /// `--run` of `gen`, which checks the module.
     Run,
     Where,
+    Calls,
 }
 
 /// What an option takes.
@@ -56,7 +57,7 @@ pub static COMMANDS: [CommandName; 6] = [
 ];
 
 /// The options, in the order of the usage.
-pub static OPTIONS: [OptionName; 11] = [
+pub static OPTIONS: [OptionName; 12] = [
     OptionName::Input,
     OptionName::Fill,
     OptionName::Steps,
@@ -68,23 +69,25 @@ pub static OPTIONS: [OptionName; 11] = [
     OptionName::Functions,
     OptionName::Run,
     OptionName::Where,
+    OptionName::Calls,
 ];
 
 /// The options of a command that has none, or must have none.
 static NO_OPTIONS: [OptionName; 0] = [];
 
 /// The options that `run` may have.
-static RUN_OPTIONS: [OptionName; 6] = [
+static RUN_OPTIONS: [OptionName; 7] = [
     OptionName::Input,
     OptionName::Fill,
     OptionName::Steps,
     OptionName::Reports,
     OptionName::Schedule,
     OptionName::Where,
+    OptionName::Calls,
 ];
 
 /// The options that `check` may have.
-static CHECK_OPTIONS: [OptionName; 8] = [
+static CHECK_OPTIONS: [OptionName; 9] = [
     OptionName::Input,
     OptionName::Fill,
     OptionName::Steps,
@@ -93,23 +96,26 @@ static CHECK_OPTIONS: [OptionName; 8] = [
     OptionName::Schedules,
     OptionName::Workers,
     OptionName::Where,
+    OptionName::Calls,
 ];
 
 /// The options that `explain` may have.
-static EXPLAIN_OPTIONS: [OptionName; 4] = [
+static EXPLAIN_OPTIONS: [OptionName; 5] = [
     OptionName::Input,
     OptionName::Fill,
     OptionName::Steps,
     OptionName::Where,
+    OptionName::Calls,
 ];
 
 /// The options that `corpus` may have.
-static CORPUS_OPTIONS: [OptionName; 5] = [
+static CORPUS_OPTIONS: [OptionName; 6] = [
     OptionName::Workers,
     OptionName::Fill,
     OptionName::Steps,
     OptionName::Reports,
     OptionName::Where,
+    OptionName::Calls,
 ];
 
 /// The options that `gen` may have.
@@ -244,6 +250,7 @@ impl OptionName {
             OptionName::Functions => "functions",
             OptionName::Run => "run",
             OptionName::Where => "where",
+            OptionName::Calls => "calls",
         }
     }
 
@@ -278,6 +285,7 @@ impl OptionName {
             },
             OptionName::Run => Takes::Nothing,
             OptionName::Where => Takes::Nothing,
+            OptionName::Calls => Takes::Nothing,
         }
     }
 

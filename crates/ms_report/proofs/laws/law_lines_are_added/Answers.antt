@@ -1,6 +1,7 @@
 use Rattle.ms_report.proofs.WithoutLines.{reports_alone, closing_alone, refusal_alone}
 use Rattle.ms_report.proofs.Unindented.{reports_left, closing_left, refusal_left}
 use Rattle.ms_report.proofs.TrailLines.{trail_left}
+use Rattle.ms_report.proofs.CallLines.{none_called, none_called_last, calling_left, closing_calling_left}
 use Rattle.ms_report.proofs.laws.law_lines_are_added.Goals as goal
 
 pub returns-clause-none_in_reports : goal.returns-clause-none_in_reports
@@ -23,3 +24,15 @@ returns-clause-taken_out_of_refusals c = λ under cause all. refusal_left under 
 
 pub returns-clause-taken_out_of_trails : goal.returns-clause-taken_out_of_trails
 returns-clause-taken_out_of_trails c = λ under m moves at hops all. trail_left under all m moves at hops
+
+pub returns-clause-none_in_calls : goal.returns-clause-none_in_calls
+returns-clause-none_in_calls c = λ under m r. none_called under m 0 r.reports
+
+pub returns-clause-taken_out_of_calls : goal.returns-clause-taken_out_of_calls
+returns-clause-taken_out_of_calls c = λ under m r calls all. calling_left under all m calls r.reports
+
+pub returns-clause-none_in_closing_calls : goal.returns-clause-none_in_closing_calls
+returns-clause-none_in_closing_calls c = λ under m r verdict. none_called_last under m r verdict
+
+pub returns-clause-taken_out_of_closing_calls : goal.returns-clause-taken_out_of_closing_calls
+returns-clause-taken_out_of_closing_calls c = λ under m r calls verdict all. closing_calling_left under all m r calls verdict

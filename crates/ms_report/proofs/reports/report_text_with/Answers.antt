@@ -1,8 +1,7 @@
-use Rattle.ms_check_valid.proofs.SmallNumbers.{small_numbers}
+use Rattle.std.proofs.Common.{◌≡◌, ℕ, List, IfOk, subst}
+use Rattle.ms_report.proofs.CallLines.{none_called}
 use Rattle.ms_report.proofs.reports.report_text_with.Goals as goal
 
-pub text_of-requires-clause-numbers : goal.text_of-requires-clause-numbers
-text_of-requires-clause-numbers g c = small_numbers c.args.m.now c.requires
-
-pub roots-requires : goal.roots-requires
-roots-requires g c = small_numbers c.args.m.now c.requires
+pub returns : goal.returns
+returns g c =
+    subst (λ (t : List ℕ). IfOk c.report_text_calling.result (λ text. text.items ≡ t)) (none_called (g.L.SiteLines.lines c.args.under.now) c.args.m.now 0 c.args.r.now.reports) c.report_text_calling.ensures

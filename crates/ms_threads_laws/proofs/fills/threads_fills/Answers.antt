@@ -1,4 +1,5 @@
 use Rattle.ms_threads_laws.proofs.UnderFills.{first_threads, alone_threads, same_threads, same_threads_calls, shown_threads}
+use Rattle.ms_threads_laws.proofs.FirstCalls.{first_calls}
 use Rattle.ms_threads_laws.proofs.fills.threads_fills.Goals as goal
 
 pub returns-clause-same : goal.returns-clause-same
@@ -15,3 +16,6 @@ returns-clause-alone c = alone_threads
 
 pub returns-clause-calls : goal.returns-clause-calls
 returns-clause-calls c = λ m formed valid can setup bytes schedule quiet. same_threads_calls m formed valid can setup bytes schedule quiet
+
+pub returns-clause-first_calls : goal.returns-clause-first_calls
+returns-clause-first_calls c = first_calls

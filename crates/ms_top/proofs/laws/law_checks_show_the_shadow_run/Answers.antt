@@ -1,4 +1,4 @@
-use Rattle.ms_top.proofs.Faithful.{shadow_answer, corpus_shown, corpus_holds, summary_shown, under_fills, fair_default, fair_options}
+use Rattle.ms_top.proofs.Faithful.{shadow_answer, corpus_shown, corpus_holds, summary_shown, under_fills, calls_under_fills, fair_default, fair_options}
 use Rattle.ms_top.proofs.GeneratedRuns.{generated_shown}
 use Rattle.ms_top.proofs.laws.law_checks_show_the_shadow_run.Goals as goal
 
@@ -7,6 +7,9 @@ returns-clause-shadow c = shadow_answer
 
 pub returns-clause-under_fills : goal.returns-clause-under_fills
 returns-clause-under_fills c = under_fills
+
+pub returns-clause-calls_under_fills : goal.returns-clause-calls_under_fills
+returns-clause-calls_under_fills c = calls_under_fills
 
 pub returns-clause-sections : goal.returns-clause-sections
 returns-clause-sections c = corpus_shown

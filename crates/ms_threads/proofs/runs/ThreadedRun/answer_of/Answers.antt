@@ -17,6 +17,7 @@ pub returns-then-asks_result : goal.returns-then-asks_result
 returns-then-asks_result c = record {
   answered = λ u schedule same q. c.in_ok-put_result.ensures.answered c.args.m.now u schedule q;
   table = c.put_result.ensures.table;
+  calls = c.put_result.ensures.calls;
 }
 
 pub answer_of-requires : goal.answer_of-requires
@@ -31,4 +32,5 @@ returns c = record {
   answered = λ u schedule same q.
       c.answer_of.ensures.answered u same (asking_alone c.args.m.now u schedule c.args.self.now c.args.call.now q (can_answer c.args.call.now.asked q.beside c.requires.other c.if-asks_result.ensures));
   table = refl;
+  calls = (refl, refl, refl);
 }

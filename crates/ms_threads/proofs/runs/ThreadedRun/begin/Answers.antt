@@ -21,19 +21,21 @@ spawn-requires c =
 
 pub returns-in_default : goal.returns-in_default
 returns-in_default c = record {
+  wanted = refl;
   turned = λ u schedule b. absurd (let both = sym c.in_default.is ∙ c.thread.ensures ∙ b.there in cc);
 }
 
 pub returns : goal.returns
 returns c = record {
+  wanted = refl;
   turned = λ u schedule b.
       let m = c.args.m.now in
       let same : c.in-Some.thread ≡ b.guest = same_Some c.in-Some.thread b.guest (sym c.in-Some.is ∙ c.thread.ensures ∙ b.there) in
       let few : b.guest.argument < 2 ^ 64 = subst (λ (g : Guest). g.argument < 2 ^ 64) same (subst (λ n. n < 2 ^ 64) c.whole-argument.ensures.same c.whole-argument.ensures.few) in
       let spawned = subst (λ (g : Guest). SpawnedFor m g.func g.argument c.in_ok-fiber.fiber) same (subst (λ n. SpawnedFor m c.in-Some.thread.func n c.in_ok-fiber.fiber) c.whole-argument.ensures.same c.in_ok-fiber.ensures.spawned) in (
         begun_goes m u schedule c.law_valid.ensures.formed c.law_valid.ensures.valid c.args.self.now _ b few c.in_ok-fiber.fiber spawned c.exchange.ensures.one refl refl refl refl
-            c.clear_first.ensures.slots c.clear_first.ensures.shows c.clear_first.ensures.given c.clear_first.ensures.made,
+            c.clear_first.ensures.slots c.clear_first.ensures.shows c.clear_first.ensures.given c.clear_first.ensures.made (refl, refl, refl),
         begun_far m u schedule c.law_valid.ensures.formed c.law_valid.ensures.valid c.args.self.now _ b few c.in_ok-fiber.fiber spawned c.exchange.ensures.one refl refl refl refl
-            c.clear_first.ensures.slots c.clear_first.ensures.shows c.clear_first.ensures.given c.clear_first.ensures.made,
+            c.clear_first.ensures.slots c.clear_first.ensures.shows c.clear_first.ensures.given c.clear_first.ensures.made (refl, refl, refl),
       );
 }

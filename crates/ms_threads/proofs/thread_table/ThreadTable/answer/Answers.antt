@@ -3,7 +3,7 @@ use Rattle.std.specs.Prelude.{IfOk}
 use Rattle.ms_runs.specs.World.{Effect, Gives}
 use Rattle.ms_runs.specs.Externals.{create, join}
 use Rattle.ms_threads.specs.ThreadTables.{asked_joins, Did}
-use Rattle.ms_threads.proofs.Threading.{did_as, did_so, did_words, effect_creates, effect_joins, effect_yields}
+use Rattle.ms_threads.proofs.Threading.{did_as, did_so, did_words, effect_creates, effect_joins, effect_yields, keeps_all}
 use Rattle.ms_threads.proofs.thread_table.ThreadTable.answer.Goals as goal
 
 pub returns-then-creates-clause-did : goal.returns-then-creates-clause-did
@@ -20,6 +20,9 @@ returns-in_default-clause-did c = λ setting types beside meant shows shares.
     let none : asked_joins call.asked call.args ≡ None = sym c.joins.ensures ∙ c.in_default.is in
     did_so _ _ _ beside _ _ c.gives.ensures
     (did_as _ (Gives 0 meant) _ beside _ _ (effect_yields setting call.site types call.args meant call.asked c.requires.asked (sym c.if-creates.ensures) none) (beside.fibers, ((refl, shows), shares)))
+
+pub returns-in_default-clause-kept : goal.returns-in_default-clause-kept
+returns-in_default-clause-kept c = keeps_all c.args.call.now.site _ c.args.self.now
 
 pub returns-clause-did : goal.returns-clause-did
 returns-clause-did c = λ setting types beside meant shows shares.

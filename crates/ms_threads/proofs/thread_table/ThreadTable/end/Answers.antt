@@ -6,7 +6,7 @@ use Rattle.ms_threads.proofs.thread_table.ThreadTable.end.Goals as goal
 
 -- an ended thread with an origin
 with_origin : Guest → (value mask : ℕ) → ℕ → Guest
-with_origin t value mask origin = record { func = t.func; argument = t.argument; ended = true; joined = t.joined; answer = value; mask = mask; origin = origin }
+with_origin t value mask origin = record { func = t.func; argument = t.argument; start = t.start; ended = true; joined = t.joined; answer = value; mask = mask; origin = origin }
 
 pub returns : goal.returns
 unfolding with_origin

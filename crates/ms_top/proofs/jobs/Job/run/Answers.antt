@@ -1,7 +1,7 @@
 use Rattle.std.proofs.Common.{sym, ap, ◌∙◌, subst}
 use Rattle.ms_ir.specs.declared.syntax.Module.{Module}
 use Rattle.ms_ir.specs.ThreadCalls.{is_threaded}
-use Rattle.ms_top.specs.Runs.{plain_under}
+use Rattle.ms_top.specs.Runs.{plain_told_under}
 use Rattle.ms_top.proofs.jobs.Job.run.Goals as goal
 use Rattle.ms_runtime.proofs.Fitting.{if_ok}
 
@@ -14,6 +14,6 @@ returns g c =
     (λ r is. (
       c.get.result.now,
       subst (λ (j : Module). g.P.Pass.gives c.args.m.now j) (sym c.get.ensures) c.in_ok-instrumented.ensures.gives,
-      is ∙ ap (λ t. plain_under t c.get.result.now c.args.setup.now c.args.schedule.now) c.has_threads.ensures,
+      is ∙ ap (λ t. plain_told_under c.args.calls t c.get.result.now c.args.setup.now c.args.schedule.now) c.has_threads.ensures,
     ))
     c.run_under.ensures

@@ -8,6 +8,6 @@ pub returns : goal.returns
 returns g c =
     let job = c.args.self.now in
     if_ok c.output_of_run.result
-    (λ a is. run_answer (g.L.SiteLines.lines job.lines.now) job.m.now c.module.result.now c.has_threads.result c.in_ok-setup.setup _ c.as_slice-schedule.result.now _ c.in_ok-result.result a c.module.ensures
-    c.has_threads.ensures (c.in_ok-setup.ensures ∙ ap (setup_of c.args.options.now) c.input.ensures) c.as_slice-schedule.ensures c.in_ok-result.ensures is)
+    (λ a is. run_answer (g.L.SiteLines.lines job.lines.now) job.m.now c.module.result.now c.args.options.now.calls c.has_threads-threads.result c.in_ok-setup.setup _ c.as_slice-schedule.result.now _ c.in_ok-told.told a c.module.ensures
+    c.has_threads-threads.ensures (c.in_ok-setup.ensures ∙ ap (setup_of c.args.options.now) c.input.ensures) c.as_slice-schedule.ensures c.in_ok-told.ensures is)
     c.output_of_run.ensures
