@@ -22,7 +22,9 @@ use ms_ir::RuntimeFn;
 use ms_machine::{advance, calls_below, resume, spawn};
 use ms_machine_frames::{Pause, no_fiber};
 use ms_runs::{Calls, End, RunResult, Setup};
-use ms_runtime::{ReportLimit, Running, ToldRun, note_calls, start_run, thread_result, told_calls, told_end};
+use ms_runtime::{
+    ReportLimit, Running, ToldRun, note_calls, start_run, thread_result, told_calls, told_end,
+};
 use std::alloc::Global;
 
 /// A run of threads between two pauses.

@@ -202,8 +202,17 @@ module _ (Gives : Module → Module → Type 0) where
     schedules_module : (m : Module) (under : Lines) (a : Output) → AreLines (asking true) text m under → IsAnswerToModule Gives under (asking true) inputs m a
         → IsAnswerToModule Gives no_lines (asking false) inputs m (without_lines a)
     schedules_module m under a are (inl (f, refused, is)) = inl (f, refused, fault_said (asking true) text m under f a are is)
-    schedules_module m under a are (inr (valid, (j, gives, e, explored, is))) = inr (valid, (j, gives, e, explored, explored_said (asking true) text m under e (if o.calls then plain_calls_under (is_threaded m) j (setup_of o (only_input inputs)) e.schedule else [])
-        (if o.calls then plain_end_calls_under (is_threaded m) j (setup_of o (only_input inputs)) e.schedule else None) a are is))
+    schedules_module m under a are (inr (valid, (j, gives, e, explored, is))) = inr (
+      valid,
+      (
+        j,
+        gives,
+        e,
+        explored,
+        explored_said (asking true) text m under e (if o.calls then plain_calls_under (is_threaded m) j (setup_of o (only_input inputs)) e.schedule else [])
+            (if o.calls then plain_end_calls_under (is_threaded m) j (setup_of o (only_input inputs)) e.schedule else None) a are is,
+      ),
+    )
 
     schedules_reading : (r : Result Module ReadError) (a : Output) → IsAnswerToReading Gives (asking true) inputs text r a
         → IsAnswerToReading Gives (asking false) inputs text r (without_lines a)

@@ -162,8 +162,17 @@ module _ (Gives : Module → Module → Type 0) where
         → IsAnswerToModule Gives under (CheckSchedules file (telling false o) runs workers) inputs m a ⊎ IsAnswerToModule Gives under (CheckSchedules file (telling false o) runs workers) inputs m (without_calls a)
     schedules_module m under a none (inl refused) = inl (inl refused)
     schedules_module m under a none (inr (valid, (j, gives, e, explored, is))) =
-        inr (inr (valid, (j, gives, e, explored, explored_said under none m e (plain_calls_under (is_threaded m) j (setup_of o (only_input inputs)) e.schedule)
-        (plain_end_calls_under (is_threaded m) j (setup_of o (only_input inputs)) e.schedule) a is)))
+        inr (inr (
+          valid,
+          (
+            j,
+            gives,
+            e,
+            explored,
+            explored_said under none m e (plain_calls_under (is_threaded m) j (setup_of o (only_input inputs)) e.schedule)
+                (plain_end_calls_under (is_threaded m) j (setup_of o (only_input inputs)) e.schedule) a is,
+          ),
+        ))
 
     schedules_reading : (r : Result Module ReadError) (a : Output) → IsAnswerToReading Gives (CheckSchedules file (telling true o) runs workers) inputs text r a
         → IsAnswerToReading Gives (CheckSchedules file (telling false o) runs workers) inputs text r a ⊎ IsAnswerToReading Gives (CheckSchedules file (telling false o) runs workers) inputs text r (without_calls a)

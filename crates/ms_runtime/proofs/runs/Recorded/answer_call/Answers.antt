@@ -44,12 +44,12 @@ returns-in_ok-note_end-in-Ended c = record {
       let m = c.args.m.now in
       let answered = c.in_ok-answer.ensures.answered u same b.paused.asking in
       let there =
-          callers_there m u c.program-code.result.now c.program-code.ensures c.law_valid.ensures.formed c.law_valid.ensures.valid c.args.call c.args.self.now b c.answer_of.new.self c.in_ok-answer.answer answered in
+      callers_there m u c.program-code.result.now c.program-code.ensures c.law_valid.ensures.formed c.law_valid.ensures.valid c.args.call c.args.self.now b c.answer_of.new.self c.in_ok-answer.answer answered in
       answer_ended m u c.program-code.result.now c.program-code.ensures c.law_valid.ensures.formed c.law_valid.ensures.valid c.args.call c.args.self.now b c.answer_of.new.self c.in-Ended.end
       (subst (λ (x : Answer). AnsweredFor m u c.args.call b.paused.asking.within x c.args.self.now.running c.answer_of.new.self) c.in-Ended.is answered)
       c.note_end.new.self c.note_end.ensures.running c.note_end.ensures.wanted
       (λ wanted.
-          subst (λ (v : Vec Calls Global). Noted m c.answer_of.new.self.fiber 0 (length c.answer_of.new.self.told.reports) c.args.self.now.calls.items v.items) (sym c.note_end.ensures.calls) (c.in_ok-note_calls.ensures wanted))
+      subst (λ (v : Vec Calls Global). Noted m c.answer_of.new.self.fiber 0 (length c.answer_of.new.self.told.reports) c.args.self.now.calls.items v.items) (sym c.note_end.ensures.calls) (c.in_ok-note_calls.ensures wanted))
       (λ wanted. c.in_ok-note_end-in-Ended.ensures.ended b.paused.asking.within.frames there wanted) (ahead m c.args.self.now.running);
 }
 
