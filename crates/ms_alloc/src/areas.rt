@@ -274,7 +274,11 @@ impl Area {
                 let size = self.made[place].size;
                 let first = (base - AllocKind::Heap.base()) / 16;
                 self.made[place].live = false;
-                clear(&mut self.live, first as usize, (room_of(size) / 16) as usize);
+                clear(
+                    &mut self.live,
+                    first as usize,
+                    (room_of(size) / 16) as usize,
+                );
                 Ok(size)
             }
         }

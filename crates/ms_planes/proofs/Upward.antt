@@ -48,7 +48,7 @@ pub run-step : (part : Plane) (was now new : Lists) (to from n m s : ℕ) → Is
 run-step part was now new to from n m s upward fits done next = record {
   shown = next.shown
       ∙ range-same (held (bytes_in part now)) (λ k. held (bytes_in part now) (from + m + k)) (λ k. held (bytes_in part was) (from + (m + k))) (to + m) s
-          (λ k lt. ap (λ (h : ℕ → ℕ). h (from + m + k)) done.shown ∙ unwritten (held (bytes_in part was)) to from n m k upward (omega (arith, lt, fits)))
+      (λ k lt. ap (λ (h : ℕ → ℕ). h (from + m + k)) done.shown ∙ unwritten (held (bytes_in part was)) to from n m k upward (omega (arith, lt, fits)))
       ∙ ap (λ (h : ℕ → ℕ). with_range h (to + m) s (λ k. held (bytes_in part was) (from + (m + k)))) done.shown
       ∙ range-join (held (bytes_in part was)) (λ k. held (bytes_in part was) (from + k)) (λ k. held (bytes_in part was) (from + (m + k))) to (to + m) m s refl (λ k lt. refl);
   others = kept-step part was now new done.others next.others;

@@ -42,7 +42,14 @@ pub(crate) fn copy_within(block: &mut Block, part: Plane, to: u64, from: u64, n:
 }
 
 /// Copies `n` bytes of another block, or shadow bytes with their origins, from place `from` on to place `to` on.
-pub(crate) fn copy_from(block: Block, part: Plane, to: u64, source: &Block, from: u64, n: u64) -> Block
+pub(crate) fn copy_from(
+    block: Block,
+    part: Plane,
+    to: u64,
+    source: &Block,
+    from: u64,
+    n: u64,
+) -> Block
     requires to { to + n ≤ length block.bytes }
     requires from { from + n ≤ length source.now.bytes }
     requires whole { IsLists (length block.bytes) block }
@@ -76,7 +83,12 @@ pub(crate) fn moved(longer: Block, block: Block) -> Block
 /// Gives a block at least `least` bytes. It grows by half, or to what is asked for where that is more, so that what is copied is
 /// in all at most twice what it has in the end, and old and new bytes together are at most two and a half times what was asked
 /// for. Where memory runs out it is as it was.
-pub(crate) fn reach(block: &mut Block, alloc: Global, least: u64, limit: u64) -> Result<(), NoMemory>
+pub(crate) fn reach(
+    block: &mut Block,
+    alloc: Global,
+    least: u64,
+    limit: u64,
+) -> Result<(), NoMemory>
     requires fits { least ≤ limit }
     requires small { limit ≤ 2 ^ 26 }
     requires within { length block.old.bytes ≤ limit }

@@ -309,7 +309,7 @@ pub(crate) fn clear(block: &mut Block, at: u64, n: u64)
     fill_origins(block, at, n, 0);
 }
 
-/// Copies `n` bytes of another block, from place `from` on, to place `at` on. 
+/// Copies `n` bytes of another block, from place `from` on, to place `at` on.
 ///
 /// Takes the block by value: through a reference the compiler has to assume that a byte that is written changes the
 /// block's own pointers, and loads them again in each round.

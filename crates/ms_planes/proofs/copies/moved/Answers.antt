@@ -14,11 +14,10 @@ pub copy-both-requires-clause-whole : goal.copy-both-requires-clause-whole
 copy-both-requires-clause-whole c = own-whole Bytes c.args.longer c.copy-bytes.result c.copy-bytes.ensures.others (zeros-whole c.args.longer c.requires.zeros)
 
 pub keep_origins-requires-clause-within : goal.keep_origins-requires-clause-within
-keep_origins-requires-clause-within c =
-    (
-      omega (arith, c.len-n.ensures, c.requires.long, c.copy-bytes.ensures.others.len, ap (λ (xs : List ℕ). length xs) c.copy-both.ensures.others.rest),
-      omega (arith, c.len-n.ensures),
-    )
+keep_origins-requires-clause-within c = (
+  omega (arith, c.len-n.ensures, c.requires.long, c.copy-bytes.ensures.others.len, ap (λ (xs : List ℕ). length xs) c.copy-both.ensures.others.rest),
+  omega (arith, c.len-n.ensures),
+)
 
 pub keep_origins-requires-clause-lists : goal.keep_origins-requires-clause-lists
 keep_origins-requires-clause-lists c =

@@ -12,6 +12,6 @@ returns c =
     record {
       shown = c.put_eight.ensures.shown
           ∙ range-same f (byte_of c.eight_at-word.result) (λ k. f (c.args.from + k)) c.args.to 8
-              (λ k lt. ap (λ (v : ℕ). byte_of v k) c.eight_at-word.ensures.number ∙ number-byte f c.args.from 8 k c.eight_at-word.ensures.small lt);
+          (λ k lt. ap (λ (v : ℕ). byte_of v k) c.eight_at-word.ensures.number ∙ number-byte f c.args.from 8 k c.eight_at-word.ensures.small lt);
       others = c.put_eight.ensures.others;
     }

@@ -16,8 +16,11 @@ overflow_sub-first c = omega (arith, block-above c.args.self.now c.args.base c.i
 
 pub room_of-requires : goal.room_of-requires
 room_of-requires c =
-    omega (arith, size-small c.args.self.now c.in-Some.place c.index.result.now c.requires c.in-Some.ensures.within
-    (c.index.ensures ∙ ap (λ (xs : List Allocation). get_or xs c.in-Some.place c.index.result.now) c.self.view_is))
+    omega (
+      arith,
+      size-small c.args.self.now c.in-Some.place c.index.result.now c.requires c.in-Some.ensures.within
+          (c.index.ensures ∙ ap (λ (xs : List Allocation). get_or xs c.in-Some.place c.index.result.now) c.self.view_is),
+    )
 
 pub clear-requires : goal.clear-requires
 clear-requires c =
@@ -39,8 +42,7 @@ invariant_of-self c =
     ended-block c.self.inside.made.items c.in-Some.place c.args.base first n c.index_mut.result.now c.index.result.now y c.self.inside.live.items c.self.invariant.1
     (subst (IsArea Heap) (sym c.self.view_is) c.requires) only refl (ap (λ (a : Allocation). a.size) c.index_mut.ensures.value) c.index.ensures
     (ap (λ (b : ℕ). (c.args.base - b) / 16) c.base.ensures) (ap (λ (k : ℕ). k / 16) c.room_of.ensures) in
-    let cut : c.clear.new.counts ≡ cleared first n c.self.inside.live.items = c.clear.ensures ∙ ap (cleared first n) c.deref_mut.ensures.value in
-    (
+    let cut : c.clear.new.counts ≡ cleared first n c.self.inside.live.items = c.clear.ensures ∙ ap (cleared first n) c.deref_mut.ensures.value in (
       owned-set c.self.inside.made.items c.in-Some.place c.index_mut.result.now _ c.self.inside.owners.items c.self.invariant.0
           (ap (λ (a : Allocation). a.size) c.index_mut.ensures.value),
       take_at c.clear.new.counts (drop (length c.clear.new.counts) c.self.inside.live.items) c.self.inside.live.len

@@ -14,8 +14,7 @@ returns-then-self-input-clause-taken c = λ beside world h.
     let xs : List ℕ = c.self.inside.input in
     let at : ℕ = c.self.inside.at in
     let low : at < length xs = omega (arith, c.if-self-input.true, ap (λ (l : List ℕ). length l) c.as_slice-input.ensures) in
-    let byte : ℕ = get_or c.as_slice-input.result.now at 0 in
-    (
+    let byte : ℕ = get_or c.as_slice-input.result.now at 0 in (
       drop (at + 1) xs,
       (
         g.input ∙ taken_one xs at low ∙ ap (λ (l : List ℕ). get_or l at 0 ∷ drop (at + 1) xs) (sym c.as_slice-input.ensures),
