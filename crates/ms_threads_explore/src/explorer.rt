@@ -28,7 +28,7 @@ pub struct Explored {
     pub all: bool,
 }
 
-/// Runs a module with threads under schedules one after the other, each with other picks than those before it, until a run isn't
+/// Runs a module with threads under schedules one after the other, each begun otherwise than those before it, until a run isn't
 /// clean (it has a report or a blind use), or nothing is left, or `count` runs were made.
 ///
 /// A run begins with given picks and goes on with the first thread that can; what it leaves are its beginnings with another last
@@ -37,8 +37,8 @@ pub struct Explored {
 ///
 /// The answer is the same for every number of workers and every gate: several workers make the next runs of the queue side by side,
 /// some 64 each, and what comes after the first run that isn't clean is thrown away. Each run enters the gate with its
-/// number among them. Takes time linear in the runs beside what they take themselves, and memory for each beginning that
-/// may still be run and for each outcome.
+/// number among them. Takes time linear in the runs beside what they take themselves, and memory for each beginning, also of
+/// those that were run, at most `count` and one more, and for each outcome.
 pub fn explore<R: Threads + Sync, G: Gate + Sync>(
     rt: &R,
     alloc: Global,

@@ -187,8 +187,8 @@ pub fn law_checks_hold()
 {}
 
 /// Of any words that ask for a check under several schedules what is to be said is this, with no premise on files: nothing was run, as of
-/// a check; or a text was read as a valid module, and the answer is of at most so many shadow runs with a fair setup, each with other
-/// picks of threads, up to the first that isn't clean. Under the schedule that is told the run is the one that is told, and what this
+/// a check; or a text was read as a valid module, and the answer is of at most so many shadow runs with a fair setup, each begun with
+/// other picks of threads, up to the first that isn't clean. Under the schedule that is told the run is the one that is told, and what this
 /// says holds under every fill. Where the answer says that all schedules were tried, and the run that is told is clean, then under each
 /// schedule there is, and whatever uninitialised memory holds, the program prints and ends as in one of these runs, with no report and no
 /// blind use.

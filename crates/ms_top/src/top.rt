@@ -32,8 +32,8 @@ use std::thread::Threads;
 /// the work are those of the runtime.
 ///
 /// The status is 77 for a run with a report, else 0 for one that is done, 3 for one that trapped and 4 for
-/// one whose steps were used up; of many runs 77, else 3, else 4 where one has it; 0 where a module, the usage or the
-/// version is written. It is 2 where the words are no command, 5 where the module is refused, 6 where a file can't be
+/// one whose steps were used up; of a corpus 77, else 3, else 4 where a run has it; of several schedules that of the run
+/// that is told; 0 where a module, the usage or the version is written. It is 2 where the words are no command, 5 where the module is refused, 6 where a file can't be
 /// read, 7 where a put failed, 8 where memory runs out, 9 where a file is too long. All memory is taken before the first
 /// put. Words that are no command read no file.
 pub fn msan<R: Threads + Sync, F: Files, O: Sink, E: Sink>(
