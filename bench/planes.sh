@@ -101,9 +101,7 @@ fn main(rt: HostRuntime) -> io::Result<()> {
     let sets = words.next().and_then(|word| word.parse::<u64>().ok()).unwrap_or(0);
     let copies = words.next().and_then(|word| word.parse::<u64>().ok()).unwrap_or(0);
     let writes = words.next().and_then(|word| word.parse::<u64>().ok()).unwrap_or(0);
-    let Ok(mut planes) = Planes::new(rt.alloc()) else {
-        return Ok(());
-    };
+    let mut planes = Planes::new(rt.alloc());
     let size = size % 0x10000000;
     let made = fill(&mut planes, count, size);
     let sum = access(&mut planes, count, reads, shadows, writes);

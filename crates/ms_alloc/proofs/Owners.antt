@@ -1,5 +1,5 @@
 -- Numbers of allocations, one for each 16 bytes that they take.
-use Rattle.std.proofs.Common.{◌≡◌, ℕ, zero, suc, ◌+◌, ◌-◌, ◌*◌, ◌/◌, ◌^◌, ◌<◌, ◌≤◌, List, [], ◌∷◌, ◌++◌, length, get_or, set, take, replicate, arith, refl, sym, ap, subst, ◌∙◌, inr, ⊎_elim, false, Result, Ok, Err, OnOk, is_ok, is_err, if◌then◌else◌}
+use Rattle.std.proofs.Common.{◌≡◌, ℕ, zero, suc, ◌+◌, ◌-◌, ◌*◌, ◌/◌, ◌^◌, ◌<◌, ◌≤◌, List, [], ◌∷◌, ◌++◌, length, get_or, set, take, replicate, arith, refl, sym, ap, subst, ◌∙◌, inr, ⊎_elim, false, Result, Ok, Err, is_ok, is_err, if◌then◌else◌}
 use Rattle.std.proofs.lemmas.Bool.{cases_lt}
 use Rattle.std.proofs.lemmas.List.{append-nil, append_assoc, length-append, length-replicate, take_all, get_or_default, get_or_append_left, get_or-append_right, get_or-replicate}
 use Rattle.ms_alloc.specs.declared.kinds.AllocKind.{AllocKind}
@@ -93,13 +93,9 @@ owned-push xs x owners n m c owned within pieces number small = record {
   small = omega (arith, small, used-append xs x);
 }
 
-pub made-ok : {T E X : Type 0} (r : Result T E) (new a b : X) → false ≡ is_err r → new ≡ (if is_ok r then a else b) → new ≡ a
+pub made-ok : {T E : Type 0} (r : Result T E) (new a b : List Allocation) → false ≡ is_err r → new ≡ (if is_ok r then a else b) → new ≡ a
 made-ok (Ok x) new a b f e = e
 made-ok (Err x) new a b f e = absurd (cc)
-
-pub ok-holds : {T E : Type 0} (r : Result T E) (P : Type 0) → false ≡ is_err r → OnOk r P → P
-ok-holds (Ok x) P f h = h
-ok-holds (Err x) P f h = absurd (cc)
 
 -- the first allocations alone
 pub take-past : (xs ys : List ℕ) (n j : ℕ) → length xs ≡ n → take (n + j) (xs ++ ys) ≡ xs ++ take j ys

@@ -1,8 +1,8 @@
 -- Which allocation of an area has an address: only the one that takes it can.
-use Rattle.std.proofs.Common.{◌≡◌, ◌≢◌, ℕ, ◌+◌, ◌<◌, ◌≤◌, ◌^◌, Bool, true, false, cond, eqb, List, ◌++◌, length, get_or, set, map, if◌then◌else◌, option_map, arith, refl, sym, ap, ◌∙◌, Option, Some, None, ◌⊎◌, inl, inr, ⊎_elim, is_some, subst, ◌||◌, MatchOption}
+use Rattle.std.proofs.Common.{◌≡◌, ◌≢◌, ℕ, ◌+◌, ◌<◌, ◌≤◌, Bool, true, false, cond, eqb, List, ◌++◌, length, get_or, set, map, if◌then◌else◌, option_map, arith, refl, sym, ap, ◌∙◌, Option, Some, None, ◌⊎◌, inl, inr, ⊎_elim, is_some, subst, ◌||◌, MatchOption}
 use Rattle.std.specs.List.{find}
 use Rattle.std.specs.Option.{option_or}
-use Rattle.std.proofs.lemmas.Bool.{cases_lt, and_from, and_left, and_parts, eq-eqb, eqb-true, ne_eqb}
+use Rattle.std.proofs.lemmas.Bool.{cases_lt, and_from, and_left, eq-eqb, ne_eqb}
 use Rattle.std.proofs.lemmas.List.{get_or_default}
 use Rattle.std.proofs.lemmas.Grind.{common_steps}
 use Rattle.std.proofs.lemmas.List.Folds.{find-append}
@@ -11,6 +11,8 @@ use Rattle.ms_alloc.specs.declared.kinds.AllocKind.TheVariants.{Fixed, Heap, Sta
 use Rattle.ms_alloc.specs.declared.allocations.Allocation.{Allocation}
 use Rattle.ms_alloc.specs.Layout.{room, area_base, area_limit}
 use Rattle.ms_alloc.specs.Allocations.{Allocations, IsArea, IsLaidOut, used, listed, of_kind, covers, is_block, is_good}
+use Rattle.ms_alloc.specs.declared.allocations.TablePlace.{TablePlace}
+use Rattle.ms_alloc.specs.Places.{IsPlace}
 use Rattle.ms_alloc.specs.Only.{IsOnly}
 use Rattle.ms_alloc.specs.Owners.{Has, IsOutside}
 use Rattle.ms_alloc.proofs.Rows.{row-from, row-to, row-apart, size-le}
@@ -158,6 +160,15 @@ owner-only k xs addr n o d some area has is = record {
 pub none-good : (t : Allocations) (addr n : ℕ) → 0 < n → find (covers addr n) (listed t) ≡ None → is_good addr n t ≡ false
 none-good t addr n some none = ap (λ (b : Bool). b || is_some (find (covers addr n) (listed t))) (ne_eqb n 0 (λ e. omega arith)) ∙ ap is_some none
 
+-- in its area, and so in the whole table
+pub place-listed : (r : Option TablePlace) (j k : AllocKind) (t : Allocations) (addr n : ℕ) → 0 < n → j ≡ k → find (covers addr n) (listed t) ≡ find (covers addr n) (of_kind k t) →
+    MatchOption r (find (covers addr n) (of_kind k t) ≡ None) (λ p. IsPlace j (of_kind k t) addr n p) →
+    MatchOption r (is_good addr n t ≡ false) (λ p. IsPlace p.kind (of_kind p.kind t) addr n p)
+place-listed None j k t addr n some here same none =
+    none-good t addr n some (same ∙ none)
+place-listed (Some p) j k t addr n some here same is =
+    subst (λ (i : AllocKind). IsPlace i (of_kind i t) addr n p) (sym (is.kind_is ∙ here)) (record { kind_is = is.kind_is ∙ here; only = is.only; base_is = is.base_is })
+
 -- below the first area nothing is found
 pub listed-below : (t : Allocations) (addr n : ℕ) → 0 < n → IsLaidOut t → addr < area_base Fixed → find (covers addr n) (listed t) ≡ None
 listed-below t addr n some laid low = listed-fixed t addr n some laid (omega arith) ∙ find-outside Fixed t.fixed addr n some laid.fixed (inl low)
@@ -165,13 +176,3 @@ listed-below t addr n some laid low = listed-fixed t addr n some laid (omega ari
 -- an answer that is nothing
 pub none-matches : {X : Type 0} (P : Type 0) (Q : X → Type 0) (r : Option X) → r ≡ None → P → MatchOption r P Q
 none-matches P Q r is p = subst (λ (o : Option _). MatchOption o P Q) (sym is) p
-
--- a live block of the heap stands in the heap
-pub block-above : (xs : List Allocation) (base i : ℕ) → IsArea Heap xs → IsOnly (is_block base) xs i → area_base Heap ≤ base
-block-above xs base i area only =
-    let d : Allocation = record { base = base; size = 0; kind = Heap; live = true } in
-    omega (arith, row-from Heap (area_base Heap) xs area.row i d only.within, eqb-true (get_or xs i d).base base (and_parts (get_or xs i d).live (eqb (get_or xs i d).base base) (only.passes d)).1)
-
-pub size-small : (xs : List Allocation) (i : ℕ) (a : Allocation) → IsArea Heap xs → i < length xs → a ≡ get_or xs i a → a.size ≤ 2 ^ 26
-size-small xs i a area inside is =
-    omega (arith, ap (λ (b : Allocation). b.size) is, size-le (get_or xs i a).size, row-from Heap (area_base Heap) xs area.row i a inside, row-to Heap (area_base Heap) xs area.row i a inside, area.within)

@@ -1,5 +1,5 @@
 -- Rows of allocations: where each stands, and that a row grows and shrinks at its end.
-use Rattle.std.proofs.Common.{◌≡◌, ℕ, zero, suc, ◌+◌, ◌-◌, ◌<◌, ◌≤◌, List, [], ◌∷◌, ◌++◌, length, get_or, take, arith, refl, sym, ap, ◌∙◌, set, subst, ◌^◌}
+use Rattle.std.proofs.Common.{◌≡◌, ℕ, zero, suc, ◌+◌, ◌-◌, ◌<◌, ◌≤◌, List, [], ◌∷◌, ◌++◌, length, get_or, arith, refl, sym, ap, ◌∙◌, set, subst, ◌^◌}
 use Rattle.std.specs.List.Sorted.{IsNonDecreasingBy}
 use Rattle.ms_alloc.specs.declared.kinds.AllocKind.{AllocKind}
 use Rattle.ms_alloc.specs.declared.kinds.AllocKind.TheVariants.{Fixed, Heap, Stack}
@@ -12,12 +12,6 @@ pub row-from : (k : AllocKind) (b : ℕ) (xs : List Allocation) → IsRow k b xs
 row-from k b [] r i d h = absurd (omega arith)
 row-from k b (a ∷ as') r zero d h = omega (arith, r.0)
 row-from k b (a ∷ as') r (suc i) d h = omega (arith, row-from k (b + room a.size) as' r.2 i d (omega arith))
-
--- it begins where those before it end
-pub row-at : (k : AllocKind) (b : ℕ) (xs : List Allocation) → IsRow k b xs → (i : ℕ) (d : Allocation) → i < length xs → (get_or xs i d).base ≡ b + used (take i xs)
-row-at k b [] r i d h = absurd (omega arith)
-row-at k b (a ∷ as') r zero d h = omega (arith, r.0)
-row-at k b (a ∷ as') r (suc i) d h = omega (arith, row-at k (b + room a.size) as' r.2 i d (omega arith))
 
 -- an allocation and what it takes end within the row
 pub row-to : (k : AllocKind) (b : ℕ) (xs : List Allocation) → IsRow k b xs → (i : ℕ) (d : Allocation) → i < length xs → (get_or xs i d).base + room (get_or xs i d).size ≤ b + used xs

@@ -1,5 +1,5 @@
 -- The table of allocations: three lists, one for each area, in order of address, which is the order of making.
-use Rattle.std.specs.Prelude.{◌≡◌, ◌≤◌, ℕ, ◌+◌, Bool, true, false, ◌&&◌, ◌||◌, not, List, [], ◌∷◌, ◌++◌, get_or, map, filter, find, eqb, leb, Option, is_some, option_map, if◌then◌else◌}
+use Rattle.std.specs.Prelude.{◌≡◌, ◌≤◌, ℕ, ◌+◌, Bool, true, false, ◌&&◌, ◌||◌, not, List, [], ◌∷◌, ◌++◌, map, filter, find, eqb, leb, Option, is_some, option_map, if◌then◌else◌}
 use Rattle.ms_alloc.specs.declared.kinds.AllocKind.{AllocKind}
 use Rattle.ms_alloc.specs.declared.kinds.AllocKind.TheVariants.{Fixed, Heap, Stack}
 use Rattle.ms_alloc.specs.declared.allocations.Allocation.{Allocation}
@@ -19,13 +19,6 @@ abbrev pub of_kind : AllocKind → Allocations → List Allocation
 of_kind Fixed t = t.fixed
 of_kind Heap t = t.heap
 of_kind Stack t = t.stack
-
--- the areas by their numbers
-abbrev pub table_of : List (List Allocation) → Allocations
-table_of as' = record { fixed = get_or as' 0 []; heap = get_or as' 1 []; stack = get_or as' 2 [] }
-
-abbrev pub area_at : ℕ → Allocations → List Allocation
-area_at i t = get_or (t.fixed ∷ t.heap ∷ t.stack ∷ []) i []
 
 -- all allocations, in order of address
 abbrev pub listed : Allocations → List Allocation

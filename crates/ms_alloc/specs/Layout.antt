@@ -9,12 +9,6 @@ area_base Fixed = 0x700000000000
 area_base Heap = 0x710000000000
 area_base Stack = 0x720000000000
 
--- the number of an area, in order of address: its first address is 112 + this, times 2 ^ 40
-abbrev pub area_index : AllocKind → ℕ
-area_index Fixed = 0
-area_index Heap = 1
-area_index Stack = 2
-
 -- what the allocations of an area may take together
 abbrev pub area_limit : AllocKind → ℕ
 area_limit Fixed = 2 ^ 24

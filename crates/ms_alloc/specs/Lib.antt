@@ -2,5 +2,4 @@ pub mod Layout
 pub mod Allocations
 pub mod Only
 pub mod Owners
-pub mod Counts
-pub mod Spots
+pub mod Places

@@ -32,11 +32,13 @@ impl Allocation {
     }
 }
 
-/// Where live bytes stand.
+/// Where an allocation stands in a table.
 #[derive(Clone, Copy, Debug)]
-pub struct Spot {
-    /// The number of their area.
-    pub area: usize,
-    /// How many bytes of the area stand before them.
-    pub at: u64,
+pub struct TablePlace {
+    /// Its area.
+    pub kind: AllocKind,
+    /// How many allocations stand before it in the list of its area.
+    pub index: usize,
+    /// The address of its first byte.
+    pub base: u64,
 }

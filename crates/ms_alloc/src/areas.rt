@@ -2,9 +2,9 @@
 ghost use Rattle.std.specs.Prelude.{◌≡◌, ◌<◌, ◌≤◌, ◌+◌, ◌^◌, ◌∷◌, ◌++◌, [], true, false, not, leb, find, filter, map, take, length, IfOk, OnOk, OnErr, MatchOption, IsErr, IsErrOf, IsTrue, ◌↔◌, Some, None, option_map, if◌then◌else◌};
 ghost use Rattle.ms_alloc.specs.declared.kinds.AllocKind.TheVariants.{Heap, Stack};
 ghost use Rattle.ms_alloc.specs.{Layout.{room, area_base, area_limit}, Allocations.{IsArea, used, covers, is_block}};
-ghost use Rattle.ms_alloc.specs.{Only.{IsOnly}, Owners.{IsOwned, Has, IsOutside}, Counts.{counts, counts_of, cleared, IsNear}};
+ghost use Rattle.ms_alloc.specs.{Only.{IsOnly}, Places.{IsPlace}, Owners.{IsOwned, Has, IsOutside}};
 
-use crate::allocations::Allocation;
+use crate::allocations::{Allocation, TablePlace};
 use crate::errors::{AllocError, BadFree};
 use crate::kinds::AllocKind;
 use std::alloc::Global;
@@ -36,33 +36,6 @@ pub(crate) fn has_room(kind: AllocKind, used: u64, size: u64) -> bool
 {
     let left = kind.limit() - used;
     size <= left && room_of(size) <= left
-}
-
-/// The counts of one more allocation that is live. Where memory runs out the list is as it was.
-fn push_counts(live: &mut Vec<u8>, size: u64) -> Result<(), std::alloc::AllocError>
-    requires small { size ≤ 2 ^ 26 }
-    requires few { length live.old.items ≤ 2 ^ 26 }
-    ensures pushed { OnOk result (live.new.items ≡ live.old.items ++ counts true size) }
-    ensures unchanged { OnErr result (live.new.items ≡ live.old.items) }
-{
-    let room = room_of(size);
-    let taken = live.len();
-    live.resize(taken + (room / 16) as usize - 1, 16)?;
-    if live.push((size + 16 - room) as u8).is_err() {
-        live.truncate(taken);
-        return Err(std::alloc::AllocError);
-    }
-    Ok(())
-}
-
-/// Makes `n` counts from one on 0.
-fn clear(counts: &mut [u8], first: usize, n: usize)
-    requires { first + n ≤ length counts.old }
-    ensures { counts.new ≡ cleared first n counts.old }
-{
-    for i in 0..n {
-        counts[first + i] = 0;
-    }
 }
 
 /// One more allocation, which takes the bytes after those that are taken. Where memory runs out both lists are as
@@ -109,20 +82,17 @@ pub(crate) struct Area {
     made: Vec<Allocation>,
     /// For each 16 bytes that are taken, the number of the allocation that takes them.
     owners: Vec<u32>,
-    /// For each 16 bytes that are taken, how many of them are live: the first of them, since allocations begin at
-    /// multiples of 16.
-    live: Vec<u8>,
 }
 
 impl Model for Area {
-    ghost use Rattle.std.specs.Prelude.{◌≡◌, List};
-    ghost use Rattle.ms_alloc.specs.{declared.allocations.Allocation.{Allocation}, Owners.{IsOwned}, Counts.{counts_of}};
+    ghost use Rattle.std.specs.Prelude.{List};
+    ghost use Rattle.ms_alloc.specs.{declared.allocations.Allocation.{Allocation}, Owners.{IsOwned}};
 
     ghost Value = { List Allocation };
 
     ghost view = { λ a. a.made.items };
 
-    ghost invariant = { λ a. IsOwned a.made.items a.owners.items × (a.live.items ≡ counts_of a.made.items) };
+    ghost invariant = { λ a. IsOwned a.made.items a.owners.items };
 }
 
 impl Area {
@@ -133,24 +103,7 @@ impl Area {
         Area {
             made: Vec::new(alloc),
             owners: Vec::new(alloc),
-            live: Vec::new(alloc),
         }
-    }
-
-    /// Whether the `n` bytes so far from the first of the area lie in one piece of 16 and are live: true only where they are
-    /// good, which most that a program accesses are by this alone.
-    #[inline(always)]
-    pub(crate) fn is_near(&self, at: u64, n: u64) -> bool
-        ensures { IsTrue result → IsNear self.now at n }
-    {
-        let piece = at / 16;
-        if n > 16 {
-            return false;
-        }
-        if piece >= self.live.len() as u64 {
-            return false;
-        }
-        at % 16 + n <= u64::from(self.live[piece as usize])
     }
 
     /// What the allocations take.
@@ -181,12 +134,7 @@ impl Area {
             kind,
             live,
         };
-        let taken = self.live.len();
-        push_counts(&mut self.live, size)?;
-        if push(&mut self.made, &mut self.owners, allocation).is_err() {
-            self.live.truncate(taken);
-            return Err(AllocError::NoMemory);
-        }
+        push(&mut self.made, &mut self.owners, allocation)?;
         Ok(base)
     }
 
@@ -233,8 +181,28 @@ impl Area {
         Some(self.made[index])
     }
 
+    /// The place of that allocation.
+    #[inline(always)]
+    pub(crate) fn place_of(&self, kind: AllocKind, addr: u64, n: u64) -> Option<TablePlace>
+        requires area { IsArea kind self.now }
+        requires from { area_base kind ≤ addr }
+        requires some { 0 < n }
+        ensures { MatchOption result (find (covers addr n) self.now ≡ None) (λ p. IsPlace kind self.now addr n p) }
+    {
+        let index = self.place_covering(kind, addr, n)?;
+        let base = self.made[index].base;
+        Some(TablePlace { kind, index, base })
+    }
+
+    /// The number of allocations.
+    pub(crate) fn count(&self) -> usize
+        ensures { result ≡ length self.now }
+    {
+        self.made.len()
+    }
+
     /// The place of the live block of the heap that begins at `base`.
-    fn place_of_block(&self, base: u64) -> Option<usize>
+    pub(crate) fn place_of_block(&self, base: u64) -> Option<usize>
         requires { IsArea Heap self.now }
         ensures { MatchOption result (find (is_block base) self.now ≡ None) (IsOnly (is_block base) self.now) }
     {
@@ -272,13 +240,7 @@ impl Area {
             None => Err(BadFree),
             Some(place) => {
                 let size = self.made[place].size;
-                let first = (base - AllocKind::Heap.base()) / 16;
                 self.made[place].live = false;
-                clear(
-                    &mut self.live,
-                    first as usize,
-                    (room_of(size) / 16) as usize,
-                );
                 Ok(size)
             }
         }
@@ -293,6 +255,5 @@ impl Area {
         cut_off(&mut self.made, mark);
         let used = used_of(AllocKind::Stack, &self.made);
         self.owners.truncate((used / 16) as usize);
-        self.live.truncate((used / 16) as usize);
     }
 }

@@ -1,6 +1,6 @@
 //! The three areas of memory.
 ghost use Rattle.std.specs.Prelude.{◌≡◌};
-ghost use Rattle.ms_alloc.specs.Layout.{area_base, area_index, area_limit};
+ghost use Rattle.ms_alloc.specs.Layout.{area_base, area_limit};
 
 /// What an allocation is for, which decides the area that it stands in.
 #[derive(Clone, Copy, Debug, PartialEq, Eq)]
@@ -22,17 +22,6 @@ impl AllocKind {
             AllocKind::Fixed => 0x7000_0000_0000,
             AllocKind::Heap => 0x7100_0000_0000,
             AllocKind::Stack => 0x7200_0000_0000,
-        }
-    }
-
-    /// The number of the area among the three, in order of address.
-    pub const fn index(self) -> usize
-        ensures { result ≡ area_index self }
-    {
-        match self {
-            AllocKind::Fixed => 0,
-            AllocKind::Heap => 1,
-            AllocKind::Stack => 2,
         }
     }
 

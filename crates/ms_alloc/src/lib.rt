@@ -11,7 +11,7 @@ mod errors;
 mod kinds;
 mod tables;
 
-pub use allocations::{Allocation, Spot};
+pub use allocations::{Allocation, TablePlace};
 pub use areas::room_of;
 pub use errors::{AllocError, BadFree};
 pub use kinds::AllocKind;

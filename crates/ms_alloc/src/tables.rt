@@ -3,7 +3,7 @@ ghost use Rattle.std.specs.Prelude.{◌≡◌, ◌≤◌, ◌<◌, ◌+◌, find
 ghost use Rattle.ms_alloc.specs.declared.kinds.AllocKind.TheVariants.{Fixed, Heap, Stack};
 ghost use Rattle.ms_alloc.specs.Layout.{room, area_base, area_limit, IsReached};
 
-use crate::allocations::{Allocation, Spot};
+use crate::allocations::{Allocation, TablePlace};
 use crate::areas::{Area, has_room};
 use crate::errors::{AllocError, BadFree};
 use crate::kinds::AllocKind;
@@ -13,25 +13,20 @@ use std::marker::Model;
 /// The allocations of a run. Contracts see three lists, one for each area, in order of address.
 #[derive(Debug, Drop)]
 pub struct Table {
-    areas: [Area; 3],
+    fixed: Area,
+    heap: Area,
+    stack: Area,
 }
 
 impl Model for Table {
-    ghost use Rattle.std.specs.Prelude.{◌≡◌, length};
-    ghost use Rattle.ms_alloc.specs.Allocations.{Allocations, IsLaidOut, table_of};
+    ghost use Rattle.ms_alloc.specs.Allocations.{Allocations, IsLaidOut};
 
     ghost Value = { Allocations };
 
-    ghost view = { λ t. table_of t.areas };
+    ghost view = { λ t. record { fixed = t.fixed; heap = t.heap; stack = t.stack } };
 
-    ghost invariant = { λ t. IsLaidOut (table_of t.areas) × (length t.areas ≡ 3) };
+    ghost invariant = { λ t. IsLaidOut (record { fixed = t.fixed; heap = t.heap; stack = t.stack }) };
 }
-
-/// How far apart the areas begin.
-const SPAN: u64 = 1 << 40;
-
-/// How many times that the first of them begins.
-const FIRST: u64 = 0x70;
 
 /// The area whose addresses reach `addr`, if one begins at or below it. Inlined with what asks it, so that the area is
 /// decided once.
@@ -51,8 +46,8 @@ fn kind_at(addr: u64) -> Option<AllocKind>
 }
 
 impl Table {
-    ghost use Rattle.ms_alloc.specs.Allocations.{no_allocations, next_base, used, of_kind, with_made, with_ended, without_from, is_good, block_of, heap_size, listed, covers, IsLaidOut};
-    ghost use Rattle.ms_alloc.specs.Spots.{IsSpot};
+    ghost use Rattle.ms_alloc.specs.Allocations.{no_allocations, next_base, used, of_kind, with_made, with_ended, without_from, is_good, block_of, heap_size, listed, covers, is_block, IsLaidOut};
+    ghost use Rattle.ms_alloc.specs.{Only.{IsOnly}, Places.{IsPlace}};
 
     /// A table without allocations. Takes no memory yet.
     pub fn new(alloc: Global) -> Table
@@ -60,7 +55,9 @@ impl Table {
         ensures laid_out { IsLaidOut result }
     {
         Table {
-            areas: [Area::new(alloc), Area::new(alloc), Area::new(alloc)],
+            fixed: Area::new(alloc),
+            heap: Area::new(alloc),
+            stack: Area::new(alloc),
         }
     }
 
@@ -82,7 +79,11 @@ impl Table {
         ensures full { IsErrOf result AllocError.Full ↔ (area_limit kind < used (of_kind kind self.old) + room size) }
         ensures unchanged { OnErr result (self.new ≡ self.old) }
     {
-        self.areas[kind.index()].append(kind, size)
+        match kind {
+            AllocKind::Fixed => self.fixed.append(kind, size),
+            AllocKind::Heap => self.heap.append(kind, size),
+            AllocKind::Stack => self.stack.append(kind, size),
+        }
     }
 
     /// Ends the live heap block that begins at `base`, and returns its size. It stays in the table, not live.
@@ -95,7 +96,7 @@ impl Table {
         ensures bad_free { IsErr result ↔ (heap_size base self.old ≡ None) }
         ensures unchanged { OnErr result (self.new ≡ self.old) }
     {
-        self.areas[AllocKind::Heap.index()].end(base)
+        self.heap.end(base)
     }
 
     /// Where the next allocation of an area begins.
@@ -117,7 +118,7 @@ impl Table {
         ensures released { self.new ≡ without_from mark self.old }
         ensures laid_out { IsLaidOut self.new }
     {
-        self.areas[AllocKind::Stack.index()].cut(mark);
+        self.stack.cut(mark);
     }
 
     /// Whether an access of `n` bytes from `addr` on is good: it has no bytes, or all its bytes lie in one live
@@ -140,44 +141,48 @@ impl Table {
     pub fn heap_size(&self, base: u64) -> Option<u64>
         ensures { result ≡ heap_size base self.now }
     {
-        self.areas[AllocKind::Heap.index()].block_size(base)
+        self.heap.block_size(base)
     }
 
-    /// Where the `n` bytes from `addr` on stand; `None` exactly where they aren't good. Where they lie in one piece of 16 bytes
-    /// this asks how many of the piece are live, else for the allocation that takes them.
+    /// Where the live allocation stands that has the `n` bytes from `addr` on; `None` exactly where none has them.
     #[inline(always)]
-    pub fn spot(&self, addr: u64, n: u64) -> Option<Spot>
+    pub fn place_of(&self, addr: u64, n: u64) -> Option<TablePlace>
         requires { 0 < n }
-        ensures { MatchOption result (is_good addr n self.now ≡ false) (IsSpot self.now addr n) }
-    {
-        let area = (addr / SPAN).wrapping_sub(FIRST) as usize;
-        let at = addr % SPAN;
-        if area < 3 && self.areas[area].is_near(at, n) {
-            return Some(Spot { area, at });
-        }
-        self.far_spot(addr, n)
-    }
-
-    /// The same by the allocation that takes the bytes.
-    #[cold]
-    #[inline(never)]
-    fn far_spot(&self, addr: u64, n: u64) -> Option<Spot>
-        requires { 0 < n }
-        ensures { MatchOption result (is_good addr n self.now ≡ false) (IsSpot self.now addr n) }
+        ensures { MatchOption result (is_good addr n self.now ≡ false) (λ p. IsPlace p.kind (of_kind p.kind self.now) addr n p) }
     {
         self.law_laid_out();
         let kind = kind_at(addr)?;
-        let area = kind.index();
-        self.areas[area].covering(kind, addr, n)?;
-        let at = addr - kind.base();
-        Some(Spot { area, at })
+        match kind {
+            AllocKind::Fixed => self.fixed.place_of(kind, addr, n),
+            AllocKind::Heap => self.heap.place_of(kind, addr, n),
+            AllocKind::Stack => self.stack.place_of(kind, addr, n),
+        }
+    }
+
+    /// How many allocations stand before the live heap block that begins at `base`; `None` exactly where none begins
+    /// there.
+    pub fn place_of_block(&self, base: u64) -> Option<usize>
+        ensures { MatchOption result (heap_size base self.now ≡ None) (IsOnly (is_block base) self.now.heap) }
+    {
+        self.heap.place_of_block(base)
+    }
+
+    /// How many allocations an area has, ended ones among them.
+    pub fn count(&self, kind: AllocKind) -> usize
+        ensures { result ≡ length (of_kind kind self.now) }
+    {
+        match kind {
+            AllocKind::Fixed => self.fixed.count(),
+            AllocKind::Heap => self.heap.count(),
+            AllocKind::Stack => self.stack.count(),
+        }
     }
 
     /// What every table has: in each area an allocation begins where the one before it ends, and all keep its limit.
     pub fn law_laid_out(&self)
         ensures { IsLaidOut self.now }
     {
-        let _ = &self.areas;
+        let _ = &self.fixed;
     }
 
     /// What the allocations of an area take.
@@ -185,7 +190,11 @@ impl Table {
         ensures used { result ≡ used (of_kind kind self.now) }
         ensures within { result ≤ area_limit kind }
     {
-        self.areas[kind.index()].used()
+        match kind {
+            AllocKind::Fixed => self.fixed.used(),
+            AllocKind::Heap => self.heap.used(),
+            AllocKind::Stack => self.stack.used(),
+        }
     }
 
     /// The live allocation that has the `n` bytes from `addr` on.
@@ -196,6 +205,10 @@ impl Table {
     {
         self.law_laid_out();
         let kind = kind_at(addr)?;
-        self.areas[kind.index()].covering(kind, addr, n)
+        match kind {
+            AllocKind::Fixed => self.fixed.covering(kind, addr, n),
+            AllocKind::Heap => self.heap.covering(kind, addr, n),
+            AllocKind::Stack => self.stack.covering(kind, addr, n),
+        }
     }
 }

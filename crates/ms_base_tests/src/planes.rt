@@ -277,10 +277,8 @@ fn all_agree<R: Eprint>(rt: &R, planes: &mut Planes, steps: &[Step]) -> bool {
 
 /// Whether a history holds of new planes.
 fn is_so<R: Eprint>(rt: &R, alloc: Global, steps: &[Step]) -> bool {
-    match Planes::new(alloc) {
-        Ok(mut planes) => all_agree(rt, &mut planes, steps),
-        Err(_) => false,
-    }
+    let mut planes = Planes::new(alloc);
+    all_agree(rt, &mut planes, steps)
 }
 
 #[test]

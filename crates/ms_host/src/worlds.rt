@@ -58,7 +58,7 @@ impl World {
         let fill = List::from_vec(Vec::from_slice(alloc, fill)?);
         let slots = Slots::new(alloc)?;
         Ok(World {
-            planes: Planes::new(alloc)?,
+            planes: Planes::new(alloc),
             slots,
             input,
             at: 0,

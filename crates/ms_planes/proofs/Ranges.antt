@@ -1,8 +1,8 @@
 -- A map changed in a range: what it holds inside and outside, and the last place of the range.
-use Rattle.std.proofs.Common.{◌≡◌, ◌≢◌, ℕ, zero, suc, ◌+◌, ◌-◌, ◌/◌, ◌<◌, ◌≤◌, Bool, true, false, List, ◌++◌, length, get_or, set, take, drop, replicate, refl, sym, ap, ◌∙◌, arith, ⊎_elim, if◌then◌else◌, eqb, Some, None}
+use Rattle.std.proofs.Common.{◌≡◌, ◌≢◌, ℕ, zero, suc, ◌+◌, ◌-◌, ◌/◌, ◌<◌, ◌≤◌, Bool, true, false, List, ◌++◌, length, get_or, set, take, drop, refl, sym, ap, ◌∙◌, arith, ⊎_elim, if◌then◌else◌, eqb, Some, None}
 use Rattle.std.proofs.Math.Path.{fun_ext}
 use Rattle.std.proofs.lemmas.Bool.{le-leb, lt-leb, lt-ltb, le-ltb, cases_lt, cases_eq, eq-eqb, ne_eqb, and_from, and_left, and_right}
-use Rattle.std.proofs.lemmas.List.{length-take-le, length-take, length-drop, length-append, get_or-set_other, get_or-set_same, get_or_append_left, get_or-append_right, get_or-take, get_or-drop, get_or_past, get_or-replicate, length-replicate}
+use Rattle.std.proofs.lemmas.List.{length-take-le, length-take, length-drop, length-append, get_or-set_other, get_or-set_same, get_or_append_left, get_or-append_right, get_or-take, get_or-drop, get_or_past}
 use Rattle.ms_bits.specs.Maps.{within, with_range, first_nonzero, touches, with_cells, with_cell, copied_cells}
 use Rattle.ms_planes.specs.Areas.{held}
 
@@ -87,31 +87,6 @@ splice len at n k d w r lw kn inside le =
 pub range-same : (f g h : ℕ → ℕ) (a n : ℕ) → ((k : ℕ) → k < n → g k ≡ h k) → with_range f a n g ≡ with_range f a n h
 range-same f g h a n same =
     range-is f h (with_range f a n g) a n (λ x low. range-low f g a n x low) (λ x high. range-high f g a n x high) (λ x low high. range-in f g a n x low high ∙ same (x - a) (omega arith))
-
--- a range and the next one
-pub range-join : (f g h : ℕ → ℕ) (a b n m : ℕ) → b ≡ a + n → ((k : ℕ) → k < m → h k ≡ g (n + k)) → with_range (with_range f a n g) b m h ≡ with_range f a (n + m) g
-range-join f g h a b n m at same =
-    range-is f g (with_range (with_range f a n g) b m h) a (n + m)
-    (λ x low. range-low (with_range f a n g) h b m x (omega (arith, at, low)) ∙ range-low f g a n x low)
-    (λ x high. range-high (with_range f a n g) h b m x (omega (arith, at, high)) ∙ range-high f g a n x (omega (arith, high)))
-    (λ x low high. ⊎_elim
-    (λ (p : x < b). range-low (with_range f a n g) h b m x p ∙ range-in f g a n x low (omega (arith, p, at)))
-    (λ (p : b ≤ x). range-in (with_range f a n g) h b m x p (omega (arith, high, at)) ∙ same (x - b) (omega (arith, high, at, p)) ∙ ap g (let e : n + (x - b) ≡ x - a = omega (arith, at, p) in e))
-    (cases_lt x b))
-
--- a list in the place of the first of many zeros
-pub range-zeros : (xs : List ℕ) (n m : ℕ) (h : ℕ → ℕ) → length xs ≤ m → ((k : ℕ) → h k ≡ held xs k) → with_range (held (replicate n 0)) 0 m h ≡ held xs
-range-zeros xs n m h long same =
-    sym (range-is (held (replicate n 0)) h (held xs) 0 m
-    (λ x low. absurd (omega (arith, low)))
-    (λ x high. get_or_past xs x 0 (omega (arith, high, long)) ∙ sym (zero-at x))
-    (λ x low high. sym (same x) ∙ ap h (let e : x ≡ x - 0 = omega arith in e)))
-  where
-    zero-at : (x : ℕ) → held (replicate n 0) x ≡ 0
-    zero-at x = ⊎_elim
-        (λ (low : x < n). get_or-replicate n x 0 0 low)
-        (λ (high : n ≤ x). get_or_past (replicate n 0) x 0 (omega (arith, high, length-replicate {A = ℕ} n 0)))
-        (cases_lt x n)
 
 -- the first byte of a range that isn't 0
 pub nonzero-found : (f : ℕ → ℕ) (a n i : ℕ) → i < n → f (a + i) ≢ 0 → ((k : ℕ) → k < i → f (a + k) ≡ 0) → Some (a + i) ≡ first_nonzero f a n

@@ -1,27 +1,49 @@
--- The memory of a run: the table of allocations, and for each area a block of bytes, shadow and origins.
-use Rattle.std.specs.Prelude.{◌≡◌, ◌≤◌, ◌<◌, ◌+◌, ◌*◌, ◌-◌, ◌/◌, ◌%◌, ◌^◌, ℕ, List, [], ◌∷◌, length, get_or, ltb, if◌then◌else◌, IsTrue}
+-- The memory of a run: the table of allocations, and a block of bytes, shadow and origins for each that is live.
+use Rattle.std.specs.Prelude.{◌≡◌, ◌*◌, ◌-◌, ◌/◌, ℕ, List, [], ◌∷◌, map, length, get_or, false, true, ltb, if◌then◌else◌, IsTrue, Option, Some, None, Vec}
+use Rattle.std.specs.Global.{Global}
+use Rattle.ms_alloc.specs.declared.kinds.AllocKind.{AllocKind}
 use Rattle.ms_alloc.specs.declared.kinds.AllocKind.TheVariants.{Fixed, Heap, Stack}
-use Rattle.ms_alloc.specs.Layout.{area_limit}
-use Rattle.ms_alloc.specs.Allocations.{Allocations, IsLaidOut, area_at, used, is_good}
-use Rattle.ms_raw.specs.Blocks.{Lists, IsLists, blank}
+use Rattle.ms_alloc.specs.declared.allocations.Allocation.{Allocation}
+use Rattle.ms_alloc.specs.Layout.{area_base}
+use Rattle.ms_alloc.specs.Allocations.{Allocations, IsLaidOut, of_kind, covers, is_good}
+use Rattle.ms_raw.specs.Blocks.{Lists, IsLists}
 use Rattle.ms_planes.specs.declared.parts.Plane.{Plane}
 use Rattle.ms_planes.specs.declared.parts.Plane.TheVariants.{Bytes, Shadow}
 use Rattle.ms_planes.specs.Areas.{held}
 use Rattle.ms_planes.specs.Blocks.{bytes_in, other}
 use Rattle.ms_bits.specs.Maps.{copied, copied_cells}
 
--- the table, and the bytes of each area from its first on
+-- the contents of vectors
+abbrev pub lists : List (Vec (Option Lists) Global) → List (List (Option Lists))
+lists vs = map (λ v. v.items) vs
+
+-- the table, and for each area, in order of address, the blocks of its allocations; an ended one has none
 pub record Memory : Type 0 where
   pub table : Allocations
-  pub areas : List Lists
+  pub blocks : List (List (Option Lists))
 
--- the bytes of the area with a number
-abbrev pub area : ℕ → Memory → Lists
-area i m = get_or m.areas i (blank 0)
+abbrev pub area_index : AllocKind → ℕ
+area_index Fixed = 0
+area_index Heap = 1
+area_index Stack = 2
 
--- what is read at an address: in its area, as far from the first of it; 0 below all areas
+-- the area whose addresses reach one
+abbrev pub kind_of : ℕ → AllocKind
+kind_of addr = if ltb addr (area_base Heap) then Fixed else (if ltb addr (area_base Stack) then Heap else Stack)
+
+-- what is read of a block
+abbrev pub read : (Lists → ℕ → ℕ) → Option Lists → ℕ → ℕ
+read f None o = 0
+read f (Some l) o = f l o
+
+-- what is read at an address: of the block of the live allocation that has it, and 0 where none has
+abbrev pub found : (Lists → ℕ → ℕ) → List Allocation → List (Option Lists) → ℕ → ℕ
+found f [] bs addr = 0
+found f (a ∷ as') [] addr = 0
+found f (a ∷ as') (b ∷ bs) addr = if covers addr 1 a then read f b (addr - a.base) else found f as' bs addr
+
 abbrev pub shown : (Lists → ℕ → ℕ) → Memory → ℕ → ℕ
-shown f m addr = if ltb addr (112 * 2 ^ 40) then 0 else f (area (addr / 2 ^ 40 - 112) m) (addr % 2 ^ 40)
+shown f m addr = found f (of_kind (kind_of addr) m.table) (get_or m.blocks (area_index (kind_of addr)) []) addr
 
 -- the byte at an address, or its shadow byte
 abbrev pub part_of : Plane → Memory → ℕ → ℕ
@@ -63,18 +85,19 @@ pub record KeepsLive (old new : Memory) : Type 0 where
   pub shadow : (addr : ℕ) → IsTrue (is_good addr 1 new.table) → shadow_of new addr ≡ shadow_of old addr
   pub origins : (addr : ℕ) → IsTrue (is_good addr 1 new.table) → origins_of new (addr / 4) ≡ origins_of old (addr / 4)
 
--- what the allocations of the area with a number may take
-abbrev pub limit_at : ℕ → ℕ
-limit_at i = get_or (area_limit Fixed ∷ area_limit Heap ∷ area_limit Stack ∷ []) i 0
+-- the block of an allocation has as many bytes as were asked for; an ended allocation has none
+abbrev pub IsBlockOf : Allocation → Option Lists → Type 0
+IsBlockOf a None = a.live ≡ false
+IsBlockOf a (Some l) = (a.live ≡ true) × IsLists a.size l
 
--- an area has at least the bytes that are taken, and no more than may be
-pub record IsAreaOf (least limit : ℕ) (l : Lists) : Type 0 where
-  pub whole : IsLists (length l.bytes) l
-  pub taken : least ≤ length l.bytes
-  pub within : length l.bytes ≤ limit
+abbrev pub AreBlocksOf : List Allocation → List (Option Lists) → Type 0
+AreBlocksOf [] [] = Unit {0}
+AreBlocksOf [] (b ∷ bs) = ⊥
+AreBlocksOf (a ∷ as') [] = ⊥
+AreBlocksOf (a ∷ as') (b ∷ bs) = IsBlockOf a b × AreBlocksOf as' bs
 
 -- what every memory has
 pub record IsMemory (m : Memory) : Type 0 where
   pub laid_out : IsLaidOut m.table
-  pub three : length m.areas ≡ 3
-  pub areas : (i : ℕ) → i < 3 → IsAreaOf (used (area_at i m.table)) (limit_at i) (area i m)
+  pub three : length m.blocks ≡ 3
+  pub blocks : (k : AllocKind) → AreBlocksOf (of_kind k m.table) (get_or m.blocks (area_index k) [])

@@ -6,7 +6,6 @@ mod copies;
 mod origins;
 mod parts;
 mod planes;
-mod runs;
 pub mod words;
 
 pub use planes::Planes;

@@ -1,27 +1,23 @@
 //! The origins of one block, one for each cell of four bytes.
 ghost use Rattle.std.specs.Prelude.{◌≡◌, ◌≤◌, ◌<◌, ◌+◌, ◌*◌, ◌/◌, ◌^◌, length};
-ghost use Rattle.ms_bits.specs.Maps.{with_range, with_cells, copied_cells};
+ghost use Rattle.ms_bits.specs.Maps.{with_range, copied_cells};
 ghost use Rattle.ms_raw.specs.Blocks.{cells};
 ghost use Rattle.ms_planes.specs.Areas.{held};
 
 use crate::parts::{Plane, four_at, is_clean};
 use ms_raw::Block;
 
-/// Puts an origin into each cell that `n` bytes from place `at` on touch.
-pub(crate) fn fill_origins(block: &mut Block, at: u64, n: u64, origin: u32)
-    requires within { at + n ≤ length block.old.bytes }
+/// Puts an origin into the `n` cells from `first` on.
+pub(crate) fn fill_origins(block: &mut Block, first: u64, n: u64, origin: u32)
+    requires within { first + n ≤ cells (length block.old.bytes) }
     requires lists { length block.old.origins ≡ cells (length block.old.bytes) }
-    requires small { at + n < 2 ^ 40 }
-    ensures shown { held block.new.origins ≡ with_cells (held block.old.origins) at n origin }
+    requires small { first + n < 2 ^ 40 }
+    ensures shown { held block.new.origins ≡ with_range (held block.old.origins) first n (λ k. origin) }
     ensures len { length block.new.origins ≡ length block.old.origins }
     ensures bytes { block.new.bytes ≡ block.old.bytes }
     ensures shadow { block.new.shadow ≡ block.old.shadow }
 {
-    if n == 0 {
-        return;
-    }
-    let first = at / 4;
-    for i in 0..(at + (n - 1)) / 4 - first + 1 {
+    for i in 0..n {
         block.set_origin(first + i, origin);
     }
 }
@@ -124,20 +120,4 @@ pub(crate) fn take_origins(block: Block, at: u64, source: &Block, from: u64, n: 
         return block;
     }
     copy_origins(block, at, source, from, n)
-}
-
-/// The first `n` origins of another block in the place of the first ones of this.
-pub(crate) fn keep_origins(block: Block, source: &Block, n: u64) -> Block
-    requires within { (n ≤ cells (length block.bytes)) × (n ≤ cells (length source.now.bytes)) }
-    requires lists { length block.origins ≡ cells (length block.bytes) }
-    ensures shown { held result.origins ≡ with_range (held block.origins) 0 n (held source.now.origins) }
-    ensures len { length result.origins ≡ length block.origins }
-    ensures bytes { result.bytes ≡ block.bytes }
-    ensures shadow { result.shadow ≡ block.shadow }
-{
-    let mut kept = block;
-    for i in 0..n {
-        kept.set_origin(i, source.origin(i));
-    }
-    kept
 }

@@ -3,9 +3,8 @@ ghost use Rattle.std.specs.Prelude.{◌≡◌, ◌≢◌, ◌≤◌, ◌<◌, �
 ghost use Rattle.ms_bits.specs.{Fill.{made_byte}, Maps.{with_range, byte_of, number_at}};
 ghost use Rattle.ms_raw.specs.Blocks.{IsLists};
 ghost use Rattle.ms_planes.specs.Areas.{held};
-ghost use Rattle.ms_planes.specs.Blocks.{bytes_in, with_four, with_eight, KeepsOthers, IsFilled, IsCleared};
+ghost use Rattle.ms_planes.specs.Blocks.{bytes_in, with_four, with_eight, KeepsOthers, IsFilled, IsFilledInto};
 
-use crate::origins::fill_origins;
 use ms_raw::Block;
 
 /// One of the two lists of bytes that a block has.
@@ -18,7 +17,7 @@ pub(crate) enum Plane {
 }
 
 /// The byte at a place of a block.
-pub(crate) fn get(block: &Block, part: Plane, at: u64) -> u8
+fn get(block: &Block, part: Plane, at: u64) -> u8
     requires { at < length block.now.bytes }
     ensures { result ≡ held (bytes_in part block.now) at }
 {
@@ -29,7 +28,7 @@ pub(crate) fn get(block: &Block, part: Plane, at: u64) -> u8
 }
 
 /// Puts a byte at a place of a block.
-pub(crate) fn set(block: &mut Block, part: Plane, at: u64, v: u8)
+fn set(block: &mut Block, part: Plane, at: u64, v: u8)
     requires { at < length block.old.bytes }
     ensures shown { bytes_in part block.new ≡ set (bytes_in part block.old) at v }
     ensures others { KeepsOthers part block.old block.new }
@@ -80,11 +79,10 @@ pub(crate) fn four_at(block: &Block, part: Plane, at: u64) -> u32
 }
 
 /// The number that the eight bytes from place `at` on are, the least first.
-pub(crate) fn eight_at(block: &Block, part: Plane, at: u64) -> u64
+fn eight_at(block: &Block, part: Plane, at: u64) -> u64
     requires within { at + 8 ≤ length block.now.bytes }
     requires small { at < 2 ^ 40 }
-    ensures number { result ≡ number_at (held (bytes_in part block.now)) at 8 }
-    ensures small { (k : ℕ) → k < 8 → held (bytes_in part block.now) (at + k) < 256 }
+    ensures { result ≡ number_at (held (bytes_in part block.now)) at 8 }
 {
     u64::from_le_bytes([
         get(block, part, at),
@@ -214,7 +212,7 @@ fn put_four(block: &mut Block, part: Plane, at: u64, v: u64)
 
 /// Puts the eight bytes of `v`, in the same way.
 #[inline(always)]
-pub(crate) fn put_eight(block: &mut Block, part: Plane, at: u64, v: u64)
+fn put_eight(block: &mut Block, part: Plane, at: u64, v: u64)
     requires within { at + 8 ≤ length block.old.bytes }
     requires whole { IsLists (length block.old.bytes) block.old }
     ensures shown { held (bytes_in part block.new) ≡ with_range (held (bytes_in part block.old)) at 8 (byte_of v) }
@@ -269,50 +267,37 @@ pub(crate) fn paste(block: &mut Block, part: Plane, at: u64, source: &[u8])
     }
 }
 
-/// Puts `v` at the `n` places from `at` on, eight at a time: for each store the block's pointer has to be loaded again, since the
-/// compiler has to assume that a byte that is written changes it.
-pub(crate) fn fill(block: &mut Block, part: Plane, at: u64, n: u64, v: u8)
-    requires within { at + n ≤ length block.old.bytes }
-    requires small { at + n < 2 ^ 40 }
-    requires whole { IsLists (length block.old.bytes) block.old }
-    ensures { IsFilled part block.old block.new at n v }
-{
-    let word = u64::from(v) * 0x0101_0101_0101_0101;
-    let eights = n / 8;
-    for i in 0..eights {
-        put_eight(block, part, at + i * 8, word);
-    }
-    fill_rest(block, part, at + eights * 8, n % 8, v);
-}
-
-/// Puts `v` at the `n` places from `at` on, one after the other.
-fn fill_rest(block: &mut Block, part: Plane, at: u64, n: u64, v: u8)
-    requires within { at + n ≤ length block.old.bytes }
-    requires small { at + n < 2 ^ 40 }
-    requires whole { IsLists (length block.old.bytes) block.old }
-    ensures { IsFilled part block.old block.new at n v }
-{
-    for i in 0..n {
-        set(block, part, at + i, v);
-    }
-}
-
-/// Makes `n` bytes from place `at` on 0 and clean, and each cell that they touch 0.
-pub(crate) fn clear(block: &mut Block, at: u64, n: u64)
-    requires within { at + n ≤ length block.old.bytes }
-    requires small { at + n < 2 ^ 40 }
-    requires whole { IsLists (length block.old.bytes) block.old }
-    ensures { IsCleared block.old block.new at n }
-{
-    fill(block, Plane::Bytes, at, n, 0);
-    fill(block, Plane::Shadow, at, n, 0);
-    fill_origins(block, at, n, 0);
-}
-
-/// Copies `n` bytes of another block, from place `from` on, to place `at` on.
+/// Puts `v` at the `n` places from `at` on.
 ///
 /// Takes the block by value: through a reference the compiler has to assume that a byte that is written changes the
 /// block's own pointers, and loads them again in each round.
+fn fill(block: Block, part: Plane, at: u64, n: u64, v: u8) -> Block
+    requires within { at + n ≤ length block.bytes }
+    requires small { at + n < 2 ^ 40 }
+    requires whole { IsLists (length block.bytes) block }
+    ensures { IsFilled part block result at n v }
+{
+    let mut filled = block;
+    for i in 0..n {
+        set(&mut filled, part, at + i, v);
+    }
+    filled
+}
+
+/// `fill` for a block that may be missing.
+pub(crate) fn fill_into(slot: &mut Option<Block>, part: Plane, at: u64, n: u64, v: u8)
+    requires within { IfSome slot.old (λ l. at + n ≤ length l.bytes) }
+    requires small { at + n < 2 ^ 40 }
+    requires whole { IfSome slot.old (λ l. IsLists (length l.bytes) l) }
+    ensures { IsFilledInto part slot.old slot.new at n v }
+{
+    match slot.take() {
+        Some(block) => *slot = Some(fill(block, part, at, n, v)),
+        None => {}
+    }
+}
+
+/// Copies `n` bytes of another block, from place `from` on, to place `at` on. Takes the block by value, as `fill` does.
 pub(crate) fn copy(block: Block, part: Plane, at: u64, source: &Block, from: u64, n: u64) -> Block
     requires within { at + n ≤ length block.bytes }
     requires from { from + n ≤ length source.now.bytes }

@@ -1,23 +1,48 @@
 //! The memory of a run: bytes, shadow and origins of each allocation.
-ghost use Rattle.std.specs.Prelude.{◌≡◌, ◌≤◌, ◌<◌, ◌+◌, ◌/◌, Some, None, IsTrue, IsErr, ◌↔◌, OnOk, OnErr, IfOk, IsErrOf, option_map, eqb, length, get_or, if◌then◌else◌, MatchOption, true, false};
+ghost use Rattle.std.specs.Prelude.{◌≡◌, ◌≢◌, ◌≤◌, ◌<◌, ◌+◌, ◌/◌, Some, None, IsTrue, IsErr, ◌↔◌, OnOk, OnErr, IfOk, IsErrOf, option_map, eqb, length, get_or, if◌then◌else◌, [], option_copied, MatchOption, true, false};
 ghost use Rattle.ms_bits.specs.Fill.{made_byte};
 ghost use Rattle.ms_bits.specs.Maps.{with_range, byte_of, number_at, first_nonzero, copied, with_cells, with_cell, copied_cells};
 ghost use Rattle.ms_alloc.specs.{declared.kinds.AllocKind.TheVariants.{Stack}, Layout.{room, area_limit}};
 ghost use Rattle.ms_alloc.specs.Allocations.{no_allocations, next_base, used, of_kind, with_made, with_ended, without_from, is_good, block_of, heap_size, IsLaidOut};
+ghost use Rattle.ms_planes.specs.Memory.{area_index as index_of};
 
-use crate::copies::{copy_from, copy_within, reach};
+use crate::copies::{copy_into, copy_within};
 use crate::origins::fill_origins;
-use crate::parts::{Plane, both, clear, fill, first_marked, number, paste, put_made, put_number};
-use ms_alloc::{AllocError, AllocKind, BadFree, Table, room_of};
+use crate::parts::{Plane, both, fill_into, first_marked, number, paste, put_made, put_number};
+use ms_alloc::{AllocError, AllocKind, BadFree, Table, TablePlace};
 use ms_bits::NoMemory;
 use ms_raw::Block;
 use std::alloc::Global;
 use std::fmt;
 use std::marker::Model;
-use std::mem::replace;
 
 /// The number of areas.
 const AREAS: usize = 3;
+
+/// The place of an area among the three.
+fn area_of(kind: AllocKind) -> usize
+    ensures { result ≡ index_of kind }
+{
+    match kind {
+        AllocKind::Fixed => 0,
+        AllocKind::Heap => 1,
+        AllocKind::Stack => 2,
+    }
+}
+
+/// Frees a block.
+fn free(slot: &mut Option<Block>)
+    ensures { slot.new ≡ None }
+{
+    *slot = None;
+}
+
+/// Puts a block back that was taken out.
+fn put_back(slot: &mut Option<Block>, block: Option<Block>)
+    ensures { slot.new ≡ block }
+{
+    *slot = block;
+}
 
 /// The memory of a run. Contracts see the table of allocations and three maps: bytes and shadow bytes by address,
 /// origins by cell, which is the address divided by 4.
@@ -28,18 +53,18 @@ const AREAS: usize = 3;
 pub struct Planes {
     alloc: Global,
     table: Table,
-    /// The bytes of each area, from its first on: at least those that its allocations take.
-    areas: [Block; AREAS],
+    /// For each area a block for each of its allocations, in the order of the table; none for one that has ended.
+    areas: [Vec<Option<Block>>; AREAS],
 }
 
 impl Model for Planes {
-    ghost use Rattle.ms_planes.specs.Memory.{Memory, IsMemory};
+    ghost use Rattle.ms_planes.specs.Memory.{Memory, IsMemory, lists};
 
     ghost Value = { Memory };
 
-    ghost view = { λ p. record { table = p.table; areas = p.areas } };
+    ghost view = { λ p. record { table = p.table; blocks = lists p.areas } };
 
-    ghost invariant = { λ p. IsMemory (record { table = p.table; areas = p.areas }) };
+    ghost invariant = { λ p. IsMemory (record { table = p.table; blocks = lists p.areas }) };
 }
 
 impl fmt::Debug for Planes {
@@ -49,21 +74,19 @@ impl fmt::Debug for Planes {
 }
 
 impl Planes {
-    ghost use Rattle.ms_planes.specs.Memory.{bytes_of, shadow_of, origins_of, part_of, IsSame, KeepsLive, MapsCopied};
+    ghost use Rattle.ms_planes.specs.Memory.{bytes_of, shadow_of, origins_of, part_of, area_index, IsSame, KeepsLive, MapsCopied};
     ghost use Rattle.ms_planes.specs.Blocks.{other};
+    ghost use Rattle.ms_alloc.specs.Places.{IsPlace};
 
-    /// No allocations. `NoMemory` where memory runs out.
-    pub fn new(alloc: Global) -> Result<Planes, NoMemory>
-        ensures { IfOk result (λ p. p.table ≡ no_allocations) }
+    /// No allocations. Takes no memory yet.
+    pub fn new(alloc: Global) -> Planes
+        ensures { result.table ≡ no_allocations }
     {
-        let fixed = Block::new(alloc, 0)?;
-        let heap = Block::new(alloc, 0)?;
-        let stack = Block::new(alloc, 0)?;
-        Ok(Planes {
+        Planes {
             alloc,
             table: Table::new(alloc),
-            areas: [fixed, heap, stack],
-        })
+            areas: [Vec::new(alloc), Vec::new(alloc), Vec::new(alloc)],
+        }
     }
 
     /// Makes an allocation of `size` zero bytes, clean, with origin 0, and returns its base.
@@ -82,17 +105,15 @@ impl Planes {
         if !self.table.fits(kind, size) {
             return Err(AllocError::Full);
         }
-        let area = kind.index();
-        let at = self.table.next_base(kind) - kind.base();
-        reach(
-            &mut self.areas[area],
-            self.alloc,
-            at + room_of(size),
-            kind.limit(),
-        )?;
-        let base = self.table.make(kind, size)?;
-        clear(&mut self.areas[area], at, size);
-        Ok(base)
+        let block = Block::new(self.alloc, size)?;
+        let area = &mut self.areas[area_of(kind)];
+        let count = area.len();
+        area.push(Some(block))?;
+        let made = self.table.make(kind, size);
+        if made.is_err() {
+            area.truncate(count);
+        }
+        made
     }
 
     /// Ends the live heap block that begins at `base`, and returns its size.
@@ -105,7 +126,12 @@ impl Planes {
         ensures bad_free { IsErr result ↔ (heap_size base self.old.table ≡ None) }
         ensures unchanged { OnErr result (IsSame self.old self.new) }
     {
-        self.table.end(base)
+        let place = self.table.place_of_block(base);
+        let size = self.table.end(base)?;
+        if let Some(index) = place {
+            free(&mut self.areas[area_of(AllocKind::Heap)][index]);
+        }
+        Ok(size)
     }
 
     /// Where the next allocation of the stack begins.
@@ -121,6 +147,8 @@ impl Planes {
         ensures live { KeepsLive self.old self.new }
     {
         self.table.release(mark);
+        let left = self.table.count(AllocKind::Stack);
+        self.areas[area_of(AllocKind::Stack)].truncate(left);
     }
 
     /// What every table of allocations has.
@@ -156,10 +184,13 @@ impl Planes {
         requires { IsTrue (is_good addr 1 self.now.table) }
         ensures { result ≡ bytes_of self.now addr }
     {
-        let Some(spot) = self.table.spot(addr, 1) else {
+        let Some(place) = self.table.place_of(addr, 1) else {
             return 0;
         };
-        self.areas[spot.area].byte(spot.at)
+        match self.block(place) {
+            Some(block) => block.byte(addr - place.base),
+            None => 0,
+        }
     }
 
     /// The number that `n` bytes are, the least first; `None` where they aren't good. The usual sizes each have a copy of the
@@ -252,10 +283,14 @@ impl Planes {
         if n == 0 {
             return;
         }
-        let Some(spot) = self.table.spot(addr, n) else {
+        let Some(place) = self.table.place_of(addr, n) else {
             return;
         };
-        put_made(&mut self.areas[spot.area], spot.at, n, fill, made);
+        let area = &mut self.areas[area_of(place.kind)];
+        match &mut area[place.index] {
+            Some(block) => put_made(block, addr - place.base, n, fill, made),
+            None => {}
+        }
     }
 
     /// The number that `n` shadow bytes are, the least first; `None` where the bytes aren't good.
@@ -276,10 +311,13 @@ impl Planes {
         if n == 0 {
             return Some((0, 0));
         }
-        let Some(spot) = self.table.spot(addr, u64::from(n)) else {
+        let Some(place) = self.table.place_of(addr, u64::from(n)) else {
             return None;
         };
-        Some(both(&self.areas[spot.area], spot.at, n))
+        match self.block(place) {
+            Some(block) => Some(both(block, addr - place.base, n)),
+            None => unreachable!(),
+        }
     }
 
     /// The number that `n` shadow bytes are, the least first.
@@ -321,10 +359,13 @@ impl Planes {
         requires { IsTrue (is_good addr 1 self.now.table) }
         ensures { result ≡ origins_of self.now (addr / 4) }
     {
-        let Some(spot) = self.table.spot(addr, 1) else {
+        let Some(place) = self.table.place_of(addr, 1) else {
             return 0;
         };
-        self.areas[spot.area].origin(spot.at / 4)
+        match self.block(place) {
+            Some(block) => block.origin((addr - place.base) / 4),
+            None => 0,
+        }
     }
 
     /// Puts an origin into the cell of a byte.
@@ -374,10 +415,9 @@ impl Planes {
         ensures origins { origins_of self.new ≡ origins_of self.old }
         ensures unchanged { OnErr result (IsSame self.old self.new) }
     {
-        if n == 0 {
-            return Ok(());
+        if n != 0 {
+            self.copy(Plane::Bytes, to, from, n);
         }
-        self.copy(Plane::Bytes, to, from, n)?;
         Ok(())
     }
 
@@ -393,10 +433,9 @@ impl Planes {
         ensures origins { OnOk result (origins_of self.new ≡ copied_cells (shadow_of self.old) (origins_of self.old) to from n (origins_of self.old)) }
         ensures unchanged { OnErr result (IsSame self.old self.new) }
     {
-        if n == 0 {
-            return Ok(());
+        if n != 0 {
+            self.copy(Plane::Shadow, to, from, n);
         }
-        self.copy(Plane::Shadow, to, from, n)?;
         Ok(())
     }
 
@@ -408,10 +447,21 @@ impl Planes {
         if n == 0 {
             return None;
         }
-        let Some(spot) = self.table.spot(addr, n) else {
+        let Some(place) = self.table.place_of(addr, n) else {
             return None;
         };
-        first_marked(&self.areas[spot.area], spot.at, n)
+        match self.block(place) {
+            Some(block) => first_marked(block, addr - place.base, n),
+            None => None,
+        }
+    }
+
+    /// The block of an allocation, if it hasn't ended.
+    fn block(&self, place: TablePlace) -> Option<&Block>
+        requires { place.index < length (get_or self.now.blocks (area_index place.kind) []) }
+        ensures { option_copied result ≡ get_or (get_or self.now.blocks (area_index place.kind) []) place.index None }
+    {
+        self.areas[area_of(place.kind)][place.index].as_ref()
     }
 
     /// The number that `n` bytes or shadow bytes are, the least first; `None` where the bytes aren't good.
@@ -423,10 +473,13 @@ impl Planes {
         if n == 0 {
             return Some(0);
         }
-        let Some(spot) = self.table.spot(addr, u64::from(n)) else {
+        let Some(place) = self.table.place_of(addr, u64::from(n)) else {
             return None;
         };
-        Some(number(&self.areas[spot.area], part, spot.at, n))
+        match self.block(place) {
+            Some(block) => Some(number(block, part, addr - place.base, n)),
+            None => unreachable!(),
+        }
     }
 
     /// Writes the `n` low bytes of `v` as bytes or shadow bytes, the least first, and returns whether the bytes are good;
@@ -442,10 +495,14 @@ impl Planes {
         if n == 0 {
             return true;
         }
-        let Some(spot) = self.table.spot(addr, u64::from(n)) else {
+        let Some(place) = self.table.place_of(addr, u64::from(n)) else {
             return false;
         };
-        put_number(&mut self.areas[spot.area], part, spot.at, n, v);
+        let area = &mut self.areas[area_of(place.kind)];
+        match &mut area[place.index] {
+            Some(block) => put_number(block, part, addr - place.base, n, v),
+            None => {}
+        }
         true
     }
 
@@ -460,10 +517,14 @@ impl Planes {
         if source.len() == 0 {
             return;
         }
-        let Some(spot) = self.table.spot(addr, source.len() as u64) else {
+        let Some(place) = self.table.place_of(addr, source.len() as u64) else {
             return;
         };
-        paste(&mut self.areas[spot.area], part, spot.at, source);
+        let area = &mut self.areas[area_of(place.kind)];
+        match &mut area[place.index] {
+            Some(block) => paste(block, part, addr - place.base, source),
+            None => {}
+        }
     }
 
     /// Makes each of `n` bytes or shadow bytes `v`.
@@ -477,10 +538,11 @@ impl Planes {
         if n == 0 {
             return;
         }
-        let Some(spot) = self.table.spot(addr, n) else {
+        let Some(place) = self.table.place_of(addr, n) else {
             return;
         };
-        fill(&mut self.areas[spot.area], part, spot.at, n, v);
+        let area = &mut self.areas[area_of(place.kind)];
+        fill_into(&mut area[place.index], part, addr - place.base, n, v);
     }
 
     /// Puts an origin into each cell that a range touches.
@@ -494,35 +556,73 @@ impl Planes {
         if n == 0 {
             return;
         }
-        let Some(spot) = self.table.spot(addr, n) else {
+        let Some(place) = self.table.place_of(addr, n) else {
             return;
         };
-        fill_origins(&mut self.areas[spot.area], spot.at, n, origin);
+        let area = &mut self.areas[area_of(place.kind)];
+        let at = addr - place.base;
+        match &mut area[place.index] {
+            Some(block) => fill_origins(block, at / 4, (at + (n - 1)) / 4 - at / 4 + 1, origin),
+            None => {}
+        }
     }
 
-    /// Copies bytes, or shadow bytes with their origins, as they were before. The planes are as they were where memory runs out.
-    fn copy(&mut self, part: Plane, to: u64, from: u64, n: u64) -> Result<(), NoMemory>
+    /// Copies bytes, or shadow bytes with their origins, as they were before.
+    fn copy(&mut self, part: Plane, to: u64, from: u64, n: u64)
         requires to { IsTrue (is_good to n self.old.table) }
         requires from { IsTrue (is_good from n self.old.table) }
         requires some { 0 < n }
         ensures table { self.new.table ≡ self.old.table }
-        ensures copied { OnOk result (MapsCopied part self.old self.new to from n) }
-        ensures unchanged { OnErr result (self.new ≡ self.old) }
+        ensures copied { MapsCopied part self.old self.new to from n }
     {
-        let Some(target) = self.table.spot(to, n) else {
-            return Ok(());
+        let Some(target) = self.table.place_of(to, n) else {
+            return;
         };
-        let Some(source) = self.table.spot(from, n) else {
-            return Ok(());
+        let Some(source) = self.table.place_of(from, n) else {
+            return;
         };
-        if target.area == source.area {
-            copy_within(&mut self.areas[target.area], part, target.at, source.at, n);
-            return Ok(());
+        if area_of(target.kind) == area_of(source.kind) && target.index == source.index {
+            self.copy_in(part, target, to, from, n);
+        } else {
+            self.copy_over(part, target, to, source, from, n);
         }
-        let none = Block::new(self.alloc, 0)?;
-        let block = replace(&mut self.areas[target.area], none);
-        let source_block = &self.areas[source.area];
-        self.areas[target.area] = copy_from(block, part, target.at, source_block, source.at, n);
-        Ok(())
+    }
+
+    /// Copies from one place of an allocation to another.
+    fn copy_in(&mut self, part: Plane, place: TablePlace, to: u64, from: u64, n: u64)
+        requires to { IsPlace place.kind (of_kind place.kind self.old.table) to n place }
+        requires from { IsPlace place.kind (of_kind place.kind self.old.table) from n place }
+        requires some { 0 < n }
+        ensures table { self.new.table ≡ self.old.table }
+        ensures copied { MapsCopied part self.old self.new to from n }
+    {
+        let area = &mut self.areas[area_of(place.kind)];
+        match &mut area[place.index] {
+            Some(block) => copy_within(block, part, to - place.base, from - place.base, n),
+            None => {}
+        }
+    }
+
+    /// Copies from one allocation to another.
+    fn copy_over(
+        &mut self,
+        part: Plane,
+        target: TablePlace,
+        to: u64,
+        source: TablePlace,
+        from: u64,
+        n: u64,
+    )
+        requires to { IsPlace target.kind (of_kind target.kind self.old.table) to n target }
+        requires from { IsPlace source.kind (of_kind source.kind self.old.table) from n source }
+        requires some { 0 < n }
+        requires apart { index_of target.kind ≡ index_of source.kind → target.index ≢ source.index }
+        ensures table { self.new.table ≡ self.old.table }
+        ensures copied { MapsCopied part self.old self.new to from n }
+    {
+        let taken = self.areas[area_of(source.kind)][source.index].take();
+        let block = &mut self.areas[area_of(target.kind)][target.index];
+        copy_into(block, part, to - target.base, &taken, from - source.base, n);
+        put_back(&mut self.areas[area_of(source.kind)][source.index], taken);
     }
 }

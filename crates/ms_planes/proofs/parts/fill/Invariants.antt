@@ -1,4 +1,4 @@
-use Rattle.std.proofs.Common.{◌≡◌, ◌*◌}
+use Rattle.std.proofs.Common.{◌≡◌}
 use Rattle.ms_bits.specs.Maps.{with_range}
 use Rattle.ms_planes.specs.Areas.{held}
 use Rattle.ms_planes.specs.Blocks.{bytes_in, KeepsOthers}
@@ -6,6 +6,6 @@ use Rattle.ms_planes.proofs.parts.fill.Given as goal
 
 abbrev pub invariant-loop-i : goal.invariant-loop-i
 invariant-loop-i l = record {
-  shown : held (bytes_in l.part l.block) ≡ with_range (held (bytes_in l.part l.initial.block)) l.at (l.i * 8) (λ k. l.v);
-  others : KeepsOthers l.part l.initial.block l.block;
+  shown : held (bytes_in l.part l.filled) ≡ with_range (held (bytes_in l.part l.fn.block)) l.at l.i (λ k. l.v);
+  others : KeepsOthers l.part l.fn.block l.filled;
 }

@@ -7,7 +7,7 @@ use Rattle.ms_trail_moves.specs.Sources.{sources, source_at}
 use Rattle.ms_trail.specs.Calling.{answer_told, noted_masks}
 use Rattle.ms_trail_bytes.specs.Logs.{IsLog}
 use Rattle.ms_trail.proofs.externals.note_answer.Goals as goal
-use Rattle.ms_planes.proofs.Results.{all-ok}
+use Rattle.ms_planes.proofs.Histories.{all-ok}
 
 pub returns-in-Some-clause-masks : goal.returns-in-Some-clause-masks
 returns-in-Some-clause-masks c =

@@ -5,8 +5,8 @@ use Rattle.ms_alloc.proofs.areas.Area.used.Goals as goal
 
 pub overflow_mul-result : goal.overflow_mul-result
 overflow_mul-result c =
-    omega (arith, c.len.ensures, c.self.inside.owners.ok.0, ap (λ (l : List ℕ). length l) c.self.invariant.0.same, owners-length 0 c.self.inside.made.items, c.self.invariant.0.small)
+    omega (arith, c.len.ensures, c.self.inside.owners.ok.0, ap (λ (l : List ℕ). length l) c.self.invariant.same, owners-length 0 c.self.inside.made.items, c.self.invariant.small)
 
 pub returns : goal.returns
 returns c =
-    omega (arith, c.len.ensures, c.self.inside.owners.ok.0, ap (λ (l : List ℕ). length l) c.self.invariant.0.same, owners-length 0 c.self.inside.made.items, ap used c.self.view_is)
+    omega (arith, c.len.ensures, c.self.inside.owners.ok.0, ap (λ (l : List ℕ). length l) c.self.invariant.same, owners-length 0 c.self.inside.made.items, ap used c.self.view_is)

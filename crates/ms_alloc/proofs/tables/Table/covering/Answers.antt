@@ -1,18 +1,26 @@
-use Rattle.std.proofs.Common.{List, sym, ap, subst, ◌∙◌, arith, get_or}
+use Rattle.std.proofs.Common.{sym, ap, subst, ◌∙◌}
 use Rattle.std.specs.List.{find}
-use Rattle.std.proofs.lemmas.List.{get_or_default}
-use Rattle.ms_alloc.specs.declared.allocations.Allocation.{Allocation}
-use Rattle.ms_alloc.specs.Layout.{area_index}
-use Rattle.ms_alloc.specs.Allocations.{Allocations, listed, covers, table_of}
-use Rattle.ms_alloc.proofs.Places.{listed-below}
-use Rattle.ms_alloc.proofs.Spots.{listed-in, area-seen}
+use Rattle.ms_alloc.specs.Layout.{IsReached}
+use Rattle.ms_alloc.specs.Allocations.{Allocations, listed, covers}
+use Rattle.ms_alloc.proofs.Places.{listed-fixed, listed-heap, listed-stack, listed-below}
 use Rattle.ms_alloc.proofs.tables.Table.covering.Goals as goal
 
-pub returns : goal.returns
-returns c =
+pub returns-in-Fixed : goal.returns-in-Fixed
+returns-in-Fixed c =
     c.covering.ensures
-    ∙ ap (find (covers c.args.addr c.args.n)) (area-seen c.in_ok-kind.kind c.self.inside.areas c.index.result c.index-self-index.result c.self.told c.index.ensures)
-    ∙ sym (listed-in c.in_ok-kind.kind (table_of c.self.inside.areas) c.args.addr c.args.n c.requires c.self.invariant.0 c.in_ok-kind.ensures)
+    ∙ sym (listed-fixed (record { fixed = c.self.inside.fixed; heap = c.self.inside.heap; stack = c.self.inside.stack }) c.args.addr c.args.n c.requires c.self.invariant (subst (IsReached c.args.addr) c.in-Fixed.is c.in_ok-kind.ensures).1)
+    ∙ ap (λ (t : Allocations). find (covers c.args.addr c.args.n) (listed t)) c.self.view_is
+
+pub returns-in-Heap : goal.returns-in-Heap
+returns-in-Heap c =
+    c.covering-in-Heap.ensures
+    ∙ sym (listed-heap (record { fixed = c.self.inside.fixed; heap = c.self.inside.heap; stack = c.self.inside.stack }) c.args.addr c.args.n c.requires c.self.invariant (subst (IsReached c.args.addr) c.in-Heap.is c.in_ok-kind.ensures).0 (subst (IsReached c.args.addr) c.in-Heap.is c.in_ok-kind.ensures).1)
+    ∙ ap (λ (t : Allocations). find (covers c.args.addr c.args.n) (listed t)) c.self.view_is
+
+pub returns-in-Stack : goal.returns-in-Stack
+returns-in-Stack c =
+    c.covering-in-Stack.ensures
+    ∙ sym (listed-stack (record { fixed = c.self.inside.fixed; heap = c.self.inside.heap; stack = c.self.inside.stack }) c.args.addr c.args.n c.requires c.self.invariant (subst (IsReached c.args.addr) c.in-Stack.is c.in_ok-kind.ensures))
     ∙ ap (λ (t : Allocations). find (covers c.args.addr c.args.n) (listed t)) c.self.view_is
 
 pub returns-in_err-kind : goal.returns-in_err-kind

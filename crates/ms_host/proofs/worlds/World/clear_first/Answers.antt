@@ -5,7 +5,6 @@ use Rattle.ms_ir.specs.Names.{slot_room}
 use Rattle.ms_host.specs.State.{WorldState}
 use Rattle.ms_host.specs.SlotBytes.{ShowsSlots}
 use Rattle.ms_host.proofs.SlotNumbers.{first_mask_put, first_origin_put}
-use Rattle.ms_host.specs.Shows.{Shows}
 use Rattle.ms_host.proofs.worlds.World.clear_first.Goals as goal
 
 pub returns-clause-slots : goal.returns-clause-slots
@@ -13,8 +12,3 @@ returns-clause-slots c = λ cells shown.
     let mid : ℕ → ℕ = with_range cells (slot_room slot.ParamMasks).0 8 (λ k. 0) in
     let one = first_mask_put c.address.result c.address.ensures cells _ c.store.result (c.store.ensures cells (subst (λ (h : WorldState). ShowsSlots h.slots cells) (sym c.self.view_is) shown)) in
     first_origin_put c.address-2.result c.address-2.ensures mid _ c.store-2.result (c.store-2.ensures mid one)
-
-pub returns-clause-shows : goal.returns-clause-shows
-returns-clause-shows c = λ beside world h.
-    let g = subst (λ (w : WorldState). Shows w beside world) (sym c.self.view_is) h in
-    record { allocs = g.allocs; bytes = g.bytes; shadow = g.shadow; origins = g.origins; made = g.made; input = g.input; output = g.output; pairs = g.pairs; reports = g.reports; blind = g.blind; fibers = g.fibers }

@@ -1,25 +1,75 @@
-use Rattle.std.proofs.Common.{◌≡◌, ℕ, true, get_or, refl, ap, ◌∙◌, subst, arith}
-use Rattle.ms_alloc.specs.Allocations.{is_good}
-use Rattle.ms_alloc.specs.Spots.{IsSpot}
-use Rattle.ms_bits.specs.Maps.{number_at}
+use Rattle.std.proofs.Common.{◌≡◌, ℕ, true, sym, ◌∙◌, subst, arith}
 use Rattle.ms_raw.specs.Blocks.{Lists}
-use Rattle.ms_planes.specs.declared.parts.Plane.TheVariants as part
-use Rattle.ms_planes.specs.Areas.{held}
-use Rattle.ms_planes.specs.Memory.{Memory, bytes_of, shadow_of}
-use Rattle.ms_planes.proofs.Readings.{part-number}
-use Rattle.ms_planes.proofs.Spotted.{Spotted, spotted, memory_of}
+use Rattle.ms_planes.specs.Memory.{Memory}
+use Rattle.ms_planes.proofs.Standing.{Stands, stands, held-block, never-none}
 use Rattle.ms_planes.proofs.planes.Planes.read_both.Goals as goal
+use Rattle.ms_alloc.specs.Places.{IsPlace}
+use Rattle.ms_alloc.specs.Allocations.{of_kind}
+use Rattle.ms_planes.specs.Memory.{IsMemory}
+use Rattle.ms_planes.proofs.Readings.{part-number}
+use Rattle.ms_planes.proofs.Good.{placed-good}
+use Rattle.ms_planes.specs.declared.parts.Plane.TheVariants as part
+use Rattle.ms_alloc.specs.Allocations.{is_good}
+
+pub block-requires : goal.block-requires
+block-requires c =
+    let m : Memory = c.args.self.now in
+    let p = c.in-Some.place in
+    let is : IsMemory m = subst IsMemory c.self.view_is c.self.invariant in
+    let s1 : (was : Lists) × Stands m c.args.addr c.from.result p was = stands m c.args.addr c.from.result p is (subst (λ (q : Memory). IsPlace p.kind (of_kind p.kind q.table) c.args.addr c.from.result p) c.self.view_is c.in-Some.ensures) in
+    let s0 : Stands m c.args.addr c.from.result p s1.0 = s1.1 in
+    s0.within_row
+
+pub overflow_sub-addr : goal.overflow_sub-addr
+overflow_sub-addr c =
+    let m : Memory = c.args.self.now in
+    let p = c.in-Some.place in
+    let is : IsMemory m = subst IsMemory c.self.view_is c.self.invariant in
+    let s1 : (was : Lists) × Stands m c.args.addr c.from.result p was = stands m c.args.addr c.from.result p is (subst (λ (q : Memory). IsPlace p.kind (of_kind p.kind q.table) c.args.addr c.from.result p) c.self.view_is c.in-Some.ensures) in
+    let s0 : Stands m c.args.addr c.from.result p s1.0 = s1.1 in
+    let s : Stands m c.args.addr c.from.result p c.in-Some-block.block.now = held-block m c.args.addr c.from.result p s1.0 s0 c.in-Some-block.block.now (sym c.in-Some-block.ensures) in
+    omega (arith, s.low, s.base_is)
 
 pub both-requires-clause-within : goal.both-requires-clause-within
-both-requires-clause-within c = (spotted c.self.inside.table c.self.inside.areas c.index-self-spot.result c.args.addr c.args.n c.in-Some.spot c.self.invariant (subst (λ (k : ℕ). IsSpot c.self.inside.table c.args.addr k c.in-Some.spot) c.from.ensures c.in-Some.ensures)).within
+both-requires-clause-within c =
+    let m : Memory = c.args.self.now in
+    let p = c.in-Some.place in
+    let is : IsMemory m = subst IsMemory c.self.view_is c.self.invariant in
+    let s1 : (was : Lists) × Stands m c.args.addr c.from.result p was = stands m c.args.addr c.from.result p is (subst (λ (q : Memory). IsPlace p.kind (of_kind p.kind q.table) c.args.addr c.from.result p) c.self.view_is c.in-Some.ensures) in
+    let s0 : Stands m c.args.addr c.from.result p s1.0 = s1.1 in
+    let s : Stands m c.args.addr c.from.result p c.in-Some-block.block.now = held-block m c.args.addr c.from.result p s1.0 s0 c.in-Some-block.block.now (sym c.in-Some-block.ensures) in
+    omega (arith, s.low, s.base_is, s.high, s.whole.bytes, c.from.ensures)
 
 pub both-requires-clause-small : goal.both-requires-clause-small
-both-requires-clause-small c = omega (arith, (spotted c.self.inside.table c.self.inside.areas c.index-self-spot.result c.args.addr c.args.n c.in-Some.spot c.self.invariant (subst (λ (k : ℕ). IsSpot c.self.inside.table c.args.addr k c.in-Some.spot) c.from.ensures c.in-Some.ensures)).small)
+both-requires-clause-small c =
+    let m : Memory = c.args.self.now in
+    let p = c.in-Some.place in
+    let is : IsMemory m = subst IsMemory c.self.view_is c.self.invariant in
+    let s1 : (was : Lists) × Stands m c.args.addr c.from.result p was = stands m c.args.addr c.from.result p is (subst (λ (q : Memory). IsPlace p.kind (of_kind p.kind q.table) c.args.addr c.from.result p) c.self.view_is c.in-Some.ensures) in
+    let s0 : Stands m c.args.addr c.from.result p s1.0 = s1.1 in
+    let s : Stands m c.args.addr c.from.result p c.in-Some-block.block.now = held-block m c.args.addr c.from.result p s1.0 s0 c.in-Some-block.block.now (sym c.in-Some-block.ensures) in
+    omega (arith, s.low, s.high, s.base_is, s.size)
 
 pub returns : goal.returns
 returns c =
-    let a : Spotted (memory_of c.self.inside.table c.self.inside.areas) c.args.addr c.args.n c.in-Some.spot (get_or c.self.inside.areas c.in-Some.spot.area c.index-self-spot.result) = spotted c.self.inside.table c.self.inside.areas c.index-self-spot.result c.args.addr c.args.n c.in-Some.spot c.self.invariant (subst (λ (k : ℕ). IsSpot c.self.inside.table c.args.addr k c.in-Some.spot) c.from.ensures c.in-Some.ensures) in (
-      subst (λ (q : Memory). is_good c.args.addr c.args.n q.table ≡ true) c.self.view_is (subst (λ (k : ℕ). is_good c.args.addr k c.self.inside.table ≡ true) c.from.ensures c.in-Some.ensures.good),
-      c.both.ensures.shadow ∙ ap (λ (l : Lists). number_at (held l.shadow) c.in-Some.spot.at c.args.n) a.is ∙ part-number part.Shadow (memory_of c.self.inside.table c.self.inside.areas) c.args.addr c.args.n c.args.n c.in-Some.spot.area c.in-Some.spot.at a.stands refl ∙ ap (λ (q : Memory). number_at (shadow_of q) c.args.addr c.args.n) c.self.view_is,
-      c.both.ensures.bytes ∙ ap (λ (l : Lists). number_at (held l.bytes) c.in-Some.spot.at c.args.n) a.is ∙ part-number part.Bytes (memory_of c.self.inside.table c.self.inside.areas) c.args.addr c.args.n c.args.n c.in-Some.spot.area c.in-Some.spot.at a.stands refl ∙ ap (λ (q : Memory). number_at (bytes_of q) c.args.addr c.args.n) c.self.view_is,
+    let m : Memory = c.args.self.now in
+    let p = c.in-Some.place in
+    let is : IsMemory m = subst IsMemory c.self.view_is c.self.invariant in
+    let s1 : (was : Lists) × Stands m c.args.addr c.from.result p was = stands m c.args.addr c.from.result p is (subst (λ (q : Memory). IsPlace p.kind (of_kind p.kind q.table) c.args.addr c.from.result p) c.self.view_is c.in-Some.ensures) in
+    let s0 : Stands m c.args.addr c.from.result p s1.0 = s1.1 in
+    let s : Stands m c.args.addr c.from.result p c.in-Some-block.block.now = held-block m c.args.addr c.from.result p s1.0 s0 c.in-Some-block.block.now (sym c.in-Some-block.ensures) in
+    let good : is_good c.args.addr c.from.result m.table ≡ true =
+    placed-good p m.table c.args.addr c.from.result (omega (arith, c.if-n-eq0.false, c.from.ensures)) (subst (λ (q : Memory). IsPlace p.kind (of_kind p.kind q.table) c.args.addr c.from.result p) c.self.view_is c.in-Some.ensures) in (
+      subst (λ (n : ℕ). is_good c.args.addr n m.table ≡ true) c.from.ensures good,
+      c.both.ensures.shadow ∙ part-number part.Shadow m c.args.addr c.from.result c.args.n p c.in-Some-block.block.now s is c.from.ensures,
+      c.both.ensures.bytes ∙ part-number part.Bytes m c.args.addr c.from.result c.args.n p c.in-Some-block.block.now s is c.from.ensures,
     )
+
+pub unreachable-requires : goal.unreachable-requires
+unreachable-requires c =
+    let m : Memory = c.args.self.now in
+    let p = c.in-Some.place in
+    let is : IsMemory m = subst IsMemory c.self.view_is c.self.invariant in
+    let s1 : (was : Lists) × Stands m c.args.addr c.from.result p was = stands m c.args.addr c.from.result p is (subst (λ (q : Memory). IsPlace p.kind (of_kind p.kind q.table) c.args.addr c.from.result p) c.self.view_is c.in-Some.ensures) in
+    let s0 : Stands m c.args.addr c.from.result p s1.0 = s1.1 in
+    never-none m c.args.addr c.from.result p s1.0 s0 (sym c.in-None.ensures)

@@ -1,27 +1,81 @@
-use Rattle.std.proofs.Common.{◌+◌, arith}
+use Rattle.std.proofs.Common.{◌≡◌, ◌+◌, ◌<◌, length, get_or, refl, sym, ap, ◌∙◌, subst, arith, List, Option, Some}
+use Rattle.std.specs.Vec.{with_item}
 use Rattle.ms_bits.specs.Fill.{made_byte}
+use Rattle.ms_raw.specs.Blocks.{Lists}
 use Rattle.ms_planes.specs.declared.parts.Plane.TheVariants.{Bytes}
-use Rattle.ms_planes.proofs.Spotted.{spotted, wrote}
+use Rattle.ms_planes.specs.Memory.{Memory, lists, area_index}
+use Rattle.ms_planes.specs.contracts.planes.Planes.{the_view}
+use Rattle.ms_planes.proofs.Standing.{Stands, stands, PartWritten, part-written, index-low, block-read, blocks-put, row-long, held-block, never-none, with_block}
 use Rattle.ms_planes.proofs.planes.Planes.store_made.Goals as goal
+use Rattle.ms_planes.proofs.planes.Planes.store_made.Goals.{in-Some-index_mut, in-None}
+
+pub index_mut-requires : goal.index_mut-requires
+index_mut-requires c =
+    let m : Memory = record { table = c.self.inside.table; blocks = lists c.self.inside.areas } in
+    let p = c.in-Some.place in
+    let s1 : (was : Lists) × Stands m c.args.addr c.args.n p was = stands m c.args.addr c.args.n p c.self.invariant c.in-Some.ensures in
+    let s0 : Stands m c.args.addr c.args.n p s1.0 = s1.1 in
+    let low : area_index p.kind < length (lists c.self.inside.areas) = omega (arith, c.self.invariant.three, index-low p.kind) in
+    row-long c.self.inside.areas c.area_of.result (area_index p.kind) p.index c.index-self-area_of.result c.area_of.ensures low s0.within_row
+
+pub overflow_sub-addr : goal.overflow_sub-addr
+overflow_sub-addr c =
+    let m : Memory = record { table = c.self.inside.table; blocks = lists c.self.inside.areas } in
+    let p = c.in-Some.place in
+    let s1 : (was : Lists) × Stands m c.args.addr c.args.n p was = stands m c.args.addr c.args.n p c.self.invariant c.in-Some.ensures in
+    let s0 : Stands m c.args.addr c.args.n p s1.0 = s1.1 in
+    let low : area_index p.kind < length (lists c.self.inside.areas) = omega (arith, c.self.invariant.three, index-low p.kind) in
+    omega (arith, s0.low, s0.base_is)
 
 pub put_made-requires-clause-within : goal.put_made-requires-clause-within
-put_made-requires-clause-within c = (spotted c.self.inside.table c.self.inside.areas c.index-self-spot.result c.args.addr c.args.n c.in-Some.spot c.self.invariant c.in-Some.ensures).within
+put_made-requires-clause-within c =
+    let m : Memory = record { table = c.self.inside.table; blocks = lists c.self.inside.areas } in
+    let p = c.in-Some.place in
+    let s1 : (was : Lists) × Stands m c.args.addr c.args.n p was = stands m c.args.addr c.args.n p c.self.invariant c.in-Some.ensures in
+    let s0 : Stands m c.args.addr c.args.n p s1.0 = s1.1 in
+    let low : area_index p.kind < length (lists c.self.inside.areas) = omega (arith, c.self.invariant.three, index-low p.kind) in
+    let at = block-read c.self.inside.areas c.area_of.result p.index (area_index p.kind) c.index-self-area_of.result c.index_mut.result.now c.area_of.ensures low s0.within_row c.index_mut.ensures.value in
+    let s : Stands m c.args.addr c.args.n p c.in-Some-index_mut.block = held-block m c.args.addr c.args.n p s1.0 s0 c.in-Some-index_mut.block (sym at ∙ c.in-Some-index_mut.is) in
+    omega (arith, s.low, s.base_is, s.high, s.whole.bytes)
 
 pub put_made-requires-clause-small : goal.put_made-requires-clause-small
-put_made-requires-clause-small c = omega (arith, (spotted c.self.inside.table c.self.inside.areas c.index-self-spot.result c.args.addr c.args.n c.in-Some.spot c.self.invariant c.in-Some.ensures).small)
+put_made-requires-clause-small c =
+    let m : Memory = record { table = c.self.inside.table; blocks = lists c.self.inside.areas } in
+    let p = c.in-Some.place in
+    let s1 : (was : Lists) × Stands m c.args.addr c.args.n p was = stands m c.args.addr c.args.n p c.self.invariant c.in-Some.ensures in
+    let s0 : Stands m c.args.addr c.args.n p s1.0 = s1.1 in
+    let low : area_index p.kind < length (lists c.self.inside.areas) = omega (arith, c.self.invariant.three, index-low p.kind) in
+    let at = block-read c.self.inside.areas c.area_of.result p.index (area_index p.kind) c.index-self-area_of.result c.index_mut.result.now c.area_of.ensures low s0.within_row c.index_mut.ensures.value in
+    let s : Stands m c.args.addr c.args.n p c.in-Some-index_mut.block = held-block m c.args.addr c.args.n p s1.0 s0 c.in-Some-index_mut.block (sym at ∙ c.in-Some-index_mut.is) in
+    omega (arith, s.low, s.high, s.base_is, s.size)
+
+written : (c : goal.Joined-index_mut) → PartWritten Bytes c.args.self.now (the_view c.match-index_mut.self-inside) c.args.addr c.args.n (λ k. made_byte c.args.fill.now (c.args.made + k))
+written c =
+    let m : Memory = record { table = c.self.inside.table; blocks = lists c.self.inside.areas } in
+    let p = c.in-Some.place in
+    let s1 : (was : Lists) × Stands m c.args.addr c.args.n p was = stands m c.args.addr c.args.n p c.self.invariant c.in-Some.ensures in
+    let s0 : Stands m c.args.addr c.args.n p s1.0 = s1.1 in
+    let low : area_index p.kind < length (lists c.self.inside.areas) = omega (arith, c.self.invariant.three, index-low p.kind) in
+    let at = block-read c.self.inside.areas c.area_of.result p.index (area_index p.kind) c.index-self-area_of.result c.index_mut.result.now c.area_of.ensures low s0.within_row c.index_mut.ensures.value in
+    elim c.match-index_mut.branch [
+      | in-Some-index_mut w ↦
+          let s : Stands m c.args.addr c.args.n p w.in-Some-index_mut.block = held-block m c.args.addr c.args.n p s1.0 s0 w.in-Some-index_mut.block (sym at ∙ w.in-Some-index_mut.is) in
+          let done = part-written Bytes m c.args.addr c.args.n (λ k. made_byte c.args.fill.now (c.args.made + k)) p w.in-Some-index_mut.block s w.put_made.new.block c.self.invariant w.put_made.ensures.others w.put_made.ensures.shown in
+          let same : the_view c.match-index_mut.self-inside ≡ with_block m p.kind p.index (Some w.put_made.new.block) =
+          ap the_view w.self-inside-is ∙ ap (λ (bs : List (List (Option Lists))). record { table = c.self.inside.table; blocks = bs }) (blocks-put c.self.inside.areas c.area_of.result (area_index p.kind) p.index c.index-self-area_of.result (with_item (get_or c.self.inside.areas c.area_of.result c.index-self-area_of.result) p.index (Some w.put_made.new.block)) (Some w.put_made.new.block) c.area_of.ensures low refl) in
+          subst (λ (q : Memory). PartWritten Bytes q (the_view c.match-index_mut.self-inside) c.args.addr c.args.n (λ k. made_byte c.args.fill.now (c.args.made + k))) c.self.view_is
+          (subst (λ (q : Memory). PartWritten Bytes m q c.args.addr c.args.n (λ k. made_byte c.args.fill.now (c.args.made + k))) (sym same) done)
+      | in-None w ↦ absurd (never-none m c.args.addr c.args.n p s1.0 s0 (sym at ∙ w.in-None.is))
+    ]
 
 pub invariant_of-self : goal.invariant_of-self
-invariant_of-self c =
-    (wrote Bytes c.self.inside.table c.self.inside.areas c.args.self.now c.index-self-spot.result c.put_made.new.block c.args.addr c.args.n c.in-Some.spot (λ k. made_byte c.args.fill.now (c.args.made + k)) c.self.invariant c.self.view_is c.in-Some.ensures c.put_made.ensures.others c.put_made.ensures.shown).memory
+invariant_of-self c = (written c).memory
 
 pub returns-clause-bytes : goal.returns-clause-bytes
-returns-clause-bytes c =
-    (wrote Bytes c.self.inside.table c.self.inside.areas c.args.self.now c.index-self-spot.result c.put_made.new.block c.args.addr c.args.n c.in-Some.spot (λ k. made_byte c.args.fill.now (c.args.made + k)) c.self.invariant c.self.view_is c.in-Some.ensures c.put_made.ensures.others c.put_made.ensures.shown).shown_is
+returns-clause-bytes c = (written c).shown_is
 
 pub returns-clause-shadow : goal.returns-clause-shadow
-returns-clause-shadow c =
-    (wrote Bytes c.self.inside.table c.self.inside.areas c.args.self.now c.index-self-spot.result c.put_made.new.block c.args.addr c.args.n c.in-Some.spot (λ k. made_byte c.args.fill.now (c.args.made + k)) c.self.invariant c.self.view_is c.in-Some.ensures c.put_made.ensures.others c.put_made.ensures.shown).rest_is
+returns-clause-shadow c = (written c).rest_is
 
 pub returns-clause-origins : goal.returns-clause-origins
-returns-clause-origins c =
-    (wrote Bytes c.self.inside.table c.self.inside.areas c.args.self.now c.index-self-spot.result c.put_made.new.block c.args.addr c.args.n c.in-Some.spot (λ k. made_byte c.args.fill.now (c.args.made + k)) c.self.invariant c.self.view_is c.in-Some.ensures c.put_made.ensures.others c.put_made.ensures.shown).origins_is
+returns-clause-origins c = (written c).origins_is
