@@ -56,11 +56,13 @@ module _ (m : Module) (u : Setup) where
   }
 
   module _ (r : Recorded) (g : GoingTold m u r) (r' : Running) (depot : r'.depot ≡ r.running.depot) (told : r'.told ≡ r.running.told) where
-    pub turn_spent : IsSpent (IsRunning m u g.going.beside) m u g.going.state r.running.budget.left r'.fiber r'.world r'.budget.left → TurnedTold m u (ahead m r.running) (Some «end».Spent) (with_running r r')
-    turn_spent h = (
-      going_spent m u r.running g.going r' depot told h,
-      λ wanted. sym (spent_tells m u r.running g.going r' depot told r.calls.items (g.counted wanted) h) ∙ g.same wanted,
-      λ wanted. g.none ∙ sym (ends_spent m u r.running.budget.left g.going.state h.last h.came) ∙ g.ends,
+    pub turn_spent : (h : IsSpent (IsRunning m u g.going.beside) m u g.going.state r.running.budget.left r'.fiber r'.world r'.budget.left) (after : Recorded) → after.running ≡ r' → after.wanted ≡ r.wanted → after.calls ≡ r.calls
+        → (r.wanted ≡ true → after.ended ≡ Some (main_calls m h.last.frames)) → TurnedTold m u (ahead m r.running) (Some «end».Spent) after
+    turn_spent h after is same kept ended = (
+      subst (λ (y : Running). Over m u «end».Spent y) (sym is) (going_spent m u r.running g.going r' depot told h),
+      λ wanted.
+          let w : r.wanted ≡ true = sym same ∙ wanted in ap (λ v. v.items) kept ∙ sym (spent_tells m u r.running g.going r' depot told r.calls.items (g.counted w) h) ∙ g.same w,
+      λ wanted. ended (sym same ∙ wanted) ∙ sym (ends_spent m u r.running.budget.left g.going.state h.last h.came) ∙ g.ends,
     )
 
     pub turn_ended : (e : End) (h : HasEnded m u g.going.beside g.going.state r.running.budget.left e r'.fiber r'.world) (after : Recorded) → after.running ≡ r' → after.wanted ≡ r.wanted → after.calls ≡ r.calls

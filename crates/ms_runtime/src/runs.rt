@@ -44,7 +44,7 @@ pub struct Recorded {
     pub wanted: bool,
     /// Where they are wanted, the calls that stood at each report so far, in order; else none.
     pub calls: Vec<Calls>,
-    /// The calls that stood where the run ended, where they are wanted, and it has ended before its steps were spent.
+    /// The calls that stood where the run ended, where they are wanted, and it has ended.
     pub ended: Option<Calls>,
 }
 
@@ -54,7 +54,7 @@ pub struct ToldRun {
     pub result: RunResult,
     /// The calls that stood at each report, in order; none where they weren't asked for.
     pub calls: List<Calls>,
-    /// The calls that stood where the run ended; none where its steps were spent, and where they weren't asked for.
+    /// The calls that stood where the run ended; none where they weren't asked for, and of a run with threads whose steps were spent.
     pub end_calls: Option<Calls>,
 }
 
@@ -255,7 +255,10 @@ impl Recorded {
             &mut running.world,
             &mut running.budget,
         )? {
-            Pause::Spent => Ok(Some(End::Spent)),
+            Pause::Spent => {
+                self.note_end(alloc, m)?;
+                Ok(Some(End::Spent))
+            }
             Pause::Ended(end) => {
                 self.note_end(alloc, m)?;
                 Ok(Some(end))
