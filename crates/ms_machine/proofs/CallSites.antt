@@ -21,10 +21,10 @@ use Rattle.ms_host.specs.State.{WorldState, Beside}
 use Rattle.ms_machine_frames.specs.declared.frames.Frame.{Frame as Kept}
 use Rattle.ms_machine_frames.specs.declared.fibers.Fiber.{Fiber}
 use Rattle.ms_machine_frames.specs.Standing.{FramesStand, frames_of}
+use Rattle.ms_machine_steps.specs.Callers.{CallersStand, CallersOf}
 use Rattle.ms_machine_steps.proofs.Due.{due_good, site_stands, site_within}
 use Rattle.ms_machine.specs.Running.{AllStandFor, IsRunning}
 use Rattle.ms_machine.specs.Calls.{number_in, sites_of}
-use Rattle.ms_machine.specs.Standing.{RunsSomewhere}
 use Rattle.ms_machine.proofs.Programs.{frames_to}
 
 -- ---- lists in the other order
@@ -64,23 +64,23 @@ module _ (m : Module) (p : Program) (compiled : Compiled m p) where
   lower_sites top [] (f ∷ fs) s g = absurd s
   lower_sites top (k ∷ ks) [] s g = absurd s
 
-  all_within : (fiber : Fiber) (fs : List (Frame ℕ)) → AllStandFor m (frames_of fiber) fs → GoodFrames IsBelow m fs → All (λ (k : Kept). k.at < length p.sites) fiber.below.items
-  all_within fiber [] s g = absurd g
-  all_within fiber (f ∷ fs) s g =
-      let both = frames_to m p compiled (frames_of fiber) (f ∷ fs) s in
+  pub within_callers : (fiber : Fiber) (fs : List (Frame ℕ)) → CallersOf m fiber fs → All (λ (k : Kept). k.at < length p.sites) fiber.below.items
+  within_callers fiber [] c = absurd c.stand
+  within_callers fiber (f ∷ fs) c =
       subst (All (λ (k : Kept). k.at < length p.sites)) (reverse-reverse fiber.below.items)
-      (all_reversed (λ (k : Kept). k.at < length p.sites) (reverse fiber.below.items) (lower_within f (reverse fiber.below.items) fs both.1 g))
+      (all_reversed (λ (k : Kept). k.at < length p.sites) (reverse fiber.below.items)
+      (lower_within f (reverse fiber.below.items) fs (frames_to m p compiled (reverse fiber.below.items) fs c.stand) c.good))
 
-  pub within_somewhere : (fiber : Fiber) → RunsSomewhere m fiber → All (λ (k : Kept). k.at < length p.sites) fiber.below.items
-  within_somewhere fiber r = let runs = r.1.3 in all_within fiber r.1.2.frames runs.frames runs.sound.frames
+  -- the calls that stand
+  pub calls_are : (fiber : Fiber) (fs : List (Frame ℕ)) → CallersOf m fiber fs → reverse (sites_of p.sites fiber.below.items) ≡ call_sites m fs
+  calls_are fiber [] c = absurd c.stand
+  calls_are fiber (f ∷ fs) c =
+      reversed_sites p.sites fiber.below.items ∙ lower_sites f (reverse fiber.below.items) fs (frames_to m p compiled (reverse fiber.below.items) fs c.stand) c.good
 
-  sites_are : (fiber : Fiber) (fs : List (Frame ℕ)) → AllStandFor m (frames_of fiber) fs → GoodFrames IsBelow m fs → reverse (sites_of p.sites fiber.below.items) ≡ call_sites m fs
-  sites_are fiber [] s g = absurd g
-  sites_are fiber (f ∷ fs) s g =
-      let both = frames_to m p compiled (frames_of fiber) (f ∷ fs) s in
-      reversed_sites p.sites fiber.below.items ∙ lower_sites f (reverse fiber.below.items) fs both.1 g
-
-  -- the calls of a fiber that runs
-  pub calls_are : (fiber : Fiber) (u : Setup) (beside : Beside) (w : WorldState) (state : PlainState) → IsRunning m u beside fiber w state
-      → reverse (sites_of p.sites fiber.below.items) ≡ call_sites m state.frames
-  calls_are fiber u beside w state runs = sites_are fiber state.frames runs.frames runs.sound.frames
+-- the callers of a fiber that runs
+pub callers_run : (m : Module) (fiber : Fiber) (u : Setup) (beside : Beside) (w : WorldState) (state : PlainState) → IsRunning m u beside fiber w state → CallersOf m fiber state.frames
+callers_run m fiber u beside w state runs = record { stand = by_frames state.frames runs.frames; good = runs.sound.frames }
+  where
+    by_frames : (fs : List (Frame ℕ)) → AllStandFor m (frames_of fiber) fs → CallersStand m fiber fs
+    by_frames [] s = absurd s
+    by_frames (f ∷ fs) s = s.1

@@ -14,6 +14,7 @@ use Rattle.ms_machine_frames.specs.declared.frames.Frame.{Frame as Kept}
 use Rattle.ms_machine_frames.specs.declared.fibers.Fiber.{Fiber}
 use Rattle.ms_machine_frames.specs.Standing.{Stands, FramesStand, frames_of, IsState, Standing}
 use Rattle.ms_machine_steps.specs.Advances.{HasResumed}
+use Rattle.ms_machine_steps.proofs.Callers as callers
 use Rattle.ms_machine_steps.specs.Waiting.{IsWaiting}
 use Rattle.ms_machine.specs.Running.{StandsFor, AllStandFor, IsRunning, Runs, WaitsFor}
 
@@ -29,15 +30,6 @@ module _ (m : Module) (p : Program) (compiled : Compiled m p) where
     mark = s.mark;
   }
 
-  frame_of : (k : Kept) (f : Frame ℕ) → Stands m p k f → StandsFor m k f
-  frame_of k f s = record {
-    func = s.func;
-    is = s.is;
-    at = s.at;
-    holds = s.holds;
-    mark = s.mark;
-  }
-
   pub frames_to : (ks : List Kept) (fs : List (Frame ℕ)) → AllStandFor m ks fs → FramesStand m p ks fs
   frames_to [] [] s = tt
   frames_to (k ∷ ks) (f ∷ fs) s = (frame_to k f s.0, frames_to ks fs s.1)
@@ -45,10 +37,7 @@ module _ (m : Module) (p : Program) (compiled : Compiled m p) where
   frames_to (k ∷ ks) [] s = elim s [ ]
 
   pub frames_from : (ks : List Kept) (fs : List (Frame ℕ)) → FramesStand m p ks fs → AllStandFor m ks fs
-  frames_from [] [] s = tt
-  frames_from (k ∷ ks) (f ∷ fs) s = (frame_of k f s.0, frames_from ks fs s.1)
-  frames_from [] (f ∷ fs) s = elim s [ ]
-  frames_from (k ∷ ks) [] s = elim s [ ]
+  frames_from ks fs s = callers.frames_from m p ks fs s
 
   pub state_to : Formed m → Valid m → (u : Setup) (beside : Beside) (fiber : Fiber) (w : WorldState) (state : PlainState) → IsRunning m u beside fiber w state → IsState m p u beside fiber w state
   state_to formed valid u beside fiber w state r = record {

@@ -1,16 +1,11 @@
 -- Fibers and worlds that stand for a state of the plain run of a module (own).
-use Rattle.std.specs.Prelude.{◌≡◌, ℕ, List, [], ◌∷◌, Some}
-use Rattle.ms_ir.specs.declared.syntax.Func.{Func}
+use Rattle.std.specs.Prelude.{◌≡◌, ℕ, List}
 use Rattle.ms_ir.specs.declared.syntax.Module.{Module}
-use Rattle.ms_ir.specs.Instructions.{func_at}
-use Rattle.ms_ir.specs.Locals.{locals}
 use Rattle.ms_runs.specs.declared.runs.Setup.{Setup}
 use Rattle.ms_runs.specs.Control.{Frame}
 use Rattle.ms_runs.specs.Plain.{PlainState}
 use Rattle.ms_runs_good_laws.specs.GoodWorlds.{GivesBytes}
 use Rattle.ms_runs_good_laws.specs.GoodRuns.{SoundPlain}
-use Rattle.ms_machine_code.specs.Reads.{Holds}
-use Rattle.ms_machine_code.specs.Encodes.{number_of}
 use Rattle.ms_host.specs.State.{WorldState, Beside}
 use Rattle.ms_host.specs.Shows.{Shows}
 use Rattle.ms_host.specs.SlotBytes.{ShowsSlots}
@@ -20,20 +15,15 @@ use Rattle.ms_machine_frames.specs.declared.fibers.Fiber.{Fiber}
 use Rattle.ms_machine_frames.specs.Owning.{Owns}
 use Rattle.ms_machine_frames.specs.Standing.{frames_of}
 use Rattle.ms_machine_steps.specs.Waiting.{FirstWaits}
+use Rattle.ms_machine_steps.specs.Callers as callers
 
 -- a kept frame stands for one of the definitions
-pub record StandsFor (m : Module) (kept : Kept) (frame : Frame ℕ) : Type 0 where
-  pub func : Func
-  pub is : func_at m frame.func ≡ Some func
-  pub at : kept.at ≡ number_of m frame.func frame.block frame.place
-  pub holds : Holds (locals func) kept.values.items frame.values
-  pub mark : kept.mark ≡ frame.mark
+abbrev pub StandsFor : Module → Kept → Frame ℕ → Type 0
+StandsFor m kept frame = callers.StandsFor m kept frame
 
 -- kept frames stand for frames of the definitions, innermost first
 abbrev pub AllStandFor : Module → List Kept → List (Frame ℕ) → Type 0
-AllStandFor m [] [] = Unit {0}
-AllStandFor m (k ∷ ks) (f ∷ fs) = StandsFor m k f × AllStandFor m ks fs
-AllStandFor m ks fs = ⊥
+AllStandFor m ks fs = callers.AllStandFor m ks fs
 
 -- a fiber and a world stand for a state of the plain run of a module with a setup, where so much is kept beside
 pub record IsRunning (m : Module) (u : Setup) (beside : Beside) (fiber : Fiber) (w : WorldState) (state : PlainState) : Type 0 where

@@ -1,7 +1,8 @@
 //! The calls that stand at a pause.
-ghost use Rattle.std.specs.Prelude.{◌≡◌, ◌<◌, length, All, IfOk};
-ghost use Rattle.ms_runs.specs.{declared.runs.Setup.{Setup}, Plain.{PlainState}, Calls.{call_sites}};
+ghost use Rattle.std.specs.Prelude.{◌≡◌, ◌<◌, ℕ, List, length, All, IfOk};
+ghost use Rattle.ms_runs.specs.{declared.runs.Setup.{Setup}, Control.{Frame as FrameOf}, Plain.{PlainState}, Calls.{call_sites}};
 ghost use Rattle.ms_host.specs.State.{Beside, WorldState};
+ghost use Rattle.ms_machine_steps.specs.Callers.{CallersOf};
 ghost use Rattle.ms_machine.specs.{Running.{IsRunning}, Standing.{RunsSomewhere}, Calls.{number_in, sites_of}};
 
 use ms_bits::{List, NoMemory};
@@ -35,6 +36,14 @@ fn list_sites(alloc: Global, sites: &[Site], frames: &[Frame]) -> Result<Vec<u32
 pub fn calls(alloc: Global, m: &CheckedModule, fiber: &Fiber) -> Result<List<u32>, NoMemory>
     requires { RunsSomewhere m.now fiber.now }
     ensures { (u : Setup) (beside : Beside) (w : WorldState) (state : PlainState) → IsRunning m.now u beside fiber.now w state → IfOk result (λ sites. sites ≡ call_sites m.now state.frames) }
+{
+    calls_below(alloc, m, fiber)
+}
+
+/// The same of any fiber whose callers stand, as those do of one in which a run has ended.
+pub fn calls_below(alloc: Global, m: &CheckedModule, fiber: &Fiber) -> Result<List<u32>, NoMemory>
+    requires { (frames : List (FrameOf ℕ)) × CallersOf m.now fiber.now frames }
+    ensures { (frames : List (FrameOf ℕ)) → CallersOf m.now fiber.now frames → IfOk result (λ sites. sites ≡ call_sites m.now frames) }
 {
     m.law_valid();
     let program = m.program();

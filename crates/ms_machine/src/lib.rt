@@ -14,7 +14,7 @@ mod spawning;
 mod starting;
 mod words;
 
-pub use callers::calls;
+pub use callers::{calls, calls_below};
 pub use inspect::{frames, place, word};
 pub use running::{advance, printed_types, resume};
 pub use spawning::spawn;

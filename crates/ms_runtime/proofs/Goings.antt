@@ -1,5 +1,5 @@
 -- From pause to pause a run keeps what it answers.
-use Rattle.std.proofs.Common.{◌≡◌, ◌<◌, ◌≤◌, ◌+◌, ◌-◌, ◌*◌, ◌^◌, ℕ, zero, suc, Bool, true, false, eqb, if◌then◌else◌, List, [], ◌∷◌, slice_get, length, min, refl, sym, ap, subst, ◌∙◌, arith, Option}
+use Rattle.std.proofs.Common.{◌≡◌, ◌<◌, ◌≤◌, ◌+◌, ◌-◌, ◌*◌, ◌^◌, ℕ, zero, suc, Bool, true, false, eqb, if◌then◌else◌, List, [], ◌∷◌, slice_get, length, min, refl, sym, ap, subst, ◌∙◌, arith, Option, Some}
 use Rattle.ms_ir.specs.declared.syntax.Module.{Module}
 use Rattle.ms_ir.specs.declared.syntax.Name.{Name}
 use Rattle.ms_ir.specs.declared.syntax.Ty.{Ty}
@@ -19,7 +19,7 @@ use Rattle.ms_runs.specs.World.{World, result, stuck}
 use Rattle.ms_runs.specs.Memory.{end_block, end_blocks}
 use Rattle.ms_runs.specs.Control.{Frame, release, given_back}
 use Rattle.ms_runs.specs.Plain.{PlainState, go_on, run, plain, plain_start, Stop}
-use Rattle.ms_runs.specs.Calls.{main_calls, tell, plain_calls}
+use Rattle.ms_runs.specs.Calls.{main_calls, tell, plain_calls, plain_end_calls}
 use Rattle.ms_runs_good_laws.proofs.ThreadsApart.{none_called}
 use Rattle.ms_runs_good_laws.proofs.Frames.{same_insts}
 use Rattle.ms_check_valid.specs.Formed.{Formed}
@@ -44,6 +44,7 @@ use Rattle.ms_runtime.specs.declared.runs.Running.{Running}
 use Rattle.ms_runtime.specs.Served.{IsBeside, CanAnswer}
 use Rattle.ms_runtime.specs.Answering.{AnsweredFor}
 use Rattle.ms_runtime.specs.Going.{ahead, Begins, Going, LeftAfter, HasSlack, Asking, Paused, Answers, Over}
+use Rattle.ms_runtime.proofs.EndedSteps.{ends_from, rest_ends, ends_due, ends_within}
 use Rattle.ms_runtime.proofs.ToldSteps.{tells, rest_told, one_grows, told_spent, told_ends, told_due, told_within, told_early}
 
 -- ---- numbers
@@ -153,7 +154,7 @@ module _ (m : Module) (u : Setup) where
         told_over «end».Spent h.last.world g.beside r' (sym g.same ∙ run_spent (λ (s : PlainState). s.world) (step_of m u) r.budget.left g.state h.last h.came) h.stands.shows still_beside still_few
 
     -- a step ended it
-    pub going_ended : (e : End) → HasEnded m u g.beside g.state r.budget.left e r'.world → Over m u e r'
+    pub going_ended : (e : End) → HasEnded m u g.beside g.state r.budget.left e r'.fiber r'.world → Over m u e r'
     going_ended e h =
         told_over e h.last g.beside r' (sym g.same ∙ run_ends (λ (s : PlainState). s.world) (step_of m u) r.budget.left h.done g.state h.before e h.last h.few h.came h.ends.step) h.shows still_beside still_few
 
@@ -217,6 +218,13 @@ module _ (m : Module) (u : Setup) where
           let same : length h.within.world.reports ≡ length r.told.reports = ap length (h.stands.shows.reports ∙ g.told.reports) in
           told_due m u r.budget.left b.0 h.done g.state h.before calls b.1.1 h.came (omega (arith, up, same, count)) ∙ told_within m u h.before h.within h.same b.0 calls
 
+      -- and so is what is said of its end
+      pub going_ends : ends_from m u r.budget.left g.state ≡ rest_ends m u going_asks.asking.within going_asks.rest (step_of m u going_asks.asking.within)
+      unfolding going_asks
+      going_ends =
+          let b : (rest : ℕ) × (LeftAfter call.asked rest r'.budget.left × (rest + h.done + 1 ≡ r.budget.left)) = after m u g.beside g.state r r' g.keeping.room call h made in
+          ends_due m u r.budget.left b.0 h.done g.state h.before b.1.1 h.came ∙ ends_within m u h.before h.within h.same b.0
+
     -- nor is more told where no step is left, or a step ended the run
     told_as : (calls : List Calls) → length calls ≡ length r.told.reports → (last : World) → last.reports ≡ g.beside.reports → length last.reports ≤ length calls
     told_as calls count last e = let same : length last.reports ≡ length r.told.reports = ap length (e ∙ g.told.reports) in omega (arith, same, count)
@@ -224,7 +232,7 @@ module _ (m : Module) (u : Setup) where
     pub spent_tells : (calls : List Calls) → length calls ≡ length r.told.reports → IsSpent (IsRunning m u g.beside) m u g.state r.budget.left r'.fiber r'.world r'.budget.left → tells m u r.budget.left g.state calls ≡ calls
     spent_tells calls count h = told_spent m u r.budget.left g.state h.last calls h.came (told_as calls count h.last.world h.stands.shows.reports)
 
-    pub ended_tells : (calls : List Calls) → length calls ≡ length r.told.reports → (e : End) → HasEnded m u g.beside g.state r.budget.left e r'.world → tells m u r.budget.left g.state calls ≡ calls
+    pub ended_tells : (calls : List Calls) → length calls ≡ length r.told.reports → (e : End) → HasEnded m u g.beside g.state r.budget.left e r'.fiber r'.world → tells m u r.budget.left g.state calls ≡ calls
     ended_tells calls count e h = told_ends m u r.budget.left h.done g.state h.before e h.last calls h.few h.came h.ends.step (told_as calls count h.last h.shows.reports)
 
     pub finished_tells : (calls : List Calls) → length calls ≡ length r.told.reports → (word : ℕ) → HasFinished m u g.beside g.state r.budget.left word r'.world r'.budget.left → tells m u r.budget.left g.state calls ≡ calls
@@ -278,6 +286,25 @@ module _ (m : Module) (u : Setup) where
         stops_so : (of : Asked) (last : World) → Stops m u of a.within e last → step_of m u a.within ≡ Stop e last
         stops_so (asked.External x) last h = h.0
         stops_so (asked.Runtime f) last h = h.step
+
+    -- the calls stand where it waited
+    pub ends_end : (e : End) → AnsweredFor m u call a.within (answer.Ended e) r r' → rest_ends m u a.within b.rest (step_of m u a.within) ≡ Some (main_calls m a.within.frames)
+    ends_end e x =
+        let stopped : HasStopped m u x.beside call.asked a.within e r'.world = answered_ends m p u a.beside r.fiber r.world a.within stands call a.waits x.beside r'.world x.keeps.fill x.keeps.slots e x.answered in
+        ap (rest_ends m u a.within b.rest) (stops_there call.asked stopped.last stopped.ends)
+      where
+        stops_there : (of : Asked) (last : World) → Stops m u of a.within e last → step_of m u a.within ≡ Stop e last
+        stops_there (asked.External x) last h = h.0
+        stops_there (asked.Runtime f) last h = h.step
+
+    -- or the same is said of the end from the state after it on
+    pub goes_ends : (r'' : Running) (g : Going m u r'') → Resumes m u call.asked a.within g.state → r''.budget.left ≡ r.budget.left → rest_ends m u a.within b.rest (step_of m u a.within) ≡ plain_end_calls m u
+        → ends_from m u r''.budget.left g.state ≡ plain_end_calls m u
+    goes_ends r'' g resumes left is = ap (λ (n : ℕ). ends_from m u n g.state) left ∙ by_asked call.asked b.counted resumes
+      where
+        by_asked : (of : Asked) → LeftAfter of b.rest r.budget.left → Resumes m u of a.within g.state → ends_from m u r.budget.left g.state ≡ plain_end_calls m u
+        by_asked (asked.External e) c h = ap (λ (n : ℕ). ends_from m u n g.state) (sym c) ∙ sym (ap (rest_ends m u a.within b.rest) h.0) ∙ is
+        by_asked (asked.Runtime f) c h = ap (λ (n : ℕ). ends_from m u n g.state) (sym c) ∙ sym (ends_within m u a.within g.state h b.rest) ∙ is
 
     -- what is told from the state after it on
     pub goes_tell : (r'' : Running) (g : Going m u r'') → Resumes m u call.asked a.within g.state → r''.budget.left ≡ r.budget.left → (told calls : List Calls) → told ≡ tell (main_calls m a.within.frames) r''.told.reports calls
@@ -362,3 +389,8 @@ going_begun m u calm r b = record {
 pub begun_tells : (m : Module) (u : Setup) (calm : is_threaded m ≡ false) (r : Running) (b : Begins m u r) (calls : List Calls) → calls ≡ [] → tells m u r.budget.left (going_begun m u calm r b).state calls ≡ plain_calls m u
 unfolding going_begun
 begun_tells m u calm r b calls none = ap (λ (l : List Calls). tells m u r.budget.left (plain_start m u) l) none ∙ ap (λ (n : ℕ). tells m u n (plain_start m u) []) b.budget
+
+-- and so is what is said of its end
+pub begun_ends : (m : Module) (u : Setup) (calm : is_threaded m ≡ false) (r : Running) (b : Begins m u r) → ends_from m u r.budget.left (going_begun m u calm r b).state ≡ plain_end_calls m u
+unfolding going_begun
+begun_ends m u calm r b = ap (λ (n : ℕ). ends_from m u n (plain_start m u)) b.budget

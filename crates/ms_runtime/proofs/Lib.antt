@@ -2,6 +2,7 @@ pub mod Reporting
 pub mod OnMemory
 pub mod RootCounts
 pub mod ToldSteps
+pub mod EndedSteps
 pub mod Goings
 pub mod RecordedRuns
 pub mod NotedCalls

@@ -10,7 +10,7 @@ use Rattle.ms_runs.specs.declared.runs.Setup.{Setup}
 use Rattle.ms_runs.specs.World.{stuck}
 use Rattle.ms_runs.specs.Control.{Frame}
 use Rattle.ms_runs.specs.Plain.{PlainState, Stepped}
-use Rattle.ms_runs.specs.Calls.{main_calls, tell}
+use Rattle.ms_runs.specs.Calls.{call_sites, main_calls, tell}
 use Rattle.ms_runs.proofs.Telling.{tell_count}
 use Rattle.ms_check_valid.specs.Formed.{Formed}
 use Rattle.ms_check_valid.specs.Valid.{Valid}
@@ -29,13 +29,16 @@ use Rattle.ms_machine_steps.specs.Waiting.{Waits, answered}
 use Rattle.ms_machine_steps.specs.Advances.{IsSpent, HasEnded, HasAsked, HasFinished, Resumes}
 use Rattle.ms_machine.specs.Running.{AllStandFor, IsRunning}
 use Rattle.ms_machine.specs.Standing.{RunsSomewhere}
+use Rattle.ms_machine_steps.specs.Callers.{CallersOf}
+use Rattle.ms_machine.proofs.CallSites.{callers_run}
 use Rattle.ms_runtime.specs.declared.runs.Running.{Running}
 use Rattle.ms_runtime.specs.declared.runs.Recorded.{Recorded}
 use Rattle.ms_runtime.specs.Answering.{AnsweredFor}
 use Rattle.ms_runtime.specs.Going.{ahead, Begins, Over}
 use Rattle.ms_runtime.specs.Recorded.{GoingTold, PausedTold, TurnedTold, Noted}
 use Rattle.ms_runtime.proofs.ToldSteps.{one_grows}
-use Rattle.ms_runtime.proofs.Goings.{going_begun, begun_tells, going_spent, going_ended, going_finished, going_asks, going_tells, spent_tells, ended_tells, finished_tells, asked_ends, asked_goes_on, ends_tell, goes_tell}
+use Rattle.ms_runtime.proofs.EndedSteps.{ends_spent, ends_there}
+use Rattle.ms_runtime.proofs.Goings.{going_begun, begun_tells, going_spent, going_ended, going_finished, going_asks, going_tells, spent_tells, ended_tells, finished_tells, asked_ends, asked_goes_on, ends_tell, goes_tell, begun_ends, going_ends, ends_end, goes_ends}
 
 -- with other running parts
 abbrev pub with_running : Recorded → Running → Recorded
@@ -43,11 +46,13 @@ with_running r running = record r { running = running }
 
 module _ (m : Module) (u : Setup) where
   -- a run at its start has recorded nothing
-  pub told_begun : is_threaded m ≡ false → (r : Recorded) → Begins m u r.running → r.calls.items ≡ [] → GoingTold m u r
-  told_begun calm r b none = record {
+  pub told_begun : is_threaded m ≡ false → (r : Recorded) → Begins m u r.running → r.calls.items ≡ [] → r.ended ≡ None → GoingTold m u r
+  told_begun calm r b none unended = record {
     going = going_begun m u calm r.running b;
     counted = λ wanted. ap length none ∙ ap length b.told.reports;
     same = λ wanted. begun_tells m u calm r.running b r.calls.items none;
+    none = unended;
+    ends = begun_ends m u calm r.running b;
   }
 
   module _ (r : Recorded) (g : GoingTold m u r) (r' : Running) (depot : r'.depot ≡ r.running.depot) (told : r'.told ≡ r.running.told) where
@@ -55,18 +60,30 @@ module _ (m : Module) (u : Setup) where
     turn_spent h = (
       going_spent m u r.running g.going r' depot told h,
       λ wanted. sym (spent_tells m u r.running g.going r' depot told r.calls.items (g.counted wanted) h) ∙ g.same wanted,
+      λ wanted. g.none ∙ sym (ends_spent m u r.running.budget.left g.going.state h.last h.came) ∙ g.ends,
     )
 
-    pub turn_ended : (e : End) → HasEnded m u g.going.beside g.going.state r.running.budget.left e r'.world → TurnedTold m u (ahead m r.running) (Some e) (with_running r r')
-    turn_ended e h = (
-      going_ended m u r.running g.going r' depot told e h,
-      λ wanted. sym (ended_tells m u r.running g.going r' depot told r.calls.items (g.counted wanted) e h) ∙ g.same wanted,
+    pub turn_ended : (e : End) (h : HasEnded m u g.going.beside g.going.state r.running.budget.left e r'.fiber r'.world) (after : Recorded) → after.running ≡ r' → after.wanted ≡ r.wanted → after.calls ≡ r.calls
+        → (r.wanted ≡ true → after.ended ≡ Some (main_calls m h.within.frames)) → TurnedTold m u (ahead m r.running) (Some e) after
+    turn_ended e h after is same kept ended = (
+      subst (λ (y : Running). Over m u e y) (sym is) (going_ended m u r.running g.going r' depot told e h),
+      λ wanted.
+          let w : r.wanted ≡ true = sym same ∙ wanted in ap (λ v. v.items) kept ∙ sym (ended_tells m u r.running g.going r' depot told r.calls.items (g.counted w) e h) ∙ g.same w,
+      λ wanted.
+          ended (sym same ∙ wanted) ∙ ap (λ (sites : List ℕ). Some (let c : Calls = record { sites = sites; started = 0 } in c)) (sym h.same.calls)
+          ∙ sym (ends_there m u r.running.budget.left h.done g.going.state h.before e h.last h.few h.came h.ends.step) ∙ g.ends,
     )
 
-    pub turn_finished : (word : ℕ) → HasFinished m u g.going.beside g.going.state r.running.budget.left word r'.world r'.budget.left → TurnedTold m u (ahead m r.running) (Some stuck) (with_running r r')
-    turn_finished word h = (
-      going_finished m u r.running g.going r' depot told word h,
-      λ wanted. sym (finished_tells m u r.running g.going r' depot told r.calls.items (g.counted wanted) word h) ∙ g.same wanted,
+    pub turn_finished : (word : ℕ) → HasFinished m u g.going.beside g.going.state r.running.budget.left word r'.world r'.budget.left → (after : Recorded) → after.running ≡ r' → after.wanted ≡ r.wanted → after.calls ≡ r.calls
+        → (r.wanted ≡ true → after.ended ≡ Some (record { sites = []; started = 0 })) → TurnedTold m u (ahead m r.running) (Some stuck) after
+    turn_finished word h after is same kept ended = (
+      subst (λ (y : Running). Over m u stuck y) (sym is) (going_finished m u r.running g.going r' depot told word h),
+      λ wanted.
+          let w : r.wanted ≡ true = sym same ∙ wanted in ap (λ v. v.items) kept ∙ sym (finished_tells m u r.running g.going r' depot told r.calls.items (g.counted w) word h) ∙ g.same w,
+      λ wanted.
+          ended (sym same ∙ wanted)
+          ∙ ap (λ (sites : List ℕ). Some (let c : Calls = record { sites = sites; started = 0 } in c)) (sym (h.same.calls ∙ ap (call_sites m) h.finishes.frames))
+          ∙ sym (ends_there m u r.running.budget.left h.done g.going.state h.before stuck h.within.world (let c : r'.budget.left + h.done + 1 ≡ r.running.budget.left = h.counted in omega (arith, c)) h.came h.ends) ∙ g.ends,
     )
 
     pub turn_asks : (call : HostCall) → HasAsked (IsRunning m u g.going.beside) m u g.going.state r.running.budget.left r.running.fiber.frame.at call r'.fiber r'.world r'.budget.left
@@ -75,6 +92,8 @@ module _ (m : Module) (u : Setup) where
       paused = going_asks m u r.running g.going r' depot told call h made;
       counted = λ wanted. g.counted wanted ∙ ap (λ (t : RunResult). length t.reports) (sym told);
       same = λ wanted. sym (going_tells m u r.running g.going r' depot told call h made r.calls.items (g.counted wanted)) ∙ g.same wanted;
+      none = g.none;
+      ends = sym (going_ends m u r.running g.going r' depot told call h made) ∙ g.ends;
     }
 
   -- ---- answers
@@ -87,18 +106,23 @@ module _ (m : Module) (u : Setup) where
     pub runs_there : (a : Answer) → AnsweredFor m u call b.paused.asking.within a r.running r' → RunsSomewhere m r'.fiber
     runs_there a x = (r.running.world, (u, b.paused.asking.beside, b.paused.asking.within, fiber_runs a x))
 
+    -- and its callers are those of the state
+    pub callers_there : (a : Answer) → AnsweredFor m u call b.paused.asking.within a r.running r' → CallersOf m r'.fiber b.paused.asking.within.frames
+    callers_there a x = callers_run m r'.fiber u b.paused.asking.beside r.running.world b.paused.asking.within (fiber_runs a x)
+
     -- what is noted there is of the state at which it waited
     noted_there : (a : Answer) → AnsweredFor m u call b.paused.asking.within a r.running r' → (new : List Calls) → Noted m r'.fiber 0 (length r'.told.reports) r.calls.items new
         → new ≡ tell (main_calls m b.paused.asking.within.frames) r'.told.reports r.calls.items
     noted_there a x new noted = noted u b.paused.asking.beside r.running.world b.paused.asking.within (fiber_runs a x)
 
     pub answer_ended : (e : End) → AnsweredFor m u call b.paused.asking.within (answer.Ended e) r.running r' → (after : Recorded) → after.running ≡ r' → after.wanted ≡ r.wanted
-        → (r.wanted ≡ true → Noted m r'.fiber 0 (length r'.told.reports) r.calls.items after.calls.items) → (far : ℕ) → TurnedTold m u far (Some e) after
-    answer_ended e x after is same noted far = (
+        → (r.wanted ≡ true → Noted m r'.fiber 0 (length r'.told.reports) r.calls.items after.calls.items) → (r.wanted ≡ true → after.ended ≡ Some (main_calls m b.paused.asking.within.frames)) → (far : ℕ) → TurnedTold m u far (Some e) after
+    answer_ended e x after is same noted ended far = (
       subst (λ (y : Running). Over m u e y) (sym is) (asked_ends m u p compiled formed valid r.running call b.paused r' e x),
       λ wanted.
           let w : r.wanted ≡ true = sym same ∙ wanted in
           ends_tell m u p compiled formed valid r.running call b.paused r' e x after.calls.items r.calls.items (noted_there (answer.Ended e) x after.calls.items (noted w)) (b.same w),
+      λ wanted. ended (sym same ∙ wanted) ∙ sym (ends_end m u p compiled formed valid r.running call b.paused r' e x) ∙ b.ends,
     )
 
     grown : (of : Asked) (next : PlainState) → Resumes m u of b.paused.asking.within next → length b.paused.asking.within.world.reports ≤ length next.world.reports
@@ -106,12 +130,12 @@ module _ (m : Module) (u : Setup) where
         subst (λ (y : Stepped PlainState). length b.paused.asking.within.world.reports ≤ length (stepped_world y).reports) h.0 (one_grows m u b.paused.asking.within)
     grown (asked.Runtime f) next h = h.reports
 
-    pub answer_goes : (value : Option ℕ) → AnsweredFor m u call b.paused.asking.within (answer.Resumed value) r.running r' → (after : Recorded) → after.wanted ≡ r.wanted
+    pub answer_goes : (value : Option ℕ) → AnsweredFor m u call b.paused.asking.within (answer.Resumed value) r.running r' → (after : Recorded) → after.wanted ≡ r.wanted → after.ended ≡ r.ended
         → (r.wanted ≡ true → Noted m r'.fiber 0 (length r'.told.reports) r.calls.items after.calls.items)
         → after.running.world ≡ r'.world → after.running.depot ≡ r'.depot → after.running.told ≡ r'.told → after.running.budget ≡ r'.budget → after.running.fiber.frame.at ≡ r'.fiber.frame.at + 1 → KeepsOwn r'.fiber after.running.fiber
         → ((frame : Frame ℕ) (below : List (Frame ℕ)) → AllStandFor m (frames_of r'.fiber) (frame ∷ below) → Waits m u frame call → AllStandFor m (frames_of after.running.fiber) (answered m value frame ∷ below))
         → TurnedTold m u (ahead m r.running) None after
-    answer_goes value x after same noted world depot told budget at own frames =
+    answer_goes value x after same unended noted world depot told budget at own frames =
         let q = asked_goes_on m u p compiled formed valid r.running call b.paused r' value x after.running world depot told budget at own frames in
         let is : r.wanted ≡ true → after.calls.items ≡ tell (main_calls m b.paused.asking.within.frames) after.running.told.reports r.calls.items =
         (λ w. noted_there (answer.Resumed value) x after.calls.items (noted w) ∙ ap (λ (t : RunResult). tell (main_calls m b.paused.asking.within.frames) t.reports r.calls.items) (sym told)) in (
@@ -126,6 +150,8 @@ module _ (m : Module) (u : Setup) where
             same = λ wanted.
                 let w : r.wanted ≡ true = sym same ∙ wanted in
                 goes_tell m u p compiled formed valid r.running call b.paused r' after.running q.0 q.1.1 q.1.2 after.calls.items r.calls.items (is w) (b.same w);
+            none = unended ∙ b.none;
+            ends = goes_ends m u p compiled formed valid r.running call b.paused r' after.running q.0 q.1.1 q.1.2 b.ends;
           },
           q.1.0,
         )
@@ -138,3 +164,8 @@ turned_from m u far far' (Some e) r le t = t
 pub told_if : (wanted : Bool) (calls all : List Calls) → (wanted ≡ true → calls ≡ all) → (if wanted then calls else []) ≡ (if wanted then all else [])
 told_if true calls all h = h refl
 told_if false calls all h = refl
+
+-- and of its end
+pub ended_if : (wanted : Bool) (one all : Option Calls) → (wanted ≡ true → one ≡ all) → (if wanted then one else None) ≡ (if wanted then all else None)
+ended_if true one all h = h refl
+ended_if false one all h = refl

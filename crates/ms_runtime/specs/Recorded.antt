@@ -6,7 +6,7 @@ use Rattle.ms_runs.specs.declared.runs.End.{End}
 use Rattle.ms_runs.specs.declared.runs.Setup.{Setup}
 use Rattle.ms_runs.specs.Control.{Frame}
 use Rattle.ms_runs.specs.Plain.{PlainState}
-use Rattle.ms_runs.specs.Calls.{call_sites, main_calls, told_in, told_after, plain_calls}
+use Rattle.ms_runs.specs.Calls.{call_sites, main_calls, told_in, told_after, ends_in, ends_after, plain_calls, plain_end_calls}
 use Rattle.ms_host.specs.declared.calls.HostCall.{HostCall}
 use Rattle.ms_host.specs.State.{WorldState, Beside}
 use Rattle.ms_machine_frames.specs.declared.fibers.Fiber.{Fiber}
@@ -29,22 +29,35 @@ RecordsAfter m u rest within calls =
     (told_in (λ (p : PlainState). p.world) (λ (p : PlainState). main_calls m p.frames) (step_of m u) rest) calls (step_of m u within)
     ≡ plain_calls m u
 
+-- what is said of the end of a run from a state on is what the run says of it
+abbrev pub EndsFrom : Module → Setup → ℕ → PlainState → Type 0
+EndsFrom m u left state = ends_in (λ (p : PlainState). main_calls m p.frames) (step_of m u) left state ≡ plain_end_calls m u
+
+-- the same from within a step on
+abbrev pub EndsAfter : Module → Setup → ℕ → PlainState → Type 0
+EndsAfter m u rest within =
+    ends_after (main_calls m within.frames) (ends_in (λ (p : PlainState). main_calls m p.frames) (step_of m u) rest) (step_of m u within) ≡ plain_end_calls m u
+
 -- a run goes on, and the calls at each report so far are recorded
 pub record GoingTold (m : Module) (u : Setup) (r : Recorded) : Type 0 where
   pub going : Going m u r.running
   pub counted : r.wanted ≡ true → length r.calls.items ≡ length r.running.told.reports
   pub same : r.wanted ≡ true → RecordsFrom m u r.running.budget.left going.state r.calls.items
+  pub none : r.ended ≡ None
+  pub ends : EndsFrom m u r.running.budget.left going.state
 
 -- a run waits for the answer of a call
 pub record PausedTold (m : Module) (u : Setup) (call : HostCall) (r : Recorded) : Type 0 where
   pub paused : Paused m u call r.running
   pub counted : r.wanted ≡ true → length r.calls.items ≡ length r.running.told.reports
   pub same : r.wanted ≡ true → RecordsAfter m u paused.rest paused.asking.within r.calls.items
+  pub none : r.ended ≡ None
+  pub ends : EndsAfter m u paused.rest paused.asking.within
 
 -- a run goes on, and is nearer to its end, or it has ended
 abbrev pub TurnedTold : Module → Setup → ℕ → Option End → Recorded → Type 0
 TurnedTold m u far None r = GoingTold m u r × (ahead m r.running < far)
-TurnedTold m u far (Some e) r = Over m u e r.running × (r.wanted ≡ true → r.calls.items ≡ plain_calls m u)
+TurnedTold m u far (Some e) r = Over m u e r.running × (r.wanted ≡ true → r.calls.items ≡ plain_calls m u) × (r.wanted ≡ true → r.ended ≡ plain_end_calls m u)
 
 -- a run that goes on, with some setup
 abbrev pub IsGoing : Module → ReportLimit → Recorded → Type 0

@@ -10,6 +10,6 @@ mod serving;
 mod thread_results;
 
 pub use reports::ReportLimit;
-pub use runs::{Running, ToldRun, note_calls, run, run_told, start_run, told_calls};
+pub use runs::{Running, ToldRun, note_calls, run, run_told, start_run, told_calls, told_end};
 pub use serving::serve;
 pub use thread_results::thread_result;

@@ -1,10 +1,11 @@
 //! Whole runs: from pause to pause, each of which is answered.
-ghost use Rattle.std.specs.Prelude.{◌≡◌, ◌<◌, ◌≤◌, ℕ, true, false, [], length, if◌then◌else◌, IfOk, OnOk};
+ghost use Rattle.std.specs.Prelude.{◌≡◌, ◌<◌, ◌≤◌, ℕ, true, false, List, [], length, Some, None, if◌then◌else◌, IfOk, OnOk};
 ghost use Rattle.ms_ir.specs.ThreadCalls.{is_threaded};
 ghost use Rattle.ms_runs.specs.declared.runs.RunResult.{RunResult as ResultOf};
 ghost use Rattle.ms_runs.specs.{declared.runs.Setup.{Setup as SetupOf}, Limits.{WithinLimits}, World.{stuck}};
-ghost use Rattle.ms_runs.specs.Plain.{plain};
+ghost use Rattle.ms_runs.specs.{Plain.{plain}, Calls.{main_calls}, Control.{Frame as FrameOf}};
 ghost use Rattle.ms_host.specs.Answers.{Answered};
+ghost use Rattle.ms_machine_steps.specs.Callers.{CallersOf};
 ghost use Rattle.ms_machine.specs.Standing.{RunsSomewhere};
 ghost use Rattle.ms_runtime.specs.Going.{Begins, Going, Asking, Answers, IsAsking, ahead};
 ghost use Rattle.ms_runtime.specs.Recorded.{GoingTold, PausedTold, TurnedTold, IsGoing, IsPaused, Noted};
@@ -18,7 +19,7 @@ use ms_check::CheckedModule;
 use ms_depot::Depot;
 use ms_host::{Answer, Asked, HostCall, World, answer};
 use ms_ir::{External, roots};
-use ms_machine::{advance, calls, printed_types, resume, start};
+use ms_machine::{advance, calls, calls_below, printed_types, resume, start};
 use ms_machine_frames::{Budget, Fiber, Pause};
 use ms_printf::answer_typed;
 use ms_runs::{Calls, End, RunResult, Setup};
@@ -43,6 +44,8 @@ pub struct Recorded {
     pub wanted: bool,
     /// Where they are wanted, the calls that stood at each report so far, in order; else none.
     pub calls: Vec<Calls>,
+    /// The calls that stood where the run ended, where they are wanted, and it has ended before its steps were spent.
+    pub ended: Option<Calls>,
 }
 
 /// What a run returns, and what is told beside it.
@@ -51,6 +54,8 @@ pub struct ToldRun {
     pub result: RunResult,
     /// The calls that stood at each report, in order; none where they weren't asked for.
     pub calls: List<Calls>,
+    /// The calls that stood where the run ended; none where its steps were spent, and where they weren't asked for.
+    pub end_calls: Option<Calls>,
 }
 
 /// The end of a run without threads in which a function other than `main` returns, and nothing stands below it.
@@ -172,6 +177,34 @@ pub fn note_calls(
 }
 
 impl Recorded {
+    /// Records the calls that stand where the run has ended, if they are wanted.
+    fn note_end(&mut self, alloc: Global, m: &CheckedModule) -> Result<(), NoMemory>
+        requires { (frames : List (FrameOf ℕ)) × CallersOf m.now self.old.running.fiber frames }
+        ensures running { self.new.running ≡ self.old.running }
+        ensures wanted { self.new.wanted ≡ self.old.wanted }
+        ensures calls { self.new.calls ≡ self.old.calls }
+        ensures ended { (frames : List (FrameOf ℕ)) → CallersOf m.now self.old.running.fiber frames → OnOk result (self.old.wanted ≡ true → self.new.ended ≡ Some (main_calls m.now frames)) }
+    {
+        if self.wanted {
+            let sites = calls_below(alloc, m, &self.running.fiber)?;
+            self.ended = Some(Calls { sites, started: 0 });
+        }
+        Ok(())
+    }
+
+    /// Records that no call stands where the run has ended, if that is wanted.
+    fn note_alone(&mut self, alloc: Global)
+        ensures running { self.new.running ≡ self.old.running }
+        ensures wanted { self.new.wanted ≡ self.old.wanted }
+        ensures calls { self.new.calls ≡ self.old.calls }
+        ensures ended { self.old.wanted ≡ true → self.new.ended ≡ Some (record { sites = []; started = 0 }) }
+    {
+        if self.wanted {
+            let sites = List::from_vec(Vec::new(alloc));
+            self.ended = Some(Calls { sites, started: 0 });
+        }
+    }
+
     /// Answers a host call, records what stood there, and goes on after it. Returns how the run ends, if it does.
     fn answer_call(
         &mut self,
@@ -189,7 +222,10 @@ impl Recorded {
         let answer = self.running.answer_of(alloc, m, &call, limit)?;
         note_calls(alloc, m, &self.running, 0, self.wanted, &mut self.calls)?;
         match answer {
-            Answer::Ended(end) => Ok(Some(end)),
+            Answer::Ended(end) => {
+                self.note_end(alloc, m)?;
+                Ok(Some(end))
+            }
             Answer::Resumed(value) => {
                 resume(m, &mut self.running.fiber, value);
                 self.running.fiber.keep(call.args);
@@ -218,9 +254,15 @@ impl Recorded {
             &mut running.budget,
         )? {
             Pause::Spent => Ok(Some(End::Spent)),
-            Pause::Ended(end) => Ok(Some(end)),
+            Pause::Ended(end) => {
+                self.note_end(alloc, m)?;
+                Ok(Some(end))
+            }
             Pause::Asked(call) => self.answer_call(alloc, m, call, limit),
-            Pause::Finished { .. } => Ok(Some(no_caller())),
+            Pause::Finished { .. } => {
+                self.note_alone(alloc);
+                Ok(Some(no_caller()))
+            }
         }
     }
 }
@@ -236,8 +278,15 @@ pub fn told_calls(alloc: Global, calls: Vec<Calls>, wanted: bool) -> List<Calls>
     }
 }
 
+/// What is recorded of the calls where a run ended, where it is wanted; else none.
+pub fn told_end(ended: Option<Calls>, wanted: bool) -> Option<Calls>
+    ensures { result ≡ (if wanted then ended else None) }
+{
+    if wanted { ended } else { None }
+}
+
 /// Runs a checked module without thread calls to its end. Ok is what its plain run returns, and the calls that stood at each of
-/// its reports, in order, where they are wanted.
+/// its reports, in order, and where it ended, where they are wanted.
 ///
 /// A report takes as long as calls stand there; nothing else takes longer than in `run`.
 pub fn run_told(
@@ -259,13 +308,20 @@ pub fn run_told(
         running,
         wanted,
         calls: Vec::new(alloc),
+        ended: None,
     };
     loop {
         if let Some(end) = recorded.run_to_pause(alloc, m, limit)? {
-            let Recorded { running, calls, .. } = recorded;
+            let Recorded {
+                running,
+                calls,
+                ended,
+                ..
+            } = recorded;
             return Ok(ToldRun {
                 result: running.into_result(end),
                 calls: told_calls(alloc, calls, wanted),
+                end_calls: told_end(ended, wanted),
             });
         }
     }

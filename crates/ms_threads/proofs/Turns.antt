@@ -127,7 +127,7 @@ module _ (m : Module) (u : Setup) (schedule : List ℕ) where
         (sym (spent_tells m u schedule t.running.budget.left g.state h.last g.others g.said h.own h.came started_few (told_few h.last.world h.stands.shows.reports)) ∙ g.tells)
 
     -- a step ended it
-    pub turn_ended : (e : End) → HasStopped m u g.beside g.state t.running.budget.left e t'.running.world → IsOver m u schedule e t'
+    pub turn_ended : (e : End) → HasStopped m u g.beside g.state t.running.budget.left e t'.running.fiber t'.running.world → IsOver m u schedule e t'
     turn_ended e h =
         let rest : ℕ = t.running.budget.left - h.done - 1 in
         let sum : rest + h.done + 1 ≡ t.running.budget.left = omega (arith, h.few) in

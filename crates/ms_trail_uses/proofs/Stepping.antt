@@ -31,7 +31,7 @@ module _ (m : Module) (u : Setup) (beside : Beside) (state : PlainState) (from :
   step_spent : IsSpent (IsRunning m u beside) m u state 1 fiber w left → stepping.Stepped m u beside state true fiber w
   step_spent h = (h.last, (one_taken (step_of m u) state h.last h.came, h.stands))
 
-  step_ended : (e : End) → HasEnded m u beside state 1 e w → stepping.Stepped m u beside state false fiber w
+  step_ended : (e : End) → HasEnded m u beside state 1 e fiber w → stepping.Stepped m u beside state false fiber w
   step_ended e h = (e, h.last, ap (step_of m u) (sym (none_taken (step_of m u) h.done state h.before h.few h.came)) ∙ h.ends.step)
 
   -- nor would a run of `main` alone go on where the only frame returns outside `main`

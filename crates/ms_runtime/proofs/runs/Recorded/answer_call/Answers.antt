@@ -1,13 +1,14 @@
-use Rattle.std.proofs.Common.{List, ◌∷◌, refl, sym, subst, ◌∙◌}
+use Rattle.std.proofs.Common.{List, ◌∷◌, Vec, Global, length, refl, sym, subst, ◌∙◌}
+use Rattle.ms_runs.specs.declared.runs.Calls.{Calls}
 use Rattle.ms_host.specs.declared.calls.Answer.{Answer}
 use Rattle.ms_machine_frames.specs.declared.frames.Frame.{Frame as Kept}
 use Rattle.ms_machine_frames.specs.Standing.{frames_of}
 use Rattle.ms_machine_steps.specs.Waiting.{answered}
 use Rattle.ms_machine.specs.Running.{AllStandFor}
-use Rattle.ms_runtime.specs.declared.runs.Recorded.{Recorded}
 use Rattle.ms_runtime.specs.Answering.{AnsweredFor}
 use Rattle.ms_runtime.specs.Going.{ahead}
-use Rattle.ms_runtime.proofs.RecordedRuns.{runs_there, answer_ended, answer_goes}
+use Rattle.ms_runtime.specs.Recorded.{Noted}
+use Rattle.ms_runtime.proofs.RecordedRuns.{runs_there, callers_there, answer_ended, answer_goes}
 use Rattle.ms_runtime.proofs.runs.Recorded.answer_call.Goals as goal
 
 pub answer_of-requires : goal.answer_of-requires
@@ -27,15 +28,29 @@ resume-requires c =
     let x = c.in_ok-answer.ensures.answered q.0 q.1.0 a in
     (q.0, a.within.frames, c.args.call, (subst (λ f. AllStandFor m (frames_of f) a.within.frames) (sym x.fiber) a.stands.frames, a.waits))
 
+pub note_end-requires : goal.note_end-requires
+note_end-requires c =
+    let q = c.requires.paused in
+    let a = q.1.1.paused.asking in (
+      a.within.frames,
+      callers_there c.args.m.now q.0 c.program-code.result.now c.program-code.ensures c.law_valid.ensures.formed c.law_valid.ensures.valid c.args.call c.args.self.now q.1.1 c.answer_of.new.self c.in_ok-answer.answer
+          (c.in_ok-answer.ensures.answered q.0 q.1.0 a),
+    )
+
 pub returns-in-Ended : goal.returns-in-Ended
 returns-in-Ended c = record {
-  wanted = refl;
+  wanted = c.note_end.ensures.wanted;
   turned = λ u same b.
       let m = c.args.m.now in
-      let after : Recorded = record c.args.self.now { running = c.answer_of.new.self; calls = c.note_calls.new.recorded } in
+      let answered = c.in_ok-answer.ensures.answered u same b.paused.asking in
+      let there =
+          callers_there m u c.program-code.result.now c.program-code.ensures c.law_valid.ensures.formed c.law_valid.ensures.valid c.args.call c.args.self.now b c.answer_of.new.self c.in_ok-answer.answer answered in
       answer_ended m u c.program-code.result.now c.program-code.ensures c.law_valid.ensures.formed c.law_valid.ensures.valid c.args.call c.args.self.now b c.answer_of.new.self c.in-Ended.end
-      (subst (λ (x : Answer). AnsweredFor m u c.args.call b.paused.asking.within x c.args.self.now.running c.answer_of.new.self) c.in-Ended.is (c.in_ok-answer.ensures.answered u same b.paused.asking))
-      after refl refl c.in_ok-note_calls.ensures (ahead m c.args.self.now.running);
+      (subst (λ (x : Answer). AnsweredFor m u c.args.call b.paused.asking.within x c.args.self.now.running c.answer_of.new.self) c.in-Ended.is answered)
+      c.note_end.new.self c.note_end.ensures.running c.note_end.ensures.wanted
+      (λ wanted.
+          subst (λ (v : Vec Calls Global). Noted m c.answer_of.new.self.fiber 0 (length c.answer_of.new.self.told.reports) c.args.self.now.calls.items v.items) (sym c.note_end.ensures.calls) (c.in_ok-note_calls.ensures wanted))
+      (λ wanted. c.in_ok-note_end.ensures.ended b.paused.asking.within.frames there wanted) (ahead m c.args.self.now.running);
 }
 
 pub returns-in-Resumed : goal.returns-in-Resumed
@@ -45,7 +60,7 @@ returns-in-Resumed c = record {
       let m = c.args.m.now in
       answer_goes m u c.program-code.result.now c.program-code.ensures c.law_valid.ensures.formed c.law_valid.ensures.valid c.args.call c.args.self.now b c.answer_of.new.self c.in-Resumed.value
       (subst (λ (x : Answer). AnsweredFor m u c.args.call b.paused.asking.within x c.args.self.now.running c.answer_of.new.self) c.in-Resumed.is (c.in_ok-answer.ensures.answered u same b.paused.asking))
-      _ refl c.in_ok-note_calls.ensures
+      _ refl refl c.in_ok-note_calls.ensures
       refl refl refl refl (c.keep.ensures.at ∙ c.resume.ensures.at)
       (record { spawned = c.keep.ensures.own.spawned ∙ c.resume.ensures.own.spawned; heap = c.keep.ensures.own.heap ∙ c.resume.ensures.own.heap })
       (λ frame below stands waits. subst (λ (ks : List Kept). AllStandFor m ks (answered m c.in-Resumed.value frame ∷ below)) (sym c.keep.ensures.frames) (c.resume.ensures.stands u frame below c.args.call stands waits));

@@ -44,28 +44,41 @@ returns-in-Spent c = record {
       (c.in_ok-advance.ensures.advanced u g.going.beside g.going.state g.going.stands));
 }
 
+pub note_end-requires : goal.note_end-requires
+note_end-requires c =
+    let m = c.args.m.now in
+    let q = c.requires.going in
+    let u = q.0 in
+    let g = q.1.1 in
+    let old = c.args.self.now.running in
+    let h = subst (λ (x : Pause). Advanced (IsRunning m u g.going.beside) m u g.going.beside g.going.state old.budget.left old.fiber.frame.at x c.advance.new.fiber c.advance.new.world c.advance.new.budget.left) c.in-Ended.is
+    (c.in_ok-advance.ensures.advanced u g.going.beside g.going.state g.going.stands) in
+    (h.within.frames, h.callers)
+
 pub returns-in-Ended : goal.returns-in-Ended
 returns-in-Ended c = record {
-  wanted = refl;
+  wanted = c.note_end.ensures.wanted;
   turned = λ u same g.
       let m = c.args.m.now in
       let old = c.args.self.now.running in
-      turn_ended m u c.args.self.now g (record old { fiber = c.advance.new.fiber; world = c.advance.new.world; budget = c.advance.new.budget }) refl refl c.in-Ended.end
-      (subst (λ (x : Pause). Advanced (IsRunning m u g.going.beside) m u g.going.beside g.going.state old.budget.left old.fiber.frame.at x c.advance.new.fiber c.advance.new.world c.advance.new.budget.left) c.in-Ended.is
-      (c.in_ok-advance.ensures.advanced u g.going.beside g.going.state g.going.stands));
+      let h = subst (λ (x : Pause). Advanced (IsRunning m u g.going.beside) m u g.going.beside g.going.state old.budget.left old.fiber.frame.at x c.advance.new.fiber c.advance.new.world c.advance.new.budget.left) c.in-Ended.is
+      (c.in_ok-advance.ensures.advanced u g.going.beside g.going.state g.going.stands) in
+      turn_ended m u c.args.self.now g (record old { fiber = c.advance.new.fiber; world = c.advance.new.world; budget = c.advance.new.budget }) refl refl c.in-Ended.end h
+      c.note_end.new.self c.note_end.ensures.running c.note_end.ensures.wanted c.note_end.ensures.calls (λ wanted. c.in_ok-note_end.ensures.ended h.within.frames h.callers wanted);
 }
 
 pub returns-in-Finished : goal.returns-in-Finished
 returns-in-Finished c = record {
-  wanted = refl;
+  wanted = c.note_alone.ensures.wanted;
   turned = λ u same g.
       let m = c.args.m.now in
       let old = c.args.self.now.running in
       let later : Running = record old { fiber = c.advance.new.fiber; world = c.advance.new.world; budget = c.advance.new.budget } in
-      subst (λ (e : End). TurnedTold m u (ahead m old) (Some e) (record c.args.self.now { running = later })) (sym c.no_caller.ensures)
+      subst (λ (e : End). TurnedTold m u (ahead m old) (Some e) c.note_alone.new.self) (sym c.no_caller.ensures)
       (turn_finished m u c.args.self.now g later refl refl c.in-Finished.value
       (subst (λ (x : Pause). Advanced (IsRunning m u g.going.beside) m u g.going.beside g.going.state old.budget.left old.fiber.frame.at x c.advance.new.fiber c.advance.new.world c.advance.new.budget.left) c.in-Finished.is
-      (c.in_ok-advance.ensures.advanced u g.going.beside g.going.state g.going.stands)));
+      (c.in_ok-advance.ensures.advanced u g.going.beside g.going.state g.going.stands))
+      c.note_alone.new.self c.note_alone.ensures.running c.note_alone.ensures.wanted c.note_alone.ensures.calls c.note_alone.ensures.ended);
 }
 
 pub returns-in-Asked : goal.returns-in-Asked
