@@ -4,6 +4,7 @@
 
 mod arguments;
 mod memory;
+mod places;
 mod reports;
 mod runs;
 mod serving;
