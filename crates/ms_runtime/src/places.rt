@@ -56,7 +56,7 @@ impl BlindPlaces {
 
     /// The places, if they are wanted; else none.
     pub fn into_places(self, alloc: Global, wanted: bool) -> List<BlindPlace>
-        ensures { (places : List BlindPlaceOf) → Placed places self → result ≡ (if wanted then places else []) }
+        ensures { (places : List BlindPlaceOf) → (wanted ≡ true → Placed places self) → result ≡ (if wanted then places else []) }
     {
         let BlindPlaces { counted, .. } = self;
         if wanted {
