@@ -4,6 +4,7 @@ use Rattle.std.specs.Prelude.{decimal, flat_map, slice_get}
 use Rattle.ms_ir.specs.declared.syntax.Module.{Module}
 use Rattle.ms_runs.specs.declared.runs.Calls.{Calls}
 use Rattle.ms_runs.specs.declared.runs.End.{End}
+use Rattle.ms_runs.specs.declared.runs.End.TheVariants as ends
 use Rattle.ms_runs.specs.declared.runs.Origin.{Origin}
 use Rattle.ms_runs.specs.declared.runs.Report.{Report}
 use Rattle.ms_runs.specs.declared.runs.RunResult.{RunResult}
@@ -15,7 +16,7 @@ use Rattle.ms_report.specs.RunTexts.{line, end_text, verdict_text, verdict_line}
 use Rattle.ms_report.specs.ReportTexts.{origin_line, origin_text, earlier, report_line}
 use Rattle.ms_report.specs.SchedulesTexts.{extent_text, tried_line, schedule_line, schedules_text}
 use Rattle.ms_report.specs.WithLines.{no_lines, under_line, origin_site, end_site, chain_with, origins_with, closing_text_with}
-use Rattle.ms_report.specs.CallTexts.{most_calls, called_line, started_line, called_with, further_line, started_with, calls_if, reports_calling}
+use Rattle.ms_report.specs.CallTexts.{most_calls, called_line, started_line, called_with, further_line, started_with, calls_if, reports_calling, ended_with, closing_calling}
 use Rattle.ms_report.specs.TrailTexts.{move_line, hop_with, hops_with, use_line, trail_with}
 use Rattle.ms_report.specs.Uncalled.{tells_call, unless_call, uncalled}
 use Rattle.ms_report.proofs.Singles.{Single, literal, joined, of_number, of_hex, of_end, of_verdict, of_origin, of_use, of_bits, of_site}
@@ -116,12 +117,23 @@ verdict_stays : (verdict : Bool) (r : RunResult) → Lacks (verdict_line verdict
 verdict_stays false r = nothing
 verdict_stays true r = stays (line (codes "verdict") (verdict_text (verdict_of r))) (value_line (codes "verdict") _ (literal _ refl) (of_verdict (verdict_of r))) refl
 
-closing_stays : (m : Module) (r : RunResult) (verdict : Bool) → Lacks (closing_text_with no_lines m r verdict) (closing_text_with no_lines m r verdict)
-closing_stays m r verdict =
+-- those that stand where a run ended
+ended_go : (m : Module) (e : End) (calls : Option Calls) → Lacks (ended_with no_lines m e calls) []
+ended_go m (ends.Exit n) calls = nothing
+ended_go m (ends.Trap kind site) calls = calls_go m calls
+ended_go m ends.Reported calls = nothing
+ended_go m ends.Spent calls = nothing
+
+-- with the text that goes after one
+gone : {a b x : List ℕ} → Lacks a x → Lacks b [] → Lacks (a ++ b) x
+gone {a = a} {b = b} {x = x} first second = record { with = λ rest. ap uncalled (append_assoc a b rest) ∙ first.with (b ++ rest) ∙ ap (λ t. x ++ t) (second.with rest) }
+
+closing_lacks : (m : Module) (r : RunResult) (calls : Option Calls) (verdict : Bool) → Lacks (closing_calling no_lines m r calls verdict) (closing_text_with no_lines m r verdict)
+closing_lacks m r calls verdict =
     both
     (both
     (both
-    (both (stays (line (codes "end") (end_text m r.«end»)) (value_line (codes "end") _ (literal _ refl) (of_end m r.«end»)) refl) (none_there (end_site r.«end»)))
+    (gone (both (stays (line (codes "end") (end_text m r.«end»)) (value_line (codes "end") _ (literal _ refl) (of_end m r.«end»)) refl) (none_there (end_site r.«end»))) (ended_go m r.«end» calls))
     (stays (line (codes "reports") (decimal (length r.reports))) (value_line (codes "reports") _ (literal _ refl) (of_number (length r.reports))) refl))
     (stays (line (codes "blind") (decimal r.blind)) (value_line (codes "blind") _ (literal _ refl) (of_number r.blind)) refl))
     (verdict_stays verdict r)
@@ -164,14 +176,14 @@ calling_before m calls rs rest = (calling_lacks m calls 0 rs).with rest
 pub reports_left : (m : Module) (calls : List Calls) (rs : List Report) → uncalled (reports_calling no_lines m calls 0 rs) ≡ reports_calling no_lines m [] 0 rs
 reports_left m calls rs = whole (reports_calling no_lines m calls 0 rs) (reports_calling no_lines m [] 0 rs) (calling_lacks m calls 0 rs)
 
-pub closing_left : (m : Module) (r : RunResult) (verdict : Bool) → uncalled (closing_text_with no_lines m r verdict) ≡ closing_text_with no_lines m r verdict
-closing_left m r verdict = whole (closing_text_with no_lines m r verdict) (closing_text_with no_lines m r verdict) (closing_stays m r verdict)
+pub closing_left : (m : Module) (r : RunResult) (calls : Option Calls) (verdict : Bool) → uncalled (closing_calling no_lines m r calls verdict) ≡ closing_text_with no_lines m r verdict
+closing_left m r calls verdict = whole (closing_calling no_lines m r calls verdict) (closing_text_with no_lines m r verdict) (closing_lacks m r calls verdict)
 
-pub closing_before : (m : Module) (r : RunResult) (verdict : Bool) (tried : ℕ) (all_tried : Bool) (outcomes : ℕ) (shown : Bool) (schedule : List ℕ)
-    → uncalled (closing_text_with no_lines m r verdict ++ schedules_text tried all_tried outcomes shown schedule)
+pub closing_before : (m : Module) (r : RunResult) (calls : Option Calls) (verdict : Bool) (tried : ℕ) (all_tried : Bool) (outcomes : ℕ) (shown : Bool) (schedule : List ℕ)
+    → uncalled (closing_calling no_lines m r calls verdict ++ schedules_text tried all_tried outcomes shown schedule)
     ≡ closing_text_with no_lines m r verdict ++ schedules_text tried all_tried outcomes shown schedule
-closing_before m r verdict tried all_tried outcomes shown schedule =
-    whole _ _ (both (closing_stays m r verdict) (schedules_stay tried all_tried outcomes shown schedule))
+closing_before m r calls verdict tried all_tried outcomes shown schedule =
+    whole _ _ (both (closing_lacks m r calls verdict) (schedules_stay tried all_tried outcomes shown schedule))
 
 pub trail_left : (m : Module) (moves : List Move) (at : Source) (hops : List Hop) → uncalled (trail_with no_lines m moves at hops) ≡ trail_with no_lines m moves at hops
 trail_left m moves at hops = whole (trail_with no_lines m moves at hops) (trail_with no_lines m moves at hops) (trail_stays m moves at hops)

@@ -94,7 +94,7 @@ module _ (under : Lines) (all : (site : ℕ) → IsIndented (under site)) where
   schedule_stays false schedule = nothing
   schedule_stays true schedule = stays (schedule_line true schedule) (value_line (codes "schedule") _ (literal _ refl) (of_hex schedule)) refl
 
-  schedules_stay : (tried : ℕ) (all_tried : Bool) (outcomes : ℕ) (shown : Bool) (schedule : List ℕ)
+  pub schedules_stay : (tried : ℕ) (all_tried : Bool) (outcomes : ℕ) (shown : Bool) (schedule : List ℕ)
       → Leaves (schedules_text tried all_tried outcomes shown schedule) (schedules_text tried all_tried outcomes shown schedule)
   schedules_stay tried all_tried outcomes shown schedule = both (both (tried_stays tried all_tried) (outcomes_stay outcomes)) (schedule_stays shown schedule)
 

@@ -31,7 +31,7 @@ pub fn law_lines_are_added()
 /// text without calls is what is left once these are taken out. Texts without them stay as they are.
 pub fn law_calls_are_added()
     ensures taken_out { (m : Module) (r : RunResult) (calls : List Calls) → uncalled (reports_calling no_lines m calls 0 r.reports) ≡ report_text_of m r }
-    ensures closings { (m : Module) (r : RunResult) (verdict : Bool) → uncalled (closing_of m r verdict) ≡ closing_of m r verdict }
+    ensures closings { (m : Module) (r : RunResult) (calls : Option Calls) (verdict : Bool) → uncalled (closing_calling no_lines m r calls verdict) ≡ closing_of m r verdict }
     ensures trails { (m : Module) (moves : List Move) (at : Source) (hops : List Hop) → uncalled (trail_with no_lines m moves at hops) ≡ trail_with no_lines m moves at hops }
 {}
 

@@ -191,10 +191,11 @@ impl Recorded {
         ensures places { self.new.places ≡ self.old.places }
         ensures ended { (frames : List (FrameOf ℕ)) → CallersOf m.now self.old.running.fiber frames → OnOk result (self.old.wanted ≡ true → self.new.ended ≡ Some (main_calls m.now frames)) }
     {
-        if self.wanted {
-            let sites = calls_below(alloc, m, &self.running.fiber)?;
-            self.ended = Some(Calls { sites, started: 0 });
+        if !self.wanted {
+            return Ok(());
         }
+        let sites = calls_below(alloc, m, &self.running.fiber)?;
+        self.ended = Some(Calls { sites, started: 0 });
         Ok(())
     }
 

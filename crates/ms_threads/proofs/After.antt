@@ -51,10 +51,12 @@ use Rattle.ms_threads.specs.declared.thread_table.ThreadTable.{ThreadTable}
 use Rattle.ms_threads.specs.ThreadTables.{standing_of, IsThreadCall, asked_starts, threads_of, starts_of, Shares, KeepsStands, SharesOn, Did}
 use Rattle.ms_threads_schedules_laws.specs.Picks.{Pick}
 use Rattle.ms_threads.specs.Recording.{Records}
-use Rattle.ms_threads.specs.Going.{Standings, IsOver, ended_so, fiber_of, goes_at, ends_from, ends_after, last_of, tells_from, tells_after, all_told, acts, Telling, KeepsCalls, Noted, CameTo, Going, Asking, After, Performing, Turned, most_ahead, far_of}
+use Rattle.ms_threads.specs.Going.{Standings, IsOver, ended_so, fiber_of, goes_at, ends_from, ends_after, last_of, told_so, tells_from, tells_after, all_told, calls_there, acts, Telling, KeepsCalls, Noted, CameTo, Going, Asking, After, Performing, Turned, most_ahead, far_of}
 use Rattle.ms_threads.proofs.Threading.{made_in, count_starts, count_threads}
 use Rattle.ms_threads.proofs.Kept.{standings_kept}
-use Rattle.ms_threads.proofs.Telling.{tell_covers, telling_kept, all_started, waits_site, calls_by, going, early_tells, performed_tells}
+use Rattle.ms_machine_steps.specs.Callers.{CallersOf}
+use Rattle.ms_machine.proofs.CallSites.{callers_run}
+use Rattle.ms_threads.proofs.Telling.{tell_covers, start_more, telling_kept, all_started, waits_site, calls_by, going, early_tells, performed_tells}
 use Rattle.ms_threads.proofs.FiberSteps.{same_step, own_step, step_ends}
 use Rattle.ms_threads.proofs.Turns.{ends_so}
 
@@ -79,7 +81,8 @@ module _ (m : Module) (u : Setup) (schedule : List ℕ) where
   -- ---- a call that is no thread call was answered
 
   module _ (t t' : ThreadedRun) (call : HostCall) (a : Asking m u schedule call t) (other : IsThreadCall call.asked → ⊥) (x : Answer) (f : AnsweredFor m u call a.within x t.running t'.running) (guests : t'.table ≡ t.table)
-      (wanted : t'.wanted ≡ t.wanted) (noted : t.wanted ≡ true → t'.calls.items ≡ tell (calls_from m (start_of t.table.turn (starts_of t.table)) a.within.frames) t'.running.told.reports t.calls.items) where
+      (wanted : t'.wanted ≡ t.wanted) (noted : t.wanted ≡ true → t'.calls.items ≡ tell (calls_from m (start_of t.table.turn (starts_of t.table)) a.within.frames) t'.running.told.reports t.calls.items)
+      (unended : t'.ended ≡ t.ended) where
     -- whose turn it is
     turn_is : a.within.world.turn ≡ t.table.turn
     turn_is = ap (λ (k : Fibers). k.turn) a.stands.shows.fibers ∙ a.shares.turn
@@ -99,6 +102,7 @@ module _ (m : Module) (u : Setup) (schedule : List ℕ) where
           let w : t.wanted ≡ true = sym wanted ∙ wants in
           noted w ∙ ap (λ (c : Calls). tell c t'.running.told.reports t.calls.items) same_calls
           ∙ ap (tell (calls_by m u schedule (going m u schedule a.within) a.said) t'.running.told.reports) (a.telling.kept w);
+      none = unended ∙ a.telling.none;
     }
 
     -- as many threads are there as sites are told of
@@ -125,9 +129,10 @@ module _ (m : Module) (u : Setup) (schedule : List ℕ) where
     stops_so (asked.External g) none e last s = step_ends m u schedule a.within a.others e last (record { step = s.0; early = inl (s.1 (not_thread g none)) })
     stops_so (asked.Runtime g) none e last s = step_ends m u schedule a.within a.others e last s
 
-    stops_telling_by : (of : Asked) → (IsThreadCall of → ⊥) → (e : End) (last : World) → Stops m u of a.within e last → last.reports ≡ t'.running.told.reports → told_then.calls ≡ all_told m u schedule
+    stops_telling_by : (of : Asked) → (IsThreadCall of → ⊥) → (e : End) (last : World) → Stops m u of a.within e last → last.reports ≡ t'.running.told.reports → told_so told_then.calls (Some (calls_there m t'.table a.within.frames)) ≡ all_told m u schedule
     stops_telling_by of none e last s reports =
-        ap (λ (rs : List Report). tell (calls_by m u schedule (going m u schedule a.within) a.said) rs a.said.calls) (sym reports)
+        ap (λ (rs : List Report). told_so (tell (calls_by m u schedule (going m u schedule a.within) a.said) rs a.said.calls) (Some (calls_there m t'.table a.within.frames))) (sym reports)
+        ∙ ap (λ (c : Calls). told_so (tell (calls_by m u schedule (going m u schedule a.within) a.said) last.reports a.said.calls) (Some c)) (ap (λ (g : ThreadTable). calls_there m g a.within.frames) guests ∙ same_calls)
         ∙ sym (ap (tells_after m u schedule (going m u schedule a.within) a.said a.rest) (stops_so of none e last s)) ∙ a.tells
 
     left_is : t'.running.budget.left ≡ t.running.budget.left
@@ -201,10 +206,10 @@ module _ (m : Module) (u : Setup) (schedule : List ℕ) where
         ∙ ap (λ v. tell (calls_from m (start_of t.table.turn (starts_of t.table)) a.within.frames) t'.running.told.reports v.items) keeps.1
 
     pub noted_after : After m u schedule call x n
-    noted_after = subst (λ (y : ThreadedRun). After m u schedule call x y) (sym same) (answered_after t noting call a other x f guests keeps.0 noted_there)
+    noted_after = subst (λ (y : ThreadedRun). After m u schedule call x y) (sym same) (answered_after t noting call a other x f guests keeps.0 noted_there keeps.2)
 
     pub noted_far : ahead m n.running ≤ ahead m t.running
-    noted_far = subst (λ (y : ThreadedRun). ahead m y.running ≤ ahead m t.running) (sym same) (answered_far t noting call a other x f guests keeps.0 noted_there)
+    noted_far = subst (λ (y : ThreadedRun). ahead m y.running ≤ ahead m t.running) (sym same) (answered_far t noting call a other x f guests keeps.0 noted_there keeps.2)
 
   -- ---- a thread call was answered
 
@@ -263,6 +268,7 @@ module _ (m : Module) (u : Setup) (schedule : List ℕ) where
       starts = refl;
       counted = subst (λ r. length r.reports ≤ length p.said.calls) (sym told) p.telling.counted;
       kept = λ wanted. ap (λ v. v.items) calls.1 ∙ p.telling.kept (sym calls.0 ∙ wanted);
+      none = calls.2 ∙ p.telling.none;
     }
 
     made_there : (next : PlainState) → CameTo m t' within next → starts_of t'.table ≡ tell (frames_site (setting_of m u) m p.frames) next.world.threads p.said.starts
@@ -279,6 +285,19 @@ module _ (m : Module) (u : Setup) (schedule : List ℕ) where
         let s = p.between.stands in
         omega (arith, starts, s.turn, s.counted)
 
+    -- the calls at which it stands were there before the call
+    started_same : start_of t'.table.turn (starts_of t'.table) ≡ start_of t.table.turn p.said.starts
+    started_same =
+        let same : length p.said.starts ≡ length (starts_of t.table) = ap length p.telling.starts in
+        let le = there in
+        ap (λ (n : ℕ). start_of n (starts_of t'.table)) kept.same.turn
+        ∙ ap (start_of t.table.turn) kept.sites
+        ∙ start_more t.table.turn (starts_of t.table) call.site (length (threads_of t'.table) - length (starts_of t.table)) (omega (arith, same, le))
+        ∙ ap (start_of t.table.turn) (sym p.telling.starts)
+
+    stood_there : calls_there m t'.table p.frames ≡ calls_by m u schedule (acts t.table.turn (Some p.frames)) p.said
+    stood_there = λ i. record { sites = call_sites m p.frames; started = started_same i }
+
     goes_telling_call : (of : Asked) → IsThreadCall of → (next : PlainState) → Resumes m u of within next → CameTo m t' within next → tells_from m u schedule told_then (suc p.left) (goes_at next p.others) ≡ all_told m u schedule
     goes_telling_call (asked.External e) is next r came =
         sym (performed_tells m u schedule t.table.turn p.frames next p.others p.said (starts_of t'.table) p.left (came.turn ∙ kept.same.turn) came.calls there (made_there next came))
@@ -286,10 +305,11 @@ module _ (m : Module) (u : Setup) (schedule : List ℕ) where
         ∙ p.tells
     goes_telling_call (asked.Runtime g) is next r came = absurd is
 
-    stops_telling_call : (of : Asked) → IsThreadCall of → (e : End) (last : World) → Stops m u of within e last → last.reports ≡ t'.running.told.reports → p.said.calls ≡ all_told m u schedule
+    stops_telling_call : (of : Asked) → IsThreadCall of → (e : End) (last : World) → Stops m u of within e last → last.reports ≡ t'.running.told.reports → told_so p.said.calls (Some (calls_there m t'.table p.frames)) ≡ all_told m u schedule
     stops_telling_call (asked.External g) is e last s reports =
         let same : length last.reports ≡ length t.running.told.reports = ap length reports ∙ ap (λ r. length r.reports) told in
-        sym (tell_none (calls_by m u schedule (acts t.table.turn (Some p.frames)) p.said) last.reports p.said.calls (omega (arith, same, p.telling.counted)))
+        ap (λ (c : Calls). told_so p.said.calls (Some c)) stood_there
+        ∙ sym (ap (λ (l : List Calls). told_so l (Some (calls_by m u schedule (acts t.table.turn (Some p.frames)) p.said))) (tell_none (calls_by m u schedule (acts t.table.turn (Some p.frames)) p.said) last.reports p.said.calls (omega (arith, same, p.telling.counted))))
         ∙ sym (ap (λ (x : Stepped PlainState). tells_after m u schedule (acts t.table.turn (Some p.frames)) p.said p.left (goes_on (plain_going x) (moves (fiber_of m u) p.others))) s.0)
         ∙ p.tells
     stops_telling_call (asked.Runtime g) is e last s reports = absurd is
@@ -341,15 +361,20 @@ module _ (m : Module) (u : Setup) (schedule : List ℕ) where
     some_ahead : 0 < ahead m t.running
     some_ahead = let lt = at_below in omega (arith, lt)
 
+    -- its callers are those of where it waited
+    pub callers_there : CallersOf m t.running.fiber b.within.frames
+    callers_there = callers_run m t.running.fiber u b.old b.before b.within b.stands
+
     -- the answer ended the run
-    pub after_ends : (e : End) → a ≡ answer.Ended e → IsOver m u schedule e t
-    after_ends e is =
+    pub after_ends : (e : End) → a ≡ answer.Ended e → (t' : ThreadedRun) → t' ≡ record t { ended = t'.ended } → (t.wanted ≡ true → t'.ended ≡ Some (calls_there m t.table b.within.frames)) → IsOver m u schedule e t'
+    after_ends e is t' same ended =
         let stopped : HasStopped m u b.beside call.asked b.within e t.running.world =
         answered_ends m p u b.old t.running.fiber b.before b.within stands call b.waits b.beside t.running.world b.fill b.slots e
         (subst (λ (x : Answer). Answered b.beside (asked_effect (setting_of m u) (types_due m b.within.frames) call b.within.world) x t.running.world) is b.answered) in
         let low = some_ahead in
-        ends_so m u schedule b.made e stopped.last b.beside t b.recorded (b.stops e stopped.last stopped.ends) stopped.shows b.told (omega (arith, b.blind, low)) b.said b.telling
-        (b.stops_telling e stopped.last stopped.ends (stopped.shows.reports ∙ b.told.reports))
+        subst (IsOver m u schedule e) (sym same)
+        (ends_so m u schedule b.made e stopped.last b.beside (record t { ended = t'.ended }) b.recorded (b.stops e stopped.last stopped.ends) stopped.shows b.told (omega (arith, b.blind, low)) b.said.calls
+        (Some (calls_there m t.table b.within.frames)) b.telling.kept ended (b.stops_telling e stopped.last stopped.ends (stopped.shows.reports ∙ b.told.reports)))
 
     -- or it goes on
     module _ (value : Option ℕ) (is : a ≡ answer.Resumed value) (t' : ThreadedRun) (world : t'.running.world ≡ t.running.world) (depot : t'.running.depot ≡ t.running.depot) (told : t'.running.told ≡ t.running.told)

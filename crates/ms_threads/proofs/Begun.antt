@@ -132,8 +132,8 @@ module _ (m : Module) (u : Setup) (schedule : List ℕ) where
 
   -- ---- the start
 
-  pub going_begun : 0 < length schedule → (t : ThreadedRun) → Begins m u t.running → IsNew t.table → t.calls.items ≡ [] → Going m u schedule t
-  going_begun some t b new none_yet = record {
+  pub going_begun : 0 < length schedule → (t : ThreadedRun) → Begins m u t.running → IsNew t.table → t.calls.items ≡ [] → t.ended ≡ None → Going m u schedule t
+  going_begun some t b new none_yet unended = record {
     beside = nothing_beside;
     state = plain_start m u;
     others = no_others;
@@ -163,6 +163,7 @@ module _ (m : Module) (u : Setup) (schedule : List ℕ) where
       starts = sym (ap (map (λ (x : Guest). x.start)) new.threads);
       counted = let none : length t.running.told.reports ≡ 0 = sym (ap length b.told.reports) in omega (arith, none);
       kept = λ wanted. none_yet;
+      none = unended;
     };
     tells = ap (λ n. tells_from m u schedule none_told n (goes_at (plain_start m u) no_others)) b.budget;
   }

@@ -39,7 +39,7 @@ use Rattle.ms_threads.specs.declared.runs.ThreadedRun.{ThreadedRun}
 use Rattle.ms_threads.specs.ThreadTables.{Standing, standing_of, stand_at, thread_of, guest_at, threads_of, stands_of, site_of, asked_joins, call_joins, standing_joins, runnable_in, IsThreadCall, Stands, picked_of, Picked}
 use Rattle.ms_threads_schedules_laws.specs.Picks.{Pick, number_at, pick_by, picked_on, picks_in}
 use Rattle.ms_threads.specs.Recording.{Records}
-use Rattle.ms_threads.specs.Going.{StandsFor, StandsAt, IsOver, ended_so, fiber_of, shared_in, goes_at, ends_from, ends_after, last_of, tells_from, tells_after, all_told, acts, Telling, KeepsCalls, Between, most_ahead, far_of, Asking, Picking, Performing, Beginning}
+use Rattle.ms_threads.specs.Going.{StandsFor, StandsAt, IsOver, ended_so, fiber_of, shared_in, goes_at, ends_from, ends_after, last_of, told_so, tells_from, tells_after, all_told, acts, Telling, KeepsCalls, Between, most_ahead, far_of, Asking, Picking, Performing, Beginning}
 use Rattle.ms_threads.proofs.Numbered.{test_of, picked_goes}
 use Rattle.ms_threads.proofs.Threading.{same_thread, shows_fibers, shares_turned, shares_same}
 use Rattle.ms_threads.proofs.Kept.{standings_stood, standings_picked}
@@ -189,7 +189,7 @@ module _ (m : Module) (u : Setup) (schedule : List ℕ) where
     -- no step is left
     pub pick_spent : t.running.budget.left ≡ 0 → IsOver m u schedule «end».Spent t
     pick_spent none =
-        ends_so m u schedule p.made «end».Spent p.shared.world p.beside t p.recorded (sym (ap (λ n. ends_from m u schedule p.made n (Waits p.shared p.others)) none) ∙ p.same) p.between.shows p.between.told few p.said p.telling
+        ends_so m u schedule p.made «end».Spent p.shared.world p.beside t p.recorded (sym (ap (λ n. ends_from m u schedule p.made n (Waits p.shared p.others)) none) ∙ p.same) p.between.shows p.between.told few p.said.calls None p.telling.kept (λ wanted. p.telling.none)
         (sym (ap (λ n. tells_from m u schedule p.said n (Waits p.shared p.others)) none) ∙ p.tells)
 
     -- the steps after a pick
@@ -216,7 +216,7 @@ module _ (m : Module) (u : Setup) (schedule : List ℕ) where
         ∙ sym (ap (λ n. ends_from m u schedule p.made n (Waits p.shared p.others)) (one_left some)) ∙ p.same
 
     -- what is told from that step on, by whom it takes among some fibers
-    abbrev told_by_pick : List ℕ → List Calls
+    abbrev told_by_pick : List ℕ → List Calls × Option Calls
     told_by_pick ks = tells_after m u schedule (acting_of (fiber_of m u) (call_sites m) schedule p.others ks) p.said left_of (picked (fiber_of m u) schedule p.shared p.others ks)
 
     told_after_pick : t.running.budget.left ≢ 0 → told_by_pick (runnable_in t.table) ≡ all_told m u schedule
@@ -227,13 +227,15 @@ module _ (m : Module) (u : Setup) (schedule : List ℕ) where
     append_nil (x ∷ l) = ap (λ ps. x ∷ ps) (append_nil l)
 
     -- nobody may go on
-    pub pick_deadlocks : t.running.budget.left ≢ 0 → runnable_in t.table ≡ [] → (site : ℕ) → site ≡ site_of (stands_of t.table 0) → IsOver m u schedule («end».Trap trap.Deadlock site) t
-    pick_deadlocks some none site is =
-        ends_so m u schedule (p.made ++ []) («end».Trap trap.Deadlock site) p.shared.world p.beside t (subst (Records t.table.recorder) (sym (append_nil p.made)) p.recorded)
+    pub pick_deadlocks : t.running.budget.left ≢ 0 → runnable_in t.table ≡ [] → (site : ℕ) → site ≡ site_of (stands_of t.table 0) → (last : Option Calls) → (t.wanted ≡ true → last ≡ Some (record { sites = []; started = 0 }))
+        → IsOver m u schedule («end».Trap trap.Deadlock site) (record t { ended = last })
+    pick_deadlocks some none site is last ended =
+        ends_so m u schedule (p.made ++ []) («end».Trap trap.Deadlock site) p.shared.world p.beside (record t { ended = last }) (subst (Records t.table.recorder) (sym (append_nil p.made)) p.recorded)
         (ap (λ s. ended_so (p.made ++ []) («end».Trap trap.Deadlock s) p.shared.world) (is ∙ sym (same_site 0 (stands_of t.table 0) (p.others.stands 0) (p.between.stands.stands 0)))
         ∙ sym (ap (λ ks. ends_after m u schedule (made_by ks) left_of (picked (fiber_of m u) schedule p.shared p.others ks)) none) ∙ after some)
-        p.between.shows p.between.told few p.said p.telling
-        (sym (tell_none (calls_by m u schedule (acts 0 None) p.said) p.shared.world.reports p.said.calls told_few) ∙ sym (ap told_by_pick none) ∙ told_after_pick some)
+        p.between.shows p.between.told few p.said.calls (Some (calls_by m u schedule (acts 0 None) p.said)) p.telling.kept ended
+        (sym (ap (λ (l : List Calls). told_so l (Some (calls_by m u schedule (acts 0 None) p.said))) (tell_none (calls_by m u schedule (acts 0 None) p.said) p.shared.world.reports p.said.calls told_few))
+        ∙ sym (ap told_by_pick none) ∙ told_after_pick some)
 
     -- ---- one was picked
 

@@ -28,7 +28,7 @@ use Rattle.ms_runtime.proofs.SaidSteps.{steps_grow}
 use Rattle.ms_runtime.proofs.Countings.{of_reports}
 use Rattle.ms_threads.specs.declared.runs.ThreadedRun.{ThreadedRun}
 use Rattle.ms_threads.specs.ThreadTables.{starts_of, Shares}
-use Rattle.ms_threads.specs.Going.{fiber_of, shared_in, goes_at, tells_from, tells_after, acts, Telling, KeepsCalls}
+use Rattle.ms_threads.specs.Going.{fiber_of, shared_in, goes_at, told_so, tells_from, tells_after, acts, Telling, KeepsCalls}
 use Rattle.ms_threads.proofs.Threading.{made_in, count_starts}
 use Rattle.ms_threads.proofs.FiberSteps.{same_step, own_step}
 
@@ -43,7 +43,7 @@ tell_as : {A B : Type 0} (one : B) (items more : List A) (told : List B) → len
 tell_as one items more told e = ap (λ (n : ℕ). told ++ replicate (n - length told) one) e
 
 -- the sites of calls that made threads stay where more are made
-start_more : (n : ℕ) (xs : List ℕ) (site k : ℕ) → n ≤ length xs → start_of n (xs ++ replicate k site) ≡ start_of n xs
+pub start_more : (n : ℕ) (xs : List ℕ) (site k : ℕ) → n ≤ length xs → start_of n (xs ++ replicate k site) ≡ start_of n xs
 start_more zero xs site k le = refl
 start_more (suc n) xs site k le = by_list n xs (omega (arith, le))
   where
@@ -58,6 +58,7 @@ telling_kept t t' said h starts told calls = record {
   starts = h.starts ∙ sym starts;
   counted = subst (λ (r : RunResult). length r.reports ≤ length said.calls) (sym told) h.counted;
   kept = λ wanted. ap (λ v. v.items) calls.1 ∙ h.kept (sym calls.0 ∙ wanted);
+  none = calls.2 ∙ h.none;
 }
 
 -- of each thread of the world the site is told of the call that made it
@@ -90,9 +91,9 @@ module _ (m : Module) (u : Setup) (schedule : List ℕ) where
 
   -- where two say the same of a step, the same is told from it on
   pub same_after : (a b : Acting (List (Frame ℕ))) (said said' : Told) (left : ℕ) (x : Stepped (Fibers (List (Frame ℕ)) Shared)) → by_acting a (world_after x) said ≡ by_acting b (world_after x) said'
-      → tells_after m u schedule a said left x ≡ tells_after m u schedule b said' left x
-  same_after a b said said' left (More c) e = ap (λ (t : Told). tells_from m u schedule t left c) e
-  same_after a b said said' left (Stop x w) e = ap (λ (t : Told). t.calls) e
+      → calls_by a said ≡ calls_by b said' → tells_after m u schedule a said left x ≡ tells_after m u schedule b said' left x
+  same_after a b said said' left (More c) e k = ap (λ (t : Told). tells_from m u schedule t left c) e
+  same_after a b said said' left (Stop x w) e k = λ i. told_so (e i).calls (Some (k i))
 
   -- where nothing is new
   pub none_new : (a : Acting (List (Frame ℕ))) (w : World) (said : Told) → length w.threads ≤ length said.starts → length w.reports ≤ length said.calls → by_acting a w said ≡ said
@@ -107,8 +108,9 @@ module _ (m : Module) (u : Setup) (schedule : List ℕ) where
       ap (tells_after m u schedule a said left) is ∙ ap (λ (t : Told). tells_from m u schedule t left next) (none_new a (world_of (fiber_of m u) next) said made few)
 
   pub over_after : (a : Acting (List (Frame ℕ))) (said : Told) (left : ℕ) (x : Stepped (Fibers (List (Frame ℕ)) Shared)) (e : End) (last : World) → x ≡ Stop e last → length last.reports ≤ length said.calls
-      → tells_after m u schedule a said left x ≡ said.calls
-  over_after a said left x e last is few = ap (tells_after m u schedule a said left) is ∙ tell_none (calls_by a said) last.reports said.calls few
+      → tells_after m u schedule a said left x ≡ told_so said.calls (Some (calls_by a said))
+  over_after a said left x e last is few =
+      ap (tells_after m u schedule a said left) is ∙ ap (λ (l : List Calls). told_so l (Some (calls_by a said))) (tell_none (calls_by a said) last.reports said.calls few)
 
   -- ---- a fiber's own steps
 
@@ -144,7 +146,7 @@ module _ (m : Module) (u : Setup) (schedule : List ℕ) where
 
   -- all are done
   pub spent_tells : (left : ℕ) (a b : PlainState) (others : Others (List (Frame ℕ))) (said : Told) → AllOwn m u left a → steps (step_of m u) left a ≡ More b → length a.world.threads ≤ length said.starts → length b.world.reports ≤ length said.calls
-      → tells_from m u schedule said left (goes_at a others) ≡ said.calls
+      → tells_from m u schedule said left (goes_at a others) ≡ told_so said.calls None
   spent_tells left a b others said all came made few =
       ap (λ j. tells_from m u schedule said j (goes_at a others)) (let z : left ≡ left + 0 = omega arith in z) ∙ own_tells left 0 a b others said all came made few
 
@@ -164,13 +166,17 @@ module _ (m : Module) (u : Setup) (schedule : List ℕ) where
     calls = tell (let c : Calls = record { sites = sites i; started = start_of (number i) said.starts } in c) w.reports said.calls;
   }
 
+  -- and stand at the same calls
+  pub same_calls_by : (a b : Acting (List (Frame ℕ))) (said : Told) → a.number ≡ b.number → sites_from (fiber_of m u) (call_sites m) a.from ≡ sites_from (fiber_of m u) (call_sites m) b.from → calls_by a said ≡ calls_by b said
+  same_calls_by a b said number sites = λ i. record { sites = sites i; started = start_of (number i) said.starts }
+
   -- a step that one state has in common with one before it
   pub within_tells : (a b : PlainState) (others : Others (List (Frame ℕ))) (said : Told) (k : ℕ) → Within m u a b → a.world.turn ≡ b.world.turn → length b.world.threads ≤ length said.starts
       → tells_from m u schedule said (suc k) (goes_at a others) ≡ tells_from m u schedule said (suc k) (goes_at b others)
   within_tells a b others said k w turn made =
       let same = goes_length (setting_of m u) m schedule b.frames (shared_in b) others in
       ap (tells_after m u schedule (going a) said k) (same_step m u schedule a b others w)
-      ∙ same_after (going a) (going b) said said k (step b others) (same_acting (going a) (going b) (world_after (step b others)) said turn w.calls (omega (arith, same, made)))
+      ∙ same_after (going a) (going b) said said k (step b others) (same_acting (going a) (going b) (world_after (step b others)) said turn w.calls (omega (arith, same, made))) (same_calls_by (going a) (going b) said turn w.calls)
 
   -- what was told of reports within it is told anyway
   pub early_tells : (a b : PlainState) (others : Others (List (Frame ℕ))) (said : Told) (k : ℕ) (reports : List Report) → Within m u a b → a.world.turn ≡ b.world.turn → length b.world.threads ≤ length said.starts → b.world.reports ≡ reports
@@ -180,7 +186,7 @@ module _ (m : Module) (u : Setup) (schedule : List ℕ) where
       ∙ same_after (going b) (going b) said (record said { calls = tell (calls_by (going b) said) b.world.reports said.calls }) k (step b others) (λ i. record {
         starts = tell (frames_site (setting_of m u) m b.frames) (world_after (step b others)).threads said.starts;
         calls = sym (tell_twice (calls_by (going b) said) b.world.reports (world_after (step b others)).reports said.calls (goes_reports (setting_of m u) m schedule b.frames (shared_in b) others)) i;
-      })
+      }) refl
       ∙ ap (λ (c : Calls). tells_from m u schedule (record said { calls = tell c b.world.reports said.calls }) (suc k) (goes_at b others)) same_calls
       ∙ ap (λ (rs : List Report). tells_from m u schedule (record said { calls = tell (calls_by (going a) said) rs said.calls }) (suc k) (goes_at b others)) is
     where
@@ -193,7 +199,7 @@ module _ (m : Module) (u : Setup) (schedule : List ℕ) where
       → tells_after m u schedule (acts number (Some frames)) said k (step next others) ≡ tells_from m u schedule (record said { starts = starts }) (suc k) (goes_at next others)
   performed_tells number frames next others said starts k turn calls there is =
       same_after (acts number (Some frames)) (going next) said (record said { starts = starts }) k (step next others)
-      (λ i. record { starts = made i; calls = tell (let c : Calls = record { sites = calls i; started = begun i } in c) (world_after (step next others)).reports said.calls })
+      (λ i. record { starts = made i; calls = tell (let c : Calls = record { sites = calls i; started = begun i } in c) (world_after (step next others)).reports said.calls }) (λ i. record { sites = calls i; started = begun i })
     where
       same : length (world_after (step next others)).threads ≡ length next.world.threads
       same = goes_length (setting_of m u) m schedule next.frames (shared_in next) others
@@ -223,3 +229,4 @@ module _ (m : Module) (u : Setup) (schedule : List ℕ) where
       let same = goes_length (setting_of m u) m schedule next.frames (shared_in next) others in
       same_after (acts number None) (going next) said said k (step next others)
       (same_acting (acts number None) (going next) (world_after (step next others)) said (sym turn) (sym (ap (call_sites m) is)) (omega (arith, same, made)))
+      (same_calls_by (acts number None) (going next) said (sym turn) (sym (ap (call_sites m) is)))

@@ -1,5 +1,5 @@
 -- From one pause to the next a run of threads keeps what it answers.
-use Rattle.std.proofs.Common.{◌≡◌, ◌<◌, ◌≤◌, ◌+◌, ◌-◌, ◌*◌, ◌%◌, ◌^◌, ℕ, suc, Bool, true, false, eqb, if◌then◌else◌, List, [], ◌∷◌, ◌++◌, length, slice_get, refl, sym, ap, subst, ◌∙◌, arith, Some}
+use Rattle.std.proofs.Common.{◌≡◌, ◌<◌, ◌≤◌, ◌+◌, ◌-◌, ◌*◌, ◌%◌, ◌^◌, ℕ, suc, Bool, true, false, eqb, if◌then◌else◌, List, [], ◌∷◌, ◌++◌, length, slice_get, refl, sym, ap, subst, ◌∙◌, arith, Option, Some, None}
 use Rattle.std.proofs.lemmas.Nat.{mod_below}
 use Rattle.ms_bits.specs.Maps.{number_at}
 use Rattle.ms_ir.specs.declared.syntax.Module.{Module}
@@ -17,7 +17,8 @@ use Rattle.ms_runs_good_laws.specs.GoodWorlds.{GoodWorld, FitsCell}
 use Rattle.ms_runs_good_laws.proofs.WorldChanges.{given_back_good}
 use Rattle.ms_runs_threads.specs.Fibers.{Waits, fibers_step}
 use Rattle.ms_runs_threads.specs.PlainFibers.{Shared, plain_threads}
-use Rattle.ms_runs_threads.specs.Calls.{Told}
+use Rattle.ms_runs_threads.specs.Calls.{Told, start_of}
+use Rattle.ms_runs.specs.declared.runs.Calls.{Calls}
 use Rattle.ms_host.specs.State.{Beside}
 use Rattle.ms_host.specs.Shows.{Shows}
 use Rattle.ms_host.specs.SlotBytes.{ShowsSlots}
@@ -41,10 +42,10 @@ use Rattle.ms_threads.specs.ThreadTables.{Shares, Changed, KeepsStands, ended_gu
 use Rattle.ms_threads_schedules_laws.specs.Picks.{Pick}
 use Rattle.ms_threads.specs.declared.thread_table.ThreadTable.{ThreadTable}
 use Rattle.ms_threads.specs.Recording.{Records}
-use Rattle.ms_threads.specs.Going.{Standings, Recorded, IsOver, ended_so, ends_after, last_of, fiber_of, goes_at, tells_from, all_told, Telling, KeepsCalls, most_ahead, far_of, Going, Asking, Picking, HasEnded}
+use Rattle.ms_threads.specs.Going.{Standings, Recorded, IsOver, ended_so, ends_after, last_of, fiber_of, goes_at, told_so, tells_from, all_told, calls_there, Telling, KeepsCalls, most_ahead, far_of, Going, Asking, Picking, HasEnded}
 use Rattle.ms_threads.proofs.Threading.{shows_fibers, ended_fiber, shares_ended, starts_changed, keeps_changed}
 use Rattle.ms_threads.proofs.Kept.{standings_kept}
-use Rattle.ms_threads.proofs.Telling.{telling_kept, all_started, going, spent_tells, due_tells, within_tells, more_after, over_after, own_fibers}
+use Rattle.ms_threads.proofs.Telling.{telling_kept, all_started, calls_by, going, spent_tells, due_tells, within_tells, more_after, over_after, own_fibers}
 use Rattle.ms_threads.proofs.FiberSteps.{same_step, step_ends, step_returns, run_spent, run_due, answered_word, after_return}
 
 -- ---- numbers
@@ -83,11 +84,12 @@ ended_good mask value origin w g = record {
 module _ (m : Module) (u : Setup) (schedule : List ℕ) where
   -- a run that ends so answers what the whole run does
   pub ends_so : (made : List Pick) (e : End) (last : World) (beside : Beside) (t : ThreadedRun) → Recorded t made → ended_so made e last ≡ last_of m u schedule → Shows t.running.world beside last → IsBeside t.running.depot t.running.told beside
-      → t.running.told.blind ≤ 2 ^ 62 → (said : Told) → Telling t said → said.calls ≡ all_told m u schedule → IsOver m u schedule e t
-  ends_so made e last beside t recorded is shows told few said telling tells = (
+      → t.running.told.blind ≤ 2 ^ 62 → (calls : List Calls) (one : Option Calls) → (t.wanted ≡ true → t.calls.items ≡ calls) → (t.wanted ≡ true → t.ended ≡ one) → told_so calls one ≡ all_told m u schedule → IsOver m u schedule e t
+  ends_so made e last beside t recorded is shows told few calls one kept ended tells = (
     answers_so (plain_threads m u schedule) e last beside t.running (ap (λ (at : (End × World) × List Pick). result at.0.0 at.0.1) (sym is)) shows told few,
     subst (Records t.table.recorder) (sym (append_nil made) ∙ ap (λ (at : (End × World) × List Pick). at.1) is) recorded,
-    λ wanted. telling.kept wanted ∙ tells,
+    λ wanted. kept wanted ∙ ap (λ (p : List Calls × Option Calls). p.0) tells,
+    λ wanted. ended wanted ∙ ap (λ (p : List Calls × Option Calls). p.1) tells,
   )
     where
       append_nil : (l : List Pick) → l ++ [] ≡ l
@@ -123,23 +125,27 @@ module _ (m : Module) (u : Setup) (schedule : List ℕ) where
     -- no step is left
     pub turn_spent : IsSpent (IsRunning m u g.beside) m u g.state t.running.budget.left t'.running.fiber t'.running.world t'.running.budget.left → IsOver m u schedule «end».Spent t'
     turn_spent h =
-        ends_so g.made «end».Spent h.last.world g.beside t' still_recorded (sym (run_spent m u schedule g.made t.running.budget.left g.state h.last g.others h.own h.came) ∙ g.same) h.stands.shows still_beside still_few g.said still_telling
+        ends_so g.made «end».Spent h.last.world g.beside t' still_recorded (sym (run_spent m u schedule g.made t.running.budget.left g.state h.last g.others h.own h.came) ∙ g.same) h.stands.shows still_beside still_few g.said.calls None still_telling.kept (λ wanted. still_telling.none)
         (sym (spent_tells m u schedule t.running.budget.left g.state h.last g.others g.said h.own h.came started_few (told_few h.last.world h.stands.shows.reports)) ∙ g.tells)
 
     -- a step ended it
-    pub turn_ended : (e : End) → HasStopped m u g.beside g.state t.running.budget.left e t'.running.fiber t'.running.world → IsOver m u schedule e t'
-    turn_ended e h =
+    pub turn_ended : (e : End) (h : HasStopped m u g.beside g.state t.running.budget.left e t'.running.fiber t'.running.world) (t'' : ThreadedRun) → t'' ≡ record t' { ended = t''.ended }
+        → (t'.wanted ≡ true → t''.ended ≡ Some (calls_there m t'.table h.within.frames)) → IsOver m u schedule e t''
+    turn_ended e h t'' is ended =
+        let turn_then : h.before.world.turn ≡ t'.table.turn = ap (λ (f : Fibers). f.turn) (own_fibers m u schedule h.done g.state h.before h.own h.came ∙ g.stands.shows.fibers) ∙ g.shares.turn ∙ ap (λ (x : ThreadTable). x.turn) (sym guests) in
+        let there : calls_there m t'.table h.within.frames ≡ calls_by m u schedule (going m u schedule h.before) g.said = λ i. record { sites = sym h.same.calls i; started = start_of (sym turn_then i) (sym still_telling.starts i) } in
         let rest : ℕ = t.running.budget.left - h.done - 1 in
         let sum : rest + h.done + 1 ≡ t.running.budget.left = omega (arith, h.few) in
         let all = told_few h.last h.shows.reports in
         let up = (of_reports m u).grows h.before in
         let same : length (stepped_world (step_of m u h.before)).reports ≡ length h.last.reports = ap (λ (y : Stepped PlainState). length (stepped_world y).reports) h.ends.step in
-        ends_so g.made e h.last g.beside t' still_recorded
+        subst (IsOver m u schedule e) (sym is)
+        (ends_so g.made e h.last g.beside (record t' { ended = t''.ended }) still_recorded
         (sym (run_due m u schedule g.made t.running.budget.left rest h.done g.state h.before g.others sum h.own h.came ∙ ap (ends_after m u schedule g.made rest) (step_ends m u schedule h.before g.others e h.last h.ends)) ∙ g.same)
-        h.shows still_beside still_few g.said still_telling
+        h.shows still_beside still_few g.said.calls (Some (calls_by m u schedule (going m u schedule h.before) g.said)) still_telling.kept (λ wanted. ended wanted ∙ ap (λ (c : Calls). Some c) there)
         (sym (due_tells m u schedule t.running.budget.left rest h.done g.state h.before g.others g.said sum h.own h.came started_few (omega (arith, all, up, same))
         ∙ over_after m u schedule (going m u schedule h.before) g.said rest (fibers_step (fiber_of m u) schedule (goes_at h.before g.others)) e h.last (step_ends m u schedule h.before g.others e h.last h.ends) all)
-        ∙ g.tells)
+        ∙ g.tells))
 
     -- a step that was begun tells what it does from a state within it on
     module _ (rest done : ℕ) (before within : PlainState) (sum : rest + done + 1 ≡ t.running.budget.left) (came : steps (step_of m u) done g.state ≡ More before) (own : AllOwn m u done g.state) (same : Within m u before within)

@@ -15,6 +15,7 @@ use Rattle.ms_runs_good_laws.specs.GoodWorlds.{GoodWorld, GivesBytes, FitsCell}
 use Rattle.ms_runs_threads.specs.Fibers.{Meaning, Others, Fibers, Goes, Waits, waits as must_wait, goes_on, moves, finish, fibers_step, ends_in}
 use Rattle.ms_runs_threads.specs.PlainFibers.{Shared, plain_fiber, plain_threads, plain_threads_start}
 use Rattle.ms_runs_threads.specs.Calls.{Acting, Told, none_told, start_of, told_after, fibers_told, plain_threads_calls}
+use Rattle.ms_runs_threads.specs.Blind.{fibers_end, fibers_end_after, plain_threads_end_calls}
 use Rattle.ms_threads_schedules_laws.specs.Picks.{Pick, picked_on, picks_in, plain_picks}
 use Rattle.ms_host.specs.State.{WorldState, Beside}
 use Rattle.ms_host.specs.Shows.{Shows}
@@ -34,7 +35,7 @@ use Rattle.ms_runtime.specs.declared.reports.ReportLimit.{ReportLimit}
 use Rattle.ms_runtime.specs.Served.{limit_of, IsBeside}
 use Rattle.ms_runtime.specs.Answering.{HasRoom}
 use Rattle.ms_runtime.specs.Going.{ahead, Keeping, Answers, LeftAfter, HasSlack}
-use Rattle.ms_runtime.specs.Recorded.{Noted as NotedAt}
+use Rattle.ms_runtime.specs.Recorded.{calls_from, Noted as NotedAt}
 use Rattle.ms_threads.specs.declared.thread_table.Thread.{Thread as Guest}
 use Rattle.ms_threads.specs.declared.thread_table.ThreadTable.{ThreadTable}
 use Rattle.ms_threads.specs.declared.runs.ThreadedRun.{ThreadedRun}
@@ -99,18 +100,28 @@ ended_so made e last = ((e, last), made ++ [])
 abbrev pub Recorded : ThreadedRun → (made : List Pick) → Type 0
 Recorded t made = Records t.table.recorder made
 
--- ---- what is told of reports
+-- ---- what is told of reports, and of the end
+
+-- the calls at reports, and those where the run ends, if they stand somewhere then
+abbrev pub told_so : List Calls → Option Calls → List Calls × Option Calls
+told_so calls last = (calls, last)
 
 -- from a state of fibers on, with so many steps, where so much was told, and from a step on that one of them takes
-abbrev pub tells_from : Module → Setup → List ℕ → Told → ℕ → Fibers (List (Frame ℕ)) Shared → List Calls
-tells_from m u schedule said left c = fibers_told (fiber_of m u) (call_sites m) schedule left c said
+abbrev pub tells_from : Module → Setup → List ℕ → Told → ℕ → Fibers (List (Frame ℕ)) Shared → List Calls × Option Calls
+tells_from m u schedule said left c = told_so (fibers_told (fiber_of m u) (call_sites m) schedule left c said) (fibers_end (fiber_of m u) (call_sites m) schedule left c said)
 
-abbrev pub tells_after : Module → Setup → List ℕ → Acting (List (Frame ℕ)) → Told → ℕ → Stepped (Fibers (List (Frame ℕ)) Shared) → List Calls
-tells_after m u schedule a said left step = told_after (fiber_of m u) (call_sites m) a (fibers_told (fiber_of m u) (call_sites m) schedule left) said step
+abbrev pub tells_after : Module → Setup → List ℕ → Acting (List (Frame ℕ)) → Told → ℕ → Stepped (Fibers (List (Frame ℕ)) Shared) → List Calls × Option Calls
+tells_after m u schedule a said left step =
+    told_so (told_after (fiber_of m u) (call_sites m) a (fibers_told (fiber_of m u) (call_sites m) schedule left) said step)
+    (fibers_end_after (fiber_of m u) (call_sites m) a (fibers_end (fiber_of m u) (call_sites m) schedule left) said step)
 
 -- by the whole run
-abbrev pub all_told : Module → Setup → List ℕ → List Calls
-all_told m u schedule = plain_threads_calls m u schedule
+abbrev pub all_told : Module → Setup → List ℕ → List Calls × Option Calls
+all_told m u schedule = told_so (plain_threads_calls m u schedule) (plain_threads_end_calls m u schedule)
+
+-- the calls at which the thread stands that goes on, where it has these frames
+abbrev pub calls_there : Module → ThreadTable → List (Frame ℕ) → Calls
+calls_there m g frames = calls_from m (start_of g.turn (starts_of g)) frames
 
 -- a thread with a number acts from where it stands, or begins
 abbrev pub acts : ℕ → Option (List (Frame ℕ)) → Acting (List (Frame ℕ))
@@ -121,10 +132,11 @@ pub record Telling (t : ThreadedRun) (said : Told) : Type 0 where
   pub starts : said.starts ≡ starts_of t.table
   pub counted : length t.running.told.reports ≤ length said.calls
   pub kept : t.wanted ≡ true → t.calls.items ≡ said.calls
+  pub none : t.ended ≡ None
 
 -- what is recorded stays
 abbrev pub KeepsCalls : ThreadedRun → ThreadedRun → Type 0
-KeepsCalls old new = (new.wanted ≡ old.wanted) × (new.calls ≡ old.calls)
+KeepsCalls old new = (new.wanted ≡ old.wanted) × (new.calls ≡ old.calls) × (new.ended ≡ old.ended)
 
 -- the calls at which the thread stands that goes on are recorded for each new report
 abbrev pub Noted : Module → ThreadedRun → ThreadedRun → Type 0
@@ -228,7 +240,7 @@ pub record After (m : Module) (u : Setup) (schedule : List ℕ) (call : HostCall
   pub said : Told
   pub telling : Telling t said
   pub goes_telling : (next : PlainState) → Resumes m u call.asked within next → CameTo m t within next → tells_from m u schedule said t.running.budget.left (goes_at next others) ≡ all_told m u schedule
-  pub stops_telling : (e : End) (last : World) → Stops m u call.asked within e last → last.reports ≡ t.running.told.reports → said.calls ≡ all_told m u schedule
+  pub stops_telling : (e : End) (last : World) → Stops m u call.asked within e last → last.reports ≡ t.running.told.reports → told_so said.calls (Some (calls_there m t.table within.frames)) ≡ all_told m u schedule
 
 -- a pick is due
 pub record Picking (m : Module) (u : Setup) (schedule : List ℕ) (t : ThreadedRun) : Type 0 where
@@ -285,10 +297,12 @@ pub record Beginning (m : Module) (u : Setup) (schedule : List ℕ) (t : Threade
 abbrev pub HasEnded : (value : ℕ) → ThreadedRun → ThreadedRun → Type 0
 HasEnded value old new = (cells : ℕ → ℕ) → ShowsSlots old.running.world.slots cells → Changed old.table.turn (ended_guest value (result_mask cells) (result_origin cells)) old.table new.table
 
--- a run has ended: it answers what the whole run does, and its picks are recorded, and the calls at its reports where those are wanted
+-- a run has ended: it answers what the whole run does, and its picks are recorded, and where they are wanted the calls at its reports
+-- and where it ended
 abbrev pub IsOver : Module → Setup → List ℕ → End → ThreadedRun → Type 0
 IsOver m u schedule e t =
-    Answers (plain_threads m u schedule) e t.running × Recorded t (plain_picks m u schedule) × (t.wanted ≡ true → t.calls.items ≡ all_told m u schedule)
+    Answers (plain_threads m u schedule) e t.running × Recorded t (plain_picks m u schedule) × (t.wanted ≡ true → t.calls.items ≡ plain_threads_calls m u schedule)
+    × (t.wanted ≡ true → t.ended ≡ plain_threads_end_calls m u schedule)
 
 -- a run goes on, and is nearer to its end, or it has ended
 abbrev pub Turned : Module → Setup → List ℕ → ℕ → Option End → ThreadedRun → Type 0

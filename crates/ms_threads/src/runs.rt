@@ -1,15 +1,16 @@
 //! Whole runs of programs with threads.
-ghost use Rattle.std.specs.Prelude.{◌≡◌, ◌<◌, ◌≤◌, ◌^◌, ℕ, List, suc, true, None, [], length, if◌then◌else◌, IfOk, OnOk, MatchBool};
+ghost use Rattle.std.specs.Prelude.{◌≡◌, ◌<◌, ◌≤◌, ◌^◌, ℕ, List, suc, true, Some, None, [], length, if◌then◌else◌, IfOk, OnOk, MatchBool};
 ghost use Rattle.ms_ir.specs.declared.syntax.Module.{Module as ModuleOf};
 ghost use Rattle.ms_ir.specs.declared.calls.RuntimeFn.TheVariants.{ThreadResult as ResultOf};
-ghost use Rattle.ms_runs.specs.{declared.runs.Setup.{Setup as SetupOf}, Limits.{WithinLimits}};
-ghost use Rattle.ms_runs_threads.specs.{PlainFibers.{plain_threads}, Calls.{plain_threads_calls}};
+ghost use Rattle.ms_runs.specs.{declared.runs.Setup.{Setup as SetupOf}, Control.{Frame as FrameOf}, Limits.{WithinLimits}};
+ghost use Rattle.ms_runs_threads.specs.{PlainFibers.{plain_threads}, Calls.{plain_threads_calls}, Blind.{plain_threads_end_calls}};
 ghost use Rattle.ms_host.specs.declared.calls.Answer.TheVariants.{Resumed as ResumedOf};
+ghost use Rattle.ms_machine_steps.specs.Callers.{CallersOf};
 ghost use Rattle.ms_machine.specs.Standing.{RunsSomewhere};
 ghost use Rattle.ms_runtime.specs.{Answering.{AnsweredFor}, Going.{ahead}, Served.{Fits, limit_of}};
 ghost use Rattle.ms_threads_schedules_laws.specs.Picks.{plain_picks};
 ghost use Rattle.ms_threads.specs.{Faithful.{IsSchedule}, Recording.{Records}, ToldThreads.{plain_threads_told}, ThreadTables.{IsThreadCall, IsResult, standing_of}};
-ghost use Rattle.ms_threads.specs.Going.{KeepsCalls, Noted, Asking, After, Picking, Performing, Beginning, Going, HasEnded, Turned, IsGoing, IsAsking, IsAfter, IsPicking, IsPerforming, IsBeginning, most_ahead, far_of};
+ghost use Rattle.ms_threads.specs.Going.{KeepsCalls, calls_there, Noted, Asking, After, Picking, Performing, Beginning, Going, HasEnded, Turned, IsGoing, IsAsking, IsAfter, IsPicking, IsPerforming, IsBeginning, most_ahead, far_of};
 
 use crate::recorder::Recorder;
 use crate::thread_table::{ThreadTable, exchange, word};
@@ -17,10 +18,10 @@ use ms_bits::{List, NoMemory, Trap};
 use ms_check::CheckedModule;
 use ms_host::{Answer, Asked, HostCall};
 use ms_ir::RuntimeFn;
-use ms_machine::{advance, resume, spawn};
+use ms_machine::{advance, calls_below, resume, spawn};
 use ms_machine_frames::{Pause, no_fiber};
 use ms_runs::{Calls, End, RunResult, Setup};
-use ms_runtime::{ReportLimit, Running, ToldRun, note_calls, start_run, thread_result, told_calls};
+use ms_runtime::{ReportLimit, Running, ToldRun, note_calls, start_run, thread_result, told_calls, told_end};
 use std::alloc::Global;
 
 /// A run of threads between two pauses.
@@ -33,6 +34,8 @@ pub struct ThreadedRun {
     pub wanted: bool,
     /// Where they are wanted, the calls that stood at each report so far, in order; else none.
     pub calls: Vec<Calls>,
+    /// The calls that stood where the run ended, where they are wanted, and it has ended before its steps were spent.
+    pub ended: Option<Calls>,
 }
 
 /// Whether a call is a thread call.
@@ -135,21 +138,58 @@ impl ThreadedRun {
         )
     }
 
+    /// Records the calls that stand where the run has ended, if they are wanted.
+    fn note_end(&mut self, alloc: Global, m: &CheckedModule) -> Result<(), NoMemory>
+        requires { (frames : List (FrameOf ℕ)) × CallersOf m.now self.old.running.fiber frames }
+        ensures wanted { self.new.wanted ≡ self.old.wanted }
+        ensures same { self.new ≡ (record self.old { ended = self.new.ended }) }
+        ensures ended { (frames : List (FrameOf ℕ)) → CallersOf m.now self.old.running.fiber frames → OnOk result (self.old.wanted ≡ true → self.new.ended ≡ Some (calls_there m.now self.old.table frames)) }
+    {
+        if !self.wanted {
+            return Ok(());
+        }
+        let sites = calls_below(alloc, m, &self.running.fiber)?;
+        let started = self.table.start();
+        self.ended = Some(Calls { sites, started });
+        Ok(())
+    }
+
+    /// Records that no call stands where the run has ended, if that is wanted.
+    fn note_alone(&mut self, alloc: Global)
+        ensures wanted { self.new.wanted ≡ self.old.wanted }
+        ensures same { self.new ≡ (record self.old { ended = self.new.ended }) }
+        ensures ended { self.old.wanted ≡ true → self.new.ended ≡ Some (record { sites = []; started = 0 }) }
+    {
+        if self.wanted {
+            let sites = List::from_vec(Vec::new(alloc));
+            self.ended = Some(Calls { sites, started: 0 });
+        }
+    }
+
     /// Goes on after an answered call. Says how the run ends, if it does.
     #[inline(always)]
-    fn after_answer(&mut self, m: &CheckedModule, call: HostCall, answer: Answer) -> Option<End>
+    fn after_answer(
+        &mut self,
+        alloc: Global,
+        m: &CheckedModule,
+        call: HostCall,
+        answer: Answer,
+    ) -> Result<Option<End>, NoMemory>
         requires after { IsAfter m.now call answer self.old }
         ensures wanted { self.new.wanted ≡ self.old.wanted }
-        ensures turned { (u : SetupOf) (schedule : List ℕ) → After m.now u schedule call answer self.old → Turned m.now u schedule (ahead m.now self.old.running) result self.new }
+        ensures turned { (u : SetupOf) (schedule : List ℕ) → After m.now u schedule call answer self.old → IfOk result (λ end. Turned m.now u schedule (ahead m.now self.old.running) end self.new) }
     {
         m.law_valid();
         let _code = m.program();
         match answer {
-            Answer::Ended(end) => Some(end),
+            Answer::Ended(end) => {
+                self.note_end(alloc, m)?;
+                Ok(Some(end))
+            }
             Answer::Resumed(value) => {
                 resume(m, &mut self.running.fiber, value);
                 self.running.fiber.keep(call.args);
-                None
+                Ok(None)
             }
         }
     }
@@ -193,7 +233,7 @@ impl ThreadedRun {
     {
         m.law_valid();
         let answer = self.table.answer(alloc, &call, &mut self.running.world)?;
-        Ok(self.after_answer(m, call, answer))
+        self.after_answer(alloc, m, call, answer)
     }
 
     /// The picked thread begins.
@@ -231,9 +271,11 @@ impl ThreadedRun {
             return Ok(Some(End::Spent));
         }
         if !self.table.pick(schedule)? {
+            let site = self.table.main_site();
+            self.note_alone(alloc);
             return Ok(Some(End::Trap {
                 kind: Trap::Deadlock,
-                site: self.table.main_site(),
+                site,
             }));
         }
         match self.table.unpark(&mut self.running.fiber) {
@@ -265,7 +307,7 @@ impl ThreadedRun {
         }
         let answer = self.answer_of(alloc, m, &call, limit)?;
         self.note_calls(alloc, m)?;
-        Ok(self.after_answer(m, call, answer))
+        self.after_answer(alloc, m, call, answer)
     }
 
     /// Runs to the next pause, and does what is asked there; `limit` is that of the run's reports. Returns how the run ends, if it
@@ -292,7 +334,10 @@ impl ThreadedRun {
             &mut running.budget,
         )? {
             Pause::Spent => Ok(Some(End::Spent)),
-            Pause::Ended(end) => Ok(Some(end)),
+            Pause::Ended(end) => {
+                self.note_end(alloc, m)?;
+                Ok(Some(end))
+            }
             Pause::Asked(call) => self.call(alloc, m, call, limit, schedule),
             Pause::Finished { value } => {
                 self.end(alloc, value);
@@ -309,20 +354,21 @@ pub struct RecordedRun {
     pub recorder: Recorder,
 }
 
-/// Runs a checked module with threads to its end. Ok is what its plain run answers and its first 2048 picks, and the calls that stood
-/// at each of its reports, in order, where they are wanted.
+/// Runs a checked module with threads to its end. Ok is what its plain run answers and its first 2048 picks, and where they are wanted
+/// the calls that stood at each of its reports, in order, and where it ended.
 fn run_to_end(
     alloc: Global,
     m: &CheckedModule,
     setup: &Setup,
     schedule: &[u8],
     wanted: bool,
-) -> Result<(RecordedRun, List<Calls>), NoMemory>
+) -> Result<(RecordedRun, List<Calls>, Option<Calls>), NoMemory>
     requires limits { WithinLimits setup.now }
     requires scheduled { IsSchedule schedule.now }
     ensures result { IfOk result (λ r. r.0.result ≡ plain_threads m.now setup.now schedule.now) }
     ensures picks { IfOk result (λ r. Records r.0.recorder (plain_picks m.now setup.now schedule.now)) }
     ensures calls { IfOk result (λ r. r.1 ≡ (if wanted then plain_threads_calls m.now setup.now schedule.now else [])) }
+    ensures end_calls { IfOk result (λ r. r.2 ≡ (if wanted then plain_threads_end_calls m.now setup.now schedule.now else None)) }
 {
     let limit = ReportLimit {
         count: setup.reports,
@@ -335,6 +381,7 @@ fn run_to_end(
         table,
         wanted,
         calls: Vec::new(alloc),
+        ended: None,
     };
     loop {
         if let Some(end) = threads.run_to_pause(alloc, m, limit, schedule)? {
@@ -342,13 +389,15 @@ fn run_to_end(
                 running,
                 table,
                 calls,
+                ended,
                 ..
             } = threads;
             let recorded = RecordedRun {
                 result: running.into_result(end),
                 recorder: table.recorder,
             };
-            return Ok((recorded, told_calls(alloc, calls, wanted)));
+            let calls = told_calls(alloc, calls, wanted);
+            return Ok((recorded, calls, told_end(ended, wanted)));
         }
     }
 }
@@ -365,7 +414,7 @@ pub fn record_threads(
     ensures result { IfOk result (λ r. r.result ≡ plain_threads m.now setup.now schedule.now) }
     ensures picks { IfOk result (λ r. Records r.recorder (plain_picks m.now setup.now schedule.now)) }
 {
-    let (recorded, _) = run_to_end(alloc, m, setup, schedule, false)?;
+    let (recorded, _, _) = run_to_end(alloc, m, setup, schedule, false)?;
     Ok(recorded)
 }
 
@@ -388,7 +437,7 @@ pub fn run_threads(
     Ok(recorded.result)
 }
 
-/// The same, and the calls that stood at each of its reports, in order, where they are wanted.
+/// The same, and the calls that stood at each of its reports, in order, and where it ended, where they are wanted.
 ///
 /// A report takes as long as calls stand there; nothing else takes longer than in `run_threads`.
 pub fn run_threads_told(
@@ -402,9 +451,10 @@ pub fn run_threads_told(
     requires scheduled { IsSchedule schedule.now }
     ensures { IfOk result (λ r. r ≡ plain_threads_told wanted m.now setup.now schedule.now) }
 {
-    let (recorded, calls) = run_to_end(alloc, m, setup, schedule, wanted)?;
+    let (recorded, calls, end_calls) = run_to_end(alloc, m, setup, schedule, wanted)?;
     Ok(ToldRun {
         result: recorded.result,
         calls,
+        end_calls,
     })
 }

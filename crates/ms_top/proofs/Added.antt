@@ -32,9 +32,9 @@ use Rattle.ms_report.specs.ReportTexts.{report_text_of}
 use Rattle.ms_report.specs.RunTexts.{closing_of}
 use Rattle.ms_report.specs.WithLines.{Lines, no_lines, fault_site, reports_with, closing_text_with}
 use Rattle.ms_report.proofs.WithoutLines.{none_under, reports_alone, closing_alone}
-use Rattle.ms_report.proofs.Unindented.{reports_before, closing_before, closing_left, fault_left, refusal_left, threads_left}
-use Rattle.ms_report.specs.CallTexts.{reports_calling}
-use Rattle.ms_report.proofs.CallLines.{none_called, calling_before}
+use Rattle.ms_report.proofs.Unindented.{fault_left, refusal_left, threads_left}
+use Rattle.ms_report.specs.CallTexts.{reports_calling, closing_calling}
+use Rattle.ms_report.proofs.CallLines.{none_called, none_called_last, calling_before, closing_calling_before, closing_calling_left}
 use Rattle.ms_report.proofs.TrailLines.{trail_left}
 use Rattle.ms_words.specs.declared.commands.Command.{Command}
 use Rattle.ms_words.specs.declared.commands.Command.TheVariants.{Run, Check, CheckSchedules, Explain, Corpus}
@@ -46,7 +46,7 @@ use Rattle.ms_top.specs.Added.{with_locations, without_lines, without_any_lines,
 use Rattle.ms_top.specs.Command.{form_of, located_file, only_input, setup_of}
 use Rattle.ms_top.specs.Explained.{way_with, trace_with, followed, no_report, explained_with}
 use Rattle.ms_top.specs.Lines.{AreLinesIn, AreLines, fault_text_with}
-use Rattle.ms_top.specs.Runs.{silent, plain_calls_under, plain_told_under}
+use Rattle.ms_top.specs.Runs.{silent, plain_calls_under, plain_end_calls_under, plain_told_under}
 use Rattle.ms_top.specs.Said.{answer_of, answer_of_result, explored_told, answer_of_explored, answer_of_results, run_text, says, status_of, tried_text, UnlessThreaded, IsExplanation, AreSections, IsAnswerToModule, IsAnswerToReading, IsAnswerToText}
 
 -- ---- lines
@@ -64,7 +64,7 @@ all_indented (Some file) form text m under (tokens, has, marks, stand, is) site 
 
 -- where no calls are told there are no lines of theirs
 pub run_silent : (under : Lines) (verdict : Bool) (m : Module) (r : RunResult) → run_text under verdict m (silent r) ≡ reports_with under m 1 r.reports ++ closing_text_with under m r verdict
-run_silent under verdict m r = ap (λ (reports : List ℕ). reports ++ closing_text_with under m r verdict) (none_called under m 0 r.reports)
+run_silent under verdict m r = ap₂ (λ (reports closing : List ℕ). reports ++ closing) (none_called under m 0 r.reports) (none_called_last under m r verdict)
 
 pub run_alone : (verdict : Bool) (m : Module) (r : RunResult) → run_text no_lines verdict m (silent r) ≡ report_text_of m r ++ closing_of m r verdict
 run_alone verdict m r = run_silent no_lines verdict m r ∙ ap₂ (λ (reports closing : List ℕ). reports ++ closing) (reports_alone m 1 r.reports) (closing_alone m r verdict)
@@ -75,8 +75,8 @@ fault_alone f = ap (λ (lines : List ℕ). fault_text f ++ lines) (none_under (f
 run_left : (under : Lines) → ((site : ℕ) → IsIndented (under site)) → (verdict : Bool) (m : Module) (t : ToldRun) → unindented (run_text under verdict m t) ≡ run_text no_lines verdict m t
 run_left under all verdict m t =
     let r = t.result in
-    calling_before under all m t.calls r.reports (closing_text_with under m r verdict)
-    ∙ ap (λ (closing : List ℕ). reports_calling no_lines m t.calls 0 r.reports ++ closing) (closing_left under all m r verdict ∙ sym (closing_alone m r verdict))
+    calling_before under all m t.calls r.reports (closing_calling under m r t.end_calls verdict)
+    ∙ ap (λ (closing : List ℕ). reports_calling no_lines m t.calls 0 r.reports ++ closing) (closing_calling_left under all m r t.end_calls verdict)
 
 module _ (under : Lines) (all : (site : ℕ) → IsIndented (under site)) (m : Module) where
   way_left : (moves : List Move) (at : Source) (hops : Option (List Hop)) → unindented (way_with under m moves at hops) ≡ way_with no_lines m moves at hops
@@ -96,16 +96,15 @@ module _ (under : Lines) (all : (site : ℕ) → IsIndented (under site)) (m : M
   explained_left : (s : Setup) (t : ToldRun) → unindented (explained_with under m s t) ≡ explained_with no_lines m s t
   explained_left s t = report_left t.result.reports t.calls (followed m s) (eqb (length t.result.reports) 0)
 
-tried_left : (under : Lines) → ((site : ℕ) → IsIndented (under site)) → (m : Module) (e : Explored) (calls : List Calls)
-    → unindented (run_text under true m (explored_told e calls) ++ tried_text e) ≡ run_text no_lines true m (explored_told e calls) ++ tried_text e
-tried_left under all m e calls =
+tried_left : (under : Lines) → ((site : ℕ) → IsIndented (under site)) → (m : Module) (e : Explored) (calls : List Calls) (last : Option Calls)
+    → unindented (run_text under true m (explored_told e calls last) ++ tried_text e) ≡ run_text no_lines true m (explored_told e calls last) ++ tried_text e
+tried_left under all m e calls last =
     let r = e.result in
     let lines = tried_text e in
-    ap unindented (append_assoc (reports_calling under m calls 0 r.reports) (closing_text_with under m r true) lines)
-    ∙ calling_before under all m calls r.reports (closing_text_with under m r true ++ lines)
-    ∙ ap (λ (t : List ℕ). reports_calling no_lines m calls 0 r.reports ++ t)
-    (closing_before under all m r true e.tried e.all e.outcomes (not (is_clean (verdict_of r))) e.schedule ∙ ap (λ (closing : List ℕ). closing ++ lines) (sym (closing_alone m r true)))
-    ∙ sym (append_assoc (reports_calling no_lines m calls 0 r.reports) (closing_text_with no_lines m r true) lines)
+    ap unindented (append_assoc (reports_calling under m calls 0 r.reports) (closing_calling under m r last true) lines)
+    ∙ calling_before under all m calls r.reports (closing_calling under m r last true ++ lines)
+    ∙ ap (λ (t : List ℕ). reports_calling no_lines m calls 0 r.reports ++ t) (closing_calling_before under all m r last true e.tried e.all e.outcomes (not (is_clean (verdict_of r))) e.schedule)
+    ∙ sym (append_assoc (reports_calling no_lines m calls 0 r.reports) (closing_calling no_lines m r last true) lines)
 
 pub run_taken_out : (command : Command) (text : List ℕ) (m : Module) (under : Lines) (verdict : Bool) (t : ToldRun) → AreLines command text m under
     → unindented (run_text under verdict m t) ≡ run_text no_lines verdict m t
@@ -133,11 +132,11 @@ module _ (Gives : Module → Module → Type 0) where
       → a ≡ answer_of_result under verdict m t → without_lines a ≡ answer_of_result no_lines verdict m t
   run_said command text m under verdict t a are is = ap without_lines is ∙ ap (answer_of (status_of t.result) t.result.output) (run_taken_out command text m under verdict t are)
 
-  explored_said : (command : Command) (text : List ℕ) (m : Module) (under : Lines) (e : Explored) (calls : List Calls) (a : Output) → AreLines command text m under
-      → a ≡ answer_of_explored under m e calls → without_lines a ≡ answer_of_explored no_lines m e calls
-  explored_said command text m under e calls a are is =
+  explored_said : (command : Command) (text : List ℕ) (m : Module) (under : Lines) (e : Explored) (calls : List Calls) (last : Option Calls) (a : Output) → AreLines command text m under
+      → a ≡ answer_of_explored under m e calls last → without_lines a ≡ answer_of_explored no_lines m e calls last
+  explored_said command text m under e calls last a are is =
       ap without_lines is
-      ∙ ap (answer_of (status_of e.result) e.result.output) (tried_left under (all_indented (located_file command) (form_of command) text m under are) m e calls)
+      ∙ ap (answer_of (status_of e.result) e.result.output) (tried_left under (all_indented (located_file command) (form_of command) text m under are) m e calls last)
 
   reading_said : (cause : ReadError) (a : Output) → a ≡ says 5 (refusal_text (Read cause)) → without_lines a ≡ says 5 (refusal_text (Read cause))
   reading_said cause a is = ap without_lines is ∙ ap (says 5) (reading_left cause)
@@ -178,7 +177,7 @@ module _ (Gives : Module → Module → Type 0) where
           j,
           gives,
           ap without_any_lines is
-              ∙ ap₂ (λ (out err : List ℕ). answer_of (status_of r) out err) (explained_left under all m s t) (closing_left under all m r true ∙ sym (closing_alone m r true)),
+              ∙ ap₂ (λ (out err : List ℕ). answer_of (status_of r) out err) (explained_left under all m s t) (closing_calling_left under all m r t.end_calls true),
         )
 
     explain_module : (m : Module) (under : Lines) (a : Output) → AreLines (Explain file (with_locations true o)) text m under → IsAnswerToModule Gives under (Explain file (with_locations true o)) inputs m a
@@ -203,7 +202,8 @@ module _ (Gives : Module → Module → Type 0) where
     schedules_module : (m : Module) (under : Lines) (a : Output) → AreLines (asking true) text m under → IsAnswerToModule Gives under (asking true) inputs m a
         → IsAnswerToModule Gives no_lines (asking false) inputs m (without_lines a)
     schedules_module m under a are (inl (f, refused, is)) = inl (f, refused, fault_said (asking true) text m under f a are is)
-    schedules_module m under a are (inr (valid, (j, gives, e, explored, is))) = inr (valid, (j, gives, e, explored, explored_said (asking true) text m under e (if o.calls then plain_calls_under (is_threaded m) j (setup_of o (only_input inputs)) e.schedule else []) a are is))
+    schedules_module m under a are (inr (valid, (j, gives, e, explored, is))) = inr (valid, (j, gives, e, explored, explored_said (asking true) text m under e (if o.calls then plain_calls_under (is_threaded m) j (setup_of o (only_input inputs)) e.schedule else [])
+        (if o.calls then plain_end_calls_under (is_threaded m) j (setup_of o (only_input inputs)) e.schedule else None) a are is))
 
     schedules_reading : (r : Result Module ReadError) (a : Output) → IsAnswerToReading Gives (asking true) inputs text r a
         → IsAnswerToReading Gives (asking false) inputs text r (without_lines a)

@@ -52,7 +52,7 @@ use Rattle.ms_report.specs.WithLines.{Lines, no_lines, under_line, fault_site, r
 use Rattle.ms_report.specs.RefusalTexts.{IsNumbered, IsReadRefusal, refusal_text, threads_text, wants_memory}
 use Rattle.ms_words.specs.Words.{defaults}
 use Rattle.ms_threads.specs.Faithful.{IsSchedule}
-use Rattle.ms_top.specs.Runs.{plain_under, plain_picks_under, plain_calls_under, plain_told_under}
+use Rattle.ms_top.specs.Runs.{plain_under, plain_picks_under, plain_calls_under, plain_end_calls_under, plain_told_under}
 use Rattle.ms_report.specs.SummaryTexts.{summary_of}
 use Rattle.ms_top.specs.Said.{says, answer_of, answer_of_explored, answer_of_result, answer_of_results, status_of, UnlessThreaded, IsAnswerOfCheck, IsAnswerOfSchedules, AreSections, IsAnswerOfGen, IsAnswerToValid, IsAnswerToModule, IsAnswerToReading, IsAnswerToText}
 
@@ -107,15 +107,16 @@ check_answer Gives under m n calls s t schedule picks r a same given alike q is 
     (q.0, q.1, is ∙ ap (λ k. answer_of_result under true k r) same ∙ ap (answer_of_result under true m) (q.2 ∙ ap₂ (plain_told_under calls (is_threaded m) q.0) given alike))
 
 -- what exploring tells
-pub schedules_answer : (Gives : Module → Module → Type 0) (under : Lines) (m n : Module) (calls : Bool) (s t : Setup) (runs : ℕ) (e : Explored) (told : List Calls) (a : Output) → n ≡ m → s ≡ t
-    → IsExploredOfGiven Gives m s runs calls e told → a ≡ answer_of_explored under n e told → IsAnswerOfSchedules Gives under calls t runs m a
-schedules_answer Gives under m n calls s t runs e told a same given q is = (
+pub schedules_answer : (Gives : Module → Module → Type 0) (under : Lines) (m n : Module) (calls : Bool) (s t : Setup) (runs : ℕ) (e : Explored) (told : List Calls) (last : Option Calls) (a : Output) → n ≡ m → s ≡ t
+    → IsExploredOfGiven Gives m s runs calls e told last → a ≡ answer_of_explored under n e told last → IsAnswerOfSchedules Gives under calls t runs m a
+schedules_answer Gives under m n calls s t runs e told last a same given q is = (
   q.0,
   q.1,
   e,
   subst (λ (setup : Setup). IsExplored (plain_picks_under (is_threaded m) q.0 setup) (plain_under (is_threaded m) q.0 setup) runs e) given q.2,
-  is ∙ ap (λ (k : Module). answer_of_explored under k e told) same
-      ∙ ap (answer_of_explored under m e) (q.3 ∙ ap (λ (setup : Setup). if calls then plain_calls_under (is_threaded m) q.0 setup e.schedule else []) given),
+  is ∙ ap (λ (k : Module). answer_of_explored under k e told last) same
+      ∙ ap₂ (answer_of_explored under m e) (q.3 ∙ ap (λ (setup : Setup). if calls then plain_calls_under (is_threaded m) q.0 setup e.schedule else []) given)
+      (q.4 ∙ ap (λ (setup : Setup). if calls then plain_end_calls_under (is_threaded m) q.0 setup e.schedule else None) given),
 )
 
 -- the runs on many inputs

@@ -1,7 +1,6 @@
 -- What `explain` says, and that the way which it shows begins at a root that the run had reached.
 use Rattle.std.proofs.Common.{◌≡◌, ◌≢◌, ◌∙◌, ◌<◌, ◌≤◌, ◌^◌, ◌++◌, ℕ, Bool, true, false, List, [], ◌∷◌, length, Option, Some, eqb, leb, if◌then◌else◌, refl, sym, ap, subst, ◌⊎◌, inl, inr, arith}
 use Rattle.std.specs.Prelude.{reverse}
-use Rattle.std.proofs.Math.Path.{ap₂}
 use Rattle.std.proofs.lemmas.Bool.{leb-true, leb-false, ne_eqb}
 use Rattle.ms_ir.specs.declared.syntax.Module.{Module}
 use Rattle.ms_ir.specs.ThreadCalls.{is_threaded}
@@ -143,7 +142,8 @@ explains_shadow Gives under file inputs o m a faithful alone fair is =
     let s = setup_of o (only_input inputs) in
     let h = alone_says m a (IsExplanation Gives under o.calls s m a) alone is in
     let known = faithful h.0 h.1 in
-    h.2 ∙ ap (answer_of_explained under m s) (ap₂ (told_as o.calls) (known.0.runs s fair) (known.1.same s fair))
+    let told : plain_told o.calls h.0 s ≡ shadow_told o.calls m s = λ i. told_as o.calls (known.0.runs s fair i) (known.1.same s fair i) (known.1.ends s fair i) in
+    h.2 ∙ ap (answer_of_explained under m s) told
 
 pub explained_shadow : (under : Lines) (file : List ℕ) (inputs : List (List ℕ)) (o : Options) (m : Module) (a : Output) → is_threaded m ≡ false → let s = setup_of o (only_input inputs) in Fair s
     → IsAnswerToValid IsInstrumented under (Explain file o) inputs m a → a ≡ answer_of_explained under m s (shadow_told o.calls m s)

@@ -70,7 +70,7 @@ calls_alone m j made alone s fair = subst (λ t. CallsHoldUnder t m s (0 ∷ [])
 -- what is told of such a run
 pub told_same : (m j : Module) → IsInstrumented m j → (calls : Bool) (s : Setup) → Fair s → (schedule : List ℕ) → IsSchedule schedule
     → plain_told_under calls (is_threaded m) j s schedule ≡ shadow_told_under calls (is_threaded m) m s schedule
-told_same m j made calls s fair schedule some = ap₂ (told_as calls) (made.runs s fair schedule some) (made.calls s fair schedule some)
+told_same m j made calls s fair schedule some = λ i. told_as calls (made.runs s fair schedule some i) (made.calls s fair schedule some i) (made.ends s fair schedule some i)
 
 pub told_alone : (m j : Module) → IsInstrumented m j → is_threaded m ≡ false → (calls : Bool) (s : Setup) → Fair s → plain_told calls j s ≡ shadow_told calls m s
 told_alone m j made alone calls s fair =

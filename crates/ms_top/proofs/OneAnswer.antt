@@ -36,7 +36,7 @@ use Rattle.ms_top.specs.Files.{Counted, FilesRead, Whole, Fault, Long, after, Is
 use Rattle.ms_top.specs.Instrumented.{IsInstrumented}
 use Rattle.ms_top.specs.Lines.{AreLinesIn, AreLines, fault_text_with}
 use Rattle.ms_threads_explore.specs.Explorations.{IsExplored}
-use Rattle.ms_top.specs.Runs.{plain_under, plain_picks_under, plain_calls_under, plain_told_under}
+use Rattle.ms_top.specs.Runs.{plain_under, plain_picks_under, plain_calls_under, plain_end_calls_under, plain_told_under}
 use Rattle.ms_report.specs.SummaryTexts.{summary_of}
 use Rattle.ms_top.specs.Said.{answer_of, answer_of_result, answer_of_explained, answer_of_explored, answer_of_results, status_of, says, DifferInPath, UnlessThreaded, IsExplanation, AreSections, IsAnswerOfGen, IsAnswerOfSchedules, IsAnswerWithoutFile, IsAnswerToValid, IsAnswerToModule, IsAnswerToReading, IsAnswerToText, IsAnswerToTexts, IsAnswerToFiles, IsAnswerToCommand, IsAnswerFor, IsAnswer}
 use Rattle.ms_top.proofs.Exploring.{explored_once}
@@ -100,8 +100,8 @@ of_schedules under calls s runs m a b (j, p, e, explored, is) (k, q, f, again, s
     let t = is_threaded m in
     let back = subst (λ (n : Module). IsExplored (plain_picks_under t n s) (plain_under t n s) runs f) (made_once m k j q p) again in
     is
-    ∙ ap (λ (x : Explored). answer_of_explored under m x (if calls then plain_calls_under t j s x.schedule else [])) (explored_once (plain_picks_under t j s) (plain_under t j s) runs e f explored back)
-    ∙ ap (λ (n : Module). answer_of_explored under m f (if calls then plain_calls_under t n s f.schedule else [])) (made_once m j k p q)
+    ∙ ap (λ (x : Explored). answer_of_explored under m x (if calls then plain_calls_under t j s x.schedule else []) (if calls then plain_end_calls_under t j s x.schedule else None)) (explored_once (plain_picks_under t j s) (plain_under t j s) runs e f explored back)
+    ∙ ap (λ (n : Module). answer_of_explored under m f (if calls then plain_calls_under t n s f.schedule else []) (if calls then plain_end_calls_under t n s f.schedule else None)) (made_once m j k p q)
     ∙ sym same
 
 of_valid : (under : Lines) (command : Command) (inputs : List (List ℕ)) (m : Module) (a b : Output) → IsAnswerToValid IsInstrumented under command inputs m a

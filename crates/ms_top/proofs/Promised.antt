@@ -1,6 +1,7 @@
 -- What is read is bytes, so what `check` and `explain` say holds without a premise on their files.
 use Rattle.std.proofs.Common.{◌≡◌, ℕ, ◌^◌, ◌<◌, ◌≤◌, Bool, true, false, List, [], ◌∷◌, length, Option, Some, None, Result, Ok, Err, refl, sym, ap, ◌∙◌, subst, arith, ◌⊎◌, inl, inr, if◌then◌else◌}
 use Rattle.std.specs.Prelude.{All, nat_lt}
+use Rattle.std.proofs.Math.Path.{ap₂}
 use Rattle.std.proofs.lemmas.Bool.{and_from, lt-ltb}
 use Rattle.std.proofs.lemmas.List.Elements.{All-cons, All-nil, All-head, All-tail}
 use Rattle.ms_io.specs.Reading.{Holdings, IsWholeFile}
@@ -259,7 +260,8 @@ schedules_are_shown c file o runs workers a fit h =
       fair = fair;
       explored = e;
       explores = of_shadow;
-      shown = h.answer.4 ∙ ap (λ (calls : List Calls). answer_of_explored h.under m e (if o.calls then calls else [])) (made.calls s fair e.schedule some);
+      shown = h.answer.4
+          ∙ ap₂ (λ (calls : List Calls) (last : Option Calls). answer_of_explored h.under m e (if o.calls then calls else []) (if o.calls then last else None)) (made.calls s fair e.schedule some) (made.ends s fair e.schedule some);
       repeats = sym (made.runs s fair e.schedule some) ∙ again;
       fills = subst (HoldsUnder t m s e.schedule) again (made.holds s fair e.schedule some);
       calls_hold = made.calls_hold s fair e.schedule some;

@@ -14,12 +14,12 @@ use Rattle.ms_runs.specs.declared.runs.Report.{Report}
 use Rattle.ms_runs.specs.declared.runs.RunResult.{RunResult}
 use Rattle.ms_runs.specs.declared.runs.Calls.{Calls}
 use Rattle.ms_runtime.specs.declared.runs.ToldRun.{ToldRun}
-use Rattle.ms_report.specs.CallTexts.{most_calls, called_with, further_line, started_with, calls_if, reports_calling}
+use Rattle.ms_report.specs.CallTexts.{most_calls, called_with, further_line, started_with, calls_if, reports_calling, ended_with, closing_calling}
 use Rattle.ms_runs_laws.proofs.RootLists.{roots_stay}
 use Rattle.ms_runs_laws.proofs.Stripped.{blocks_kept, sites_skip}
 use Rattle.ms_report.specs.RunTexts.{trap_name, sites_of, function_after, function_of, function_text, site_text, end_text, line, verdict_line}
 use Rattle.ms_report.specs.ReportTexts.{kind_text, root_name, root_text, origin_text, origin_line, earlier, bits_text, report_line}
-use Rattle.ms_report.specs.WithLines.{Lines, under_line, origin_site, end_site, chain_with, origins_with, closing_text_with}
+use Rattle.ms_report.specs.WithLines.{Lines, under_line, origin_site, end_site, chain_with, origins_with}
 use Rattle.ms_top.specs.Said.{answer_of, answer_of_result, status_of}
 
 -- ---- places
@@ -79,11 +79,6 @@ module _ (under : Lines) where
   origins_kept j n [] = refl
   origins_kept j n (o ∷ rest) = chain_kept j n (o ∷ rest)
 
-  closing_kept : (j : Module) (verdict : Bool) (r : RunResult) → closing_text_with under (strip j) r verdict ≡ closing_text_with under j r verdict
-  closing_kept j verdict r =
-      ap (λ t. line (codes "end") t ++ under_line under (end_site r.«end») ++ line (codes "reports") (decimal (length r.reports)) ++ line (codes "blind") (decimal r.blind) ++ verdict_line verdict r)
-      (end_kept j r.«end»)
-
   called_kept : (j : Module) (sites : List ℕ) → called_with under (strip j) sites ≡ called_with under j sites
   called_kept j [] = refl
   called_kept j (site ∷ rest) =
@@ -97,6 +92,17 @@ module _ (under : Lines) where
   calls_kept j (Some c) =
       ap₂ (λ (called started : List ℕ). called ++ further_line (length c.sites - most_calls) ++ started) (called_kept j (take most_calls c.sites)) (started_kept j c.started)
 
+  ended_kept : (j : Module) (e : End) (calls : Option Calls) → ended_with under (strip j) e calls ≡ ended_with under j e calls
+  ended_kept j (ends.Exit n) calls = refl
+  ended_kept j (ends.Trap kind site) calls = calls_kept j calls
+  ended_kept j ends.Reported calls = refl
+  ended_kept j ends.Spent calls = refl
+
+  closing_kept : (j : Module) (verdict : Bool) (r : RunResult) (calls : Option Calls) → closing_calling under (strip j) r calls verdict ≡ closing_calling under j r calls verdict
+  closing_kept j verdict r calls =
+      ap₂ (λ (t ended : List ℕ). line (codes "end") t ++ under_line under (end_site r.«end») ++ ended ++ line (codes "reports") (decimal (length r.reports)) ++ line (codes "blind") (decimal r.blind) ++ verdict_line verdict r)
+      (end_kept j r.«end») (ended_kept j r.«end» calls)
+
   calling_kept : (j : Module) (calls : List Calls) (n : ℕ) (rs : List Report) → reports_calling under (strip j) calls n rs ≡ reports_calling under j calls n rs
   calling_kept j calls n [] = refl
   calling_kept j calls n (r ∷ rest) =
@@ -108,8 +114,8 @@ module _ (under : Lines) where
   answer_kept : (j : Module) (verdict : Bool) (told : ToldRun) → answer_of_result under verdict (strip j) told ≡ answer_of_result under verdict j told
   answer_kept j verdict told =
       let r = told.result in
-      ap (λ t. answer_of (status_of r) r.output (t ++ closing_text_with under (strip j) r verdict)) (calling_kept j told.calls 0 r.reports)
-      ∙ ap (λ t. answer_of (status_of r) r.output (reports_calling under j told.calls 0 r.reports ++ t)) (closing_kept j verdict r)
+      ap (λ t. answer_of (status_of r) r.output (t ++ closing_calling under (strip j) r told.end_calls verdict)) (calling_kept j told.calls 0 r.reports)
+      ∙ ap (λ t. answer_of (status_of r) r.output (reports_calling under j told.calls 0 r.reports ++ t)) (closing_kept j verdict r told.end_calls)
 
   -- the answer for a result is that of the module without what was inserted
   pub same_answer : (m j : Module) → strip j ≡ m → (verdict : Bool) (r : ToldRun) → answer_of_result under verdict j r ≡ answer_of_result under verdict m r

@@ -8,7 +8,7 @@ use Rattle.ms_runs.specs.declared.runs.Calls.{Calls}
 use Rattle.ms_runs.specs.declared.runs.RunResult.{RunResult}
 use Rattle.ms_runs.specs.declared.runs.Report.{Report}
 use Rattle.ms_runs.specs.declared.runs.Setup.{Setup}
-use Rattle.ms_runs.specs.Calls.{plain_calls}
+use Rattle.ms_runs.specs.Calls.{plain_calls, plain_end_calls}
 use Rattle.ms_runs.specs.Plain.{plain}
 use Rattle.ms_runs.specs.Verdict.{verdict_of}
 use Rattle.ms_runtime.specs.declared.runs.ToldRun.{ToldRun}
@@ -23,9 +23,10 @@ use Rattle.ms_read_body.specs.declared.errors.ReadError.{ReadError}
 use Rattle.ms_read_body.specs.declared.errors.ReadError.TheVariants as e
 use Rattle.ms_read_top.specs.Reading.{IsReading}
 use Rattle.ms_ir.specs.declared.forms.Form.TheVariants.{Plain}
-use Rattle.ms_report.specs.WithLines.{Lines, no_lines, closing_text_with}
-use Rattle.ms_report.specs.CallTexts.{reports_calling}
+use Rattle.ms_report.specs.WithLines.{Lines, no_lines}
+use Rattle.ms_report.specs.CallTexts.{reports_calling, closing_calling}
 use Rattle.ms_report.specs.Uncalled.{uncalled}
+use Rattle.ms_report.proofs.CallLines.{none_called_last}
 use Rattle.ms_report.proofs.Uncalled.{calling_before, closing_left, closing_before, trail_left}
 use Rattle.ms_words.specs.declared.commands.Command.TheVariants.{Run, Check, CheckSchedules, Explain, Corpus}
 use Rattle.ms_words.specs.declared.commands.Options.{Options}
@@ -36,19 +37,20 @@ use Rattle.ms_top.specs.Added.{telling, without_calls, without_any_calls, Corpus
 use Rattle.ms_top.specs.Command.{only_input, setup_of}
 use Rattle.ms_top.specs.Explained.{way_with, trace_with, followed, no_report, explained_with}
 use Rattle.ms_top.specs.Lines.{AreLines}
-use Rattle.ms_top.specs.Runs.{silent, plain_calls_under, plain_under}
+use Rattle.ms_top.specs.Runs.{silent, plain_calls_under, plain_end_calls_under, plain_under}
 use Rattle.ms_top.specs.Said.{answer_of, answer_of_result, answer_of_explained, explored_told, answer_of_explored, answer_of_results, run_text, status_of, tried_text, UnlessThreaded, IsExplanation, AreSections, IsAnswerToModule, IsAnswerToReading, IsAnswerToText}
 
 -- ---- texts
 
 -- what is told of a run with these calls
-abbrev told : RunResult → List Calls → ToldRun
-told r calls = record { result = r; calls = calls }
+abbrev told : RunResult → List Calls → Option Calls → ToldRun
+told r calls last = record { result = r; calls = calls; end_calls = last }
 
 pub run_left : (verdict : Bool) (m : Module) (t : ToldRun) → uncalled (run_text no_lines verdict m t) ≡ run_text no_lines verdict m (silent t.result)
 run_left verdict m t =
     let r = t.result in
-    calling_before m t.calls r.reports (closing_text_with no_lines m r verdict) ∙ ap (λ (closing : List ℕ). reports_calling no_lines m [] 0 r.reports ++ closing) (closing_left m r verdict)
+    calling_before m t.calls r.reports (closing_calling no_lines m r t.end_calls verdict)
+    ∙ ap (λ (closing : List ℕ). reports_calling no_lines m [] 0 r.reports ++ closing) (closing_left m r t.end_calls verdict ∙ sym (none_called_last no_lines m r verdict))
 
 way_left : (m : Module) (moves : List Move) (at : Source) (hops : Option (List Hop)) → uncalled (way_with no_lines m moves at hops) ≡ way_with no_lines m moves at hops
 way_left m moves at None = refl
@@ -64,34 +66,36 @@ report_left : (m : Module) (rs : List Report) (calls : List Calls) (t : Trace) (
 report_left m rs calls t true = refl
 report_left m rs calls t false = calling_before m calls rs (trace_with no_lines m t) ∙ ap (λ (way : List ℕ). reports_calling no_lines m [] 0 rs ++ way) (trace_left m t)
 
-tried_left : (m : Module) (e : Explored) (calls : List Calls) → uncalled (run_text no_lines true m (explored_told e calls) ++ tried_text e) ≡ run_text no_lines true m (explored_told e []) ++ tried_text e
-tried_left m e calls =
+tried_left : (m : Module) (e : Explored) (calls : List Calls) (last : Option Calls)
+    → uncalled (run_text no_lines true m (explored_told e calls last) ++ tried_text e) ≡ run_text no_lines true m (explored_told e [] None) ++ tried_text e
+tried_left m e calls last =
     let r = e.result in
     let lines = tried_text e in
-    ap uncalled (append_assoc (reports_calling no_lines m calls 0 r.reports) (closing_text_with no_lines m r true) lines)
-    ∙ calling_before m calls r.reports (closing_text_with no_lines m r true ++ lines)
-    ∙ ap (λ (t : List ℕ). reports_calling no_lines m [] 0 r.reports ++ t) (closing_before m r true e.tried e.all e.outcomes (not (is_clean (verdict_of r))) e.schedule)
-    ∙ sym (append_assoc (reports_calling no_lines m [] 0 r.reports) (closing_text_with no_lines m r true) lines)
+    ap uncalled (append_assoc (reports_calling no_lines m calls 0 r.reports) (closing_calling no_lines m r last true) lines)
+    ∙ calling_before m calls r.reports (closing_calling no_lines m r last true ++ lines)
+    ∙ ap (λ (t : List ℕ). reports_calling no_lines m [] 0 r.reports ++ t)
+    (closing_before m r last true e.tried e.all e.outcomes (not (is_clean (verdict_of r))) e.schedule ∙ ap (λ (closing : List ℕ). closing ++ lines) (sym (none_called_last no_lines m r true)))
+    ∙ sym (append_assoc (reports_calling no_lines m [] 0 r.reports) (closing_calling no_lines m r None true) lines)
 
 -- ---- answers
 
 module _ (under : Lines) (none : under ≡ no_lines) (m : Module) where
-  run_said : (verdict : Bool) (r : RunResult) (calls : List Calls) (a : Output) → a ≡ answer_of_result under verdict m (told r calls) → without_calls a ≡ answer_of_result under verdict m (silent r)
-  run_said verdict r calls a is =
+  run_said : (verdict : Bool) (r : RunResult) (calls : List Calls) (last : Option Calls) (a : Output) → a ≡ answer_of_result under verdict m (told r calls last) → without_calls a ≡ answer_of_result under verdict m (silent r)
+  run_said verdict r calls last a is =
       ap without_calls is
-      ∙ subst (λ (l : Lines). without_calls (answer_of_result l verdict m (told r calls)) ≡ answer_of_result l verdict m (silent r)) (sym none)
-      (ap (answer_of (status_of r) r.output) (run_left verdict m (told r calls)))
+      ∙ subst (λ (l : Lines). without_calls (answer_of_result l verdict m (told r calls last)) ≡ answer_of_result l verdict m (silent r)) (sym none)
+      (ap (answer_of (status_of r) r.output) (run_left verdict m (told r calls last)))
 
-  explored_said : (e : Explored) (calls : List Calls) (a : Output) → a ≡ answer_of_explored under m e calls → without_calls a ≡ answer_of_explored under m e []
-  explored_said e calls a is =
+  explored_said : (e : Explored) (calls : List Calls) (last : Option Calls) (a : Output) → a ≡ answer_of_explored under m e calls last → without_calls a ≡ answer_of_explored under m e [] None
+  explored_said e calls last a is =
       ap without_calls is
-      ∙ subst (λ (l : Lines). without_calls (answer_of_explored l m e calls) ≡ answer_of_explored l m e []) (sym none) (ap (answer_of (status_of e.result) e.result.output) (tried_left m e calls))
+      ∙ subst (λ (l : Lines). without_calls (answer_of_explored l m e calls last) ≡ answer_of_explored l m e [] None) (sym none) (ap (answer_of (status_of e.result) e.result.output) (tried_left m e calls last))
 
-  explained_said : (s : Setup) (r : RunResult) (calls : List Calls) (a : Output) → a ≡ answer_of_explained under m s (told r calls) → without_any_calls a ≡ answer_of_explained under m s (silent r)
-  explained_said s r calls a is =
+  explained_said : (s : Setup) (r : RunResult) (calls : List Calls) (last : Option Calls) (a : Output) → a ≡ answer_of_explained under m s (told r calls last) → without_any_calls a ≡ answer_of_explained under m s (silent r)
+  explained_said s r calls last a is =
       ap without_any_calls is
-      ∙ subst (λ (l : Lines). without_any_calls (answer_of_explained l m s (told r calls)) ≡ answer_of_explained l m s (silent r)) (sym none)
-      (ap₂ (λ (out err : List ℕ). answer_of (status_of r) out err) (report_left m r.reports calls (followed m s) (eqb (length r.reports) 0)) (closing_left m r true))
+      ∙ subst (λ (l : Lines). without_any_calls (answer_of_explained l m s (told r calls last)) ≡ answer_of_explained l m s (silent r)) (sym none)
+      (ap₂ (λ (out err : List ℕ). answer_of (status_of r) out err) (report_left m r.reports calls (followed m s) (eqb (length r.reports) 0)) (closing_left m r last true ∙ sym (none_called_last no_lines m r true)))
 
 -- what is told of many runs, without their calls
 silent_each : (j : Module) (o : Options) (inputs : List (List ℕ)) → map (λ input. plain_told false j (setup_of o input)) inputs ≡ map (λ (t : ToldRun). silent t.result) (map (λ input. plain_told true j (setup_of o input)) inputs)
@@ -106,7 +110,7 @@ module _ (Gives : Module → Module → Type 0) where
     run_module m under a none (inr (valid, is)) =
         let t = is_threaded m in
         let s = setup_of o (only_input inputs) in
-        inr (inr (valid, run_said under none m false (plain_under t m s o.schedule) (plain_calls_under t m s o.schedule) a is))
+        inr (inr (valid, run_said under none m false (plain_under t m s o.schedule) (plain_calls_under t m s o.schedule) (plain_end_calls_under t m s o.schedule) a is))
 
     run_reading : (r : Result Module ReadError) (a : Output) → IsAnswerToReading Gives (Run file (telling true o)) inputs text r a
         → IsAnswerToReading Gives (Run file (telling false o)) inputs text r a ⊎ IsAnswerToReading Gives (Run file (telling false o)) inputs text r (without_calls a)
@@ -121,7 +125,7 @@ module _ (Gives : Module → Module → Type 0) where
     check_module m under a none (inr (valid, (j, gives, is))) =
         let t = is_threaded m in
         let s = setup_of o (only_input inputs) in
-        inr (inr (valid, (j, gives, run_said under none m true (plain_under t j s o.schedule) (plain_calls_under t j s o.schedule) a is)))
+        inr (inr (valid, (j, gives, run_said under none m true (plain_under t j s o.schedule) (plain_calls_under t j s o.schedule) (plain_end_calls_under t j s o.schedule) a is)))
 
     check_reading : (r : Result Module ReadError) (a : Output) → IsAnswerToReading Gives (Check file (telling true o)) inputs text r a
         → IsAnswerToReading Gives (Check file (telling false o)) inputs text r a ⊎ IsAnswerToReading Gives (Check file (telling false o)) inputs text r (without_calls a)
@@ -132,7 +136,7 @@ module _ (Gives : Module → Module → Type 0) where
 
     explain_alone : (m : Module) (under : Lines) (a : Output) → under ≡ no_lines → IsExplanation Gives under true (setup_of o (only_input inputs)) m a
         → IsExplanation Gives under false (setup_of o (only_input inputs)) m (without_any_calls a)
-    explain_alone m under a none (j, gives, is) = let s = setup_of o (only_input inputs) in (j, gives, explained_said under none m s (plain j s) (plain_calls j s) a is)
+    explain_alone m under a none (j, gives, is) = let s = setup_of o (only_input inputs) in (j, gives, explained_said under none m s (plain j s) (plain_calls j s) (plain_end_calls j s) a is)
 
     explain_module : (m : Module) (under : Lines) (a : Output) → under ≡ no_lines → IsAnswerToModule Gives under (Explain file (telling true o)) inputs m a
         → IsAnswerToModule Gives under (Explain file (telling false o)) inputs m a ⊎ IsAnswerToModule Gives under (Explain file (telling false o)) inputs m (without_any_calls a)
@@ -158,7 +162,8 @@ module _ (Gives : Module → Module → Type 0) where
         → IsAnswerToModule Gives under (CheckSchedules file (telling false o) runs workers) inputs m a ⊎ IsAnswerToModule Gives under (CheckSchedules file (telling false o) runs workers) inputs m (without_calls a)
     schedules_module m under a none (inl refused) = inl (inl refused)
     schedules_module m under a none (inr (valid, (j, gives, e, explored, is))) =
-        inr (inr (valid, (j, gives, e, explored, explored_said under none m e (plain_calls_under (is_threaded m) j (setup_of o (only_input inputs)) e.schedule) a is)))
+        inr (inr (valid, (j, gives, e, explored, explored_said under none m e (plain_calls_under (is_threaded m) j (setup_of o (only_input inputs)) e.schedule)
+        (plain_end_calls_under (is_threaded m) j (setup_of o (only_input inputs)) e.schedule) a is)))
 
     schedules_reading : (r : Result Module ReadError) (a : Output) → IsAnswerToReading Gives (CheckSchedules file (telling true o) runs workers) inputs text r a
         → IsAnswerToReading Gives (CheckSchedules file (telling false o) runs workers) inputs text r a ⊎ IsAnswerToReading Gives (CheckSchedules file (telling false o) runs workers) inputs text r (without_calls a)

@@ -1,5 +1,5 @@
 -- What the parts of the code say of files and modules. What `msan` promises does not name them.
-use Rattle.std.specs.Prelude.{◌≡◌, ◌≤◌, ℕ, Bool, true, false, List, [], ◌∷◌, All, length, map, if◌then◌else◌, codes}
+use Rattle.std.specs.Prelude.{◌≡◌, ◌≤◌, ℕ, Bool, true, false, List, [], ◌∷◌, All, length, map, Option, None, if◌then◌else◌, codes}
 use Rattle.ms_io.specs.declared.traits.FileError.{FileError}
 use Rattle.ms_io.specs.declared.traits.FileError.TheVariants.{Failed, Absent, TooLong, NoMemory}
 use Rattle.ms_ir.specs.declared.syntax.Module.{Module}
@@ -24,7 +24,7 @@ use Rattle.ms_top.specs.Command.{input_names, input_files, input_limit}
 use Rattle.ms_top.specs.Files.{Counted, CanRead, FilesRead, after}
 use Rattle.ms_threads_explore.specs.declared.explorer.Explored.{Explored}
 use Rattle.ms_threads_explore.specs.Explorations.{IsExplored}
-use Rattle.ms_top.specs.Runs.{plain_under, plain_picks_under, plain_calls_under, plain_told_under}
+use Rattle.ms_top.specs.Runs.{plain_under, plain_picks_under, plain_calls_under, plain_end_calls_under, plain_told_under}
 use Rattle.ms_top.specs.Said.{says, IsAnswerToFiles}
 use Rattle.ms_top.specs.Statuses as statuses
 
@@ -65,11 +65,11 @@ is_want_of_memory fault = false
 abbrev pub IsRunOfGiven : (Module → Module → Type 0) → Module → Setup → (schedule : List ℕ) → (calls : Bool) → ToldRun → Type 0
 IsRunOfGiven Gives m s schedule calls t = (j : Module) × Gives m j × (t ≡ plain_told_under calls (is_threaded m) j s schedule)
 
--- what exploring its schedules tells, and the calls at the reports of the run that is told, where they are wanted
-abbrev pub IsExploredOfGiven : (Module → Module → Type 0) → Module → Setup → (runs : ℕ) → (calls : Bool) → Explored → List Calls → Type 0
-IsExploredOfGiven Gives m s runs calls e told =
+-- what exploring its schedules tells, and the calls at the reports of the run that is told and where it ends, where they are wanted
+abbrev pub IsExploredOfGiven : (Module → Module → Type 0) → Module → Setup → (runs : ℕ) → (calls : Bool) → Explored → List Calls → Option Calls → Type 0
+IsExploredOfGiven Gives m s runs calls e told last =
     (j : Module) × Gives m j × IsExplored (plain_picks_under (is_threaded m) j s) (plain_under (is_threaded m) j s) runs e
-    × (told ≡ (if calls then plain_calls_under (is_threaded m) j s e.schedule else []))
+    × (told ≡ (if calls then plain_calls_under (is_threaded m) j s e.schedule else [])) × (last ≡ (if calls then plain_end_calls_under (is_threaded m) j s e.schedule else None))
 
 -- the only run of a module without threads, as exploring would tell it
 abbrev pub only_run : Module → Setup → Explored

@@ -1,5 +1,5 @@
 -- What `check` and `explain` promise of the program, from what they are to say alone.
-use Rattle.std.specs.Prelude.{◌≡◌, ◌≢◌, ◌<◌, ◌≤◌, ◌⊎◌, ℕ, Bool, true, false, All, List, [], ◌∷◌, ◌++◌, length, map, if◌then◌else◌, codes}
+use Rattle.std.specs.Prelude.{◌≡◌, ◌≢◌, ◌<◌, ◌≤◌, ◌⊎◌, ℕ, Bool, true, false, All, List, [], ◌∷◌, ◌++◌, length, map, None, if◌then◌else◌, codes}
 use Rattle.ms_ir.specs.declared.forms.Form.TheVariants.{Plain}
 use Rattle.ms_ir.specs.declared.syntax.Module.{Module}
 use Rattle.ms_ir.specs.Instructions.{NoMarks}
@@ -43,7 +43,7 @@ use Rattle.ms_top.specs.Command.{files_of, only_input, setup_of}
 use Rattle.ms_top.specs.Files.{Counted, CanRead, Whole, Fault, Long}
 use Rattle.ms_top.specs.Lines.{AreLines}
 use Rattle.ms_top.specs.Explained.{too_long, no_report}
-use Rattle.ms_top.specs.Runs.{shadow_under, shadow_picks_under, shadow_calls_under, shadow_told_under, HoldsUnder, CallsHoldUnder}
+use Rattle.ms_top.specs.Runs.{shadow_under, shadow_picks_under, shadow_calls_under, shadow_end_calls_under, shadow_told_under, HoldsUnder, CallsHoldUnder}
 use Rattle.ms_top.specs.Said.{answer_of_result, answer_of_results, answer_of_explained, answer_of_explored, says}
 use Rattle.ms_top.specs.Statuses as statuses
 
@@ -118,6 +118,7 @@ pub record SchedulesShown (c : Counted) (file : List ℕ) (o : Options) (runs wo
       (shadow_under (is_threaded module_read) module_read (setup_of o (only_input inputs))) runs explored
   pub shown : a ≡ answer_of_explored under module_read explored
       (if o.calls then shadow_calls_under (is_threaded module_read) module_read (setup_of o (only_input inputs)) explored.schedule else [])
+      (if o.calls then shadow_end_calls_under (is_threaded module_read) module_read (setup_of o (only_input inputs)) explored.schedule else None)
   pub repeats : shadow_under (is_threaded module_read) module_read (setup_of o (only_input inputs)) explored.schedule ≡ explored.result
   pub fills : HoldsUnder (is_threaded module_read) module_read (setup_of o (only_input inputs)) explored.schedule explored.result
   pub calls_hold : CallsHoldUnder (is_threaded module_read) module_read (setup_of o (only_input inputs)) explored.schedule

@@ -1,15 +1,16 @@
 -- Runs of a module, and of one with threads under a schedule.
-use Rattle.std.specs.Prelude.{◌≡◌, ℕ, Bool, true, false, List, [], if◌then◌else◌}
+use Rattle.std.specs.Prelude.{◌≡◌, ℕ, Bool, true, false, List, [], Option, None, if◌then◌else◌}
 use Rattle.ms_ir.specs.declared.syntax.Module.{Module}
 use Rattle.ms_runs.specs.declared.runs.Calls.{Calls}
 use Rattle.ms_runs.specs.declared.runs.Setup.{Setup}
 use Rattle.ms_runs.specs.declared.runs.RunResult.{RunResult}
 use Rattle.ms_runs.specs.Plain.{plain}
 use Rattle.ms_runs.specs.Shadow.{shadow}
-use Rattle.ms_runs.specs.Calls.{plain_calls, shadow_calls}
+use Rattle.ms_runs.specs.Calls.{plain_calls, shadow_calls, plain_end_calls, shadow_end_calls}
 use Rattle.ms_runs_threads.specs.PlainFibers.{plain_threads}
 use Rattle.ms_runs_threads.specs.ShadowFibers.{shadow_threads}
 use Rattle.ms_runs_threads.specs.Calls.{plain_threads_calls, shadow_threads_calls}
+use Rattle.ms_runs_threads.specs.Blind.{plain_threads_end_calls, shadow_threads_end_calls}
 use Rattle.ms_runtime.specs.declared.runs.ToldRun.{ToldRun}
 use Rattle.ms_threads_schedules_laws.specs.Picks.{Pick, plain_picks, shadow_picks}
 use Rattle.ms_threads.specs.Fills.{ThreadsHoldUnderFills, ThreadsCallsUnderFills}
@@ -35,20 +36,29 @@ abbrev pub shadow_calls_under : (threads : Bool) → Module → Setup → (sched
 shadow_calls_under false m setup schedule = shadow_calls m setup
 shadow_calls_under true m setup schedule = shadow_threads_calls m setup schedule
 
+-- and where they end; none where their steps are spent
+abbrev pub plain_end_calls_under : (threads : Bool) → Module → Setup → (schedule : List ℕ) → Option Calls
+plain_end_calls_under false m setup schedule = plain_end_calls m setup
+plain_end_calls_under true m setup schedule = plain_threads_end_calls m setup schedule
+
+abbrev pub shadow_end_calls_under : (threads : Bool) → Module → Setup → (schedule : List ℕ) → Option Calls
+shadow_end_calls_under false m setup schedule = shadow_end_calls m setup
+shadow_end_calls_under true m setup schedule = shadow_threads_end_calls m setup schedule
+
 -- a run of which this is told, where calls are wanted with them
-abbrev pub told_as : (wanted : Bool) → RunResult → List Calls → ToldRun
-told_as wanted r calls = record { result = r; calls = if wanted then calls else [] }
+abbrev pub told_as : (wanted : Bool) → RunResult → List Calls → Option Calls → ToldRun
+told_as wanted r calls last = record { result = r; calls = if wanted then calls else []; end_calls = if wanted then last else None }
 
 -- a run of which no calls are told
 abbrev pub silent : RunResult → ToldRun
-silent r = record { result = r; calls = [] }
+silent r = record { result = r; calls = []; end_calls = None }
 
 -- what is told of these runs
 abbrev pub plain_told_under : (calls threads : Bool) → Module → Setup → (schedule : List ℕ) → ToldRun
-plain_told_under calls threads m setup schedule = told_as calls (plain_under threads m setup schedule) (plain_calls_under threads m setup schedule)
+plain_told_under calls threads m setup schedule = told_as calls (plain_under threads m setup schedule) (plain_calls_under threads m setup schedule) (plain_end_calls_under threads m setup schedule)
 
 abbrev pub shadow_told_under : (calls threads : Bool) → Module → Setup → (schedule : List ℕ) → ToldRun
-shadow_told_under calls threads m setup schedule = told_as calls (shadow_under threads m setup schedule) (shadow_calls_under threads m setup schedule)
+shadow_told_under calls threads m setup schedule = told_as calls (shadow_under threads m setup schedule) (shadow_calls_under threads m setup schedule) (shadow_end_calls_under threads m setup schedule)
 
 -- which threads these runs pick to go on: where there are none, none
 abbrev pub plain_picks_under : (threads : Bool) → Module → Setup → (schedule : List ℕ) → List Pick

@@ -1,6 +1,6 @@
 -- What a call is to say: its status and its two texts, for the words and the files that it was given. `Gives m j` is what
 -- is known of the module j that the pass makes of m.
-use Rattle.std.specs.Prelude.{◌≡◌, ℕ, suc, Bool, true, false, not, List, [], ◌∷◌, ◌++◌, length, map, Option, Result, Ok, Err, eqb, if◌then◌else◌, codes, decimal, ◌⊎◌}
+use Rattle.std.specs.Prelude.{◌≡◌, ℕ, suc, Bool, true, false, not, List, [], ◌∷◌, ◌++◌, length, map, Option, None, Result, Ok, Err, eqb, if◌then◌else◌, codes, decimal, ◌⊎◌}
 use Rattle.std.specs.List.{list_any}
 use Rattle.ms_io.specs.Writing.{with_appended, AppendsPrefix}
 use Rattle.ms_ir.specs.declared.syntax.Module.{Module}
@@ -23,8 +23,8 @@ use Rattle.ms_report.specs.declared.refusals.Refusal.TheVariants.{Read}
 use Rattle.ms_report.specs.RunTexts.{line}
 use Rattle.ms_report.specs.SchedulesTexts.{schedules_text}
 use Rattle.ms_report.specs.SummaryTexts.{summary_of}
-use Rattle.ms_report.specs.CallTexts.{reports_calling}
-use Rattle.ms_report.specs.WithLines.{Lines, closing_text_with}
+use Rattle.ms_report.specs.CallTexts.{reports_calling, closing_calling}
+use Rattle.ms_report.specs.WithLines.{Lines}
 use Rattle.ms_report.specs.RefusalTexts.{refusal_text, threads_text}
 use Rattle.ms_report.specs.WordsTexts.{words_text}
 use Rattle.ms_threads_schedules_laws.specs.Promise.{is_clean}
@@ -42,7 +42,7 @@ use Rattle.ms_top.specs.Command.{form_of, files_of, only_input, setup_of}
 use Rattle.ms_top.specs.Explained.{explained_with}
 use Rattle.ms_top.specs.Files.{Counted, CanRead, FilesRead, Whole, Fault, Long}
 use Rattle.ms_top.specs.Lines.{AreLines, fault_text_with}
-use Rattle.ms_top.specs.Runs.{plain_under, plain_picks_under, plain_calls_under, plain_told_under}
+use Rattle.ms_top.specs.Runs.{plain_under, plain_picks_under, plain_calls_under, plain_end_calls_under, plain_told_under}
 use Rattle.ms_top.specs.Statuses as statuses
 
 abbrev pub answer_of : ℕ → List ℕ → List ℕ → Output
@@ -81,10 +81,10 @@ end_status ends.Spent = statuses.spent
 abbrev pub status_of : RunResult → ℕ
 status_of r = if eqb (length r.reports) 0 then end_status r.«end» else statuses.reported
 
--- the lines of a run's reports, each with those of its calls that are told, and then the closing lines, with or without the verdict;
--- `under` are the lines under each site
+-- the lines of a run's reports, each with those of its calls that are told, and then the closing lines, with those of the calls where it
+-- ended, with or without the verdict; `under` are the lines under each site
 abbrev pub run_text : Lines → (verdict : Bool) → Module → ToldRun → List ℕ
-run_text under verdict m t = reports_calling under m t.calls 0 t.result.reports ++ closing_text_with under m t.result verdict
+run_text under verdict m t = reports_calling under m t.calls 0 t.result.reports ++ closing_calling under m t.result t.end_calls verdict
 
 -- the answer for what is told of a module's run: its output, and those lines
 abbrev pub answer_of_result : Lines → (verdict : Bool) → Module → ToldRun → Output
@@ -93,7 +93,7 @@ answer_of_result under verdict m t = answer_of (status_of t.result) t.result.out
 -- the answer that explains what is told of a module's run with a setup: its report with the way of the bits that this is about, and
 -- the closing lines with the verdict
 abbrev pub answer_of_explained : Lines → Module → Setup → ToldRun → Output
-answer_of_explained under m s t = answer_of (status_of t.result) (explained_with under m s t) (closing_text_with under m t.result true)
+answer_of_explained under m s t = answer_of (status_of t.result) (explained_with under m s t) (closing_calling under m t.result t.end_calls true)
 
 -- ---- many schedules
 
@@ -101,13 +101,13 @@ answer_of_explained under m s t = answer_of (status_of t.result) (explained_with
 abbrev pub tried_text : Explored → List ℕ
 tried_text e = schedules_text e.tried e.all e.outcomes (not (is_clean (verdict_of e.result))) e.schedule
 
--- a run that exploring tells, with calls at its reports
-abbrev pub explored_told : Explored → List Calls → ToldRun
-explored_told e calls = record { result = e.result; calls = calls }
+-- a run that exploring tells, with calls at its reports and where it ended
+abbrev pub explored_told : Explored → List Calls → Option Calls → ToldRun
+explored_told e calls last = record { result = e.result; calls = calls; end_calls = last }
 
--- the answer for what exploring schedules tells: that for one run and the calls at its reports, with those lines
-abbrev pub answer_of_explored : Lines → Module → Explored → List Calls → Output
-answer_of_explored under m e calls = answer_of (status_of e.result) e.result.output (run_text under true m (explored_told e calls) ++ tried_text e)
+-- the answer for what exploring schedules tells: that for one run and these calls, with those lines
+abbrev pub answer_of_explored : Lines → Module → Explored → List Calls → Option Calls → Output
+answer_of_explored under m e calls last = answer_of (status_of e.result) e.result.output (run_text under true m (explored_told e calls last) ++ tried_text e)
 
 -- ---- many runs
 
@@ -162,7 +162,7 @@ module _ (Gives : Module → Module → Type 0) where
   abbrev pub IsAnswerOfSchedules : Lines → (calls : Bool) → Setup → (runs : ℕ) → Module → Output → Type 0
   IsAnswerOfSchedules under calls s runs m a =
       (j : Module) × Gives m j × (e : Explored) × IsExplored (plain_picks_under (is_threaded m) j s) (plain_under (is_threaded m) j s) runs e
-      × (a ≡ answer_of_explored under m e (if calls then plain_calls_under (is_threaded m) j s e.schedule else []))
+      × (a ≡ answer_of_explored under m e (if calls then plain_calls_under (is_threaded m) j s e.schedule else []) (if calls then plain_end_calls_under (is_threaded m) j s e.schedule else None))
 
   -- what explains a run of a module that the pass gives, and the moves of the shadow run of the module itself
   abbrev pub IsExplanation : Lines → (calls : Bool) → Setup → Module → Output → Type 0

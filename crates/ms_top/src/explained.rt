@@ -9,14 +9,14 @@ ghost use Rattle.ms_top.specs.Command.{input_limit, only_input, setup_of as setu
 ghost use Rattle.ms_top.specs.Explained.{CanLead, explained_with, followed, trace_with, way_with};
 ghost use Rattle.ms_top.specs.Said.{answer_of_explained, IsExplanation, IsAnswerOfExplain};
 
-use crate::modules::{ModuleJob, setup_of, status_of};
+use crate::modules::{ModuleJob, closing_of_run, setup_of, status_of};
 use crate::output::Output;
 use crate::passes::{Pass, has_threads};
 use crate::refused::refused_threads;
 use ms_bits::{Bytes, NoMemory};
 use ms_fork::Gate;
 use ms_ir::Module;
-use ms_report::{SiteLines, closing_with, report_text_calling, trail_text_with};
+use ms_report::{SiteLines, report_text_calling, trail_text_with};
 use ms_runs::Setup;
 use ms_runtime::ToldRun;
 use ms_trail::found::Trace;
@@ -67,7 +67,7 @@ impl<R: Threads + Sync, P: Pass, G: Gate + Sync, L: SiteLines> ModuleJob<'_, R, 
         self.m.law_valid();
         let r = &told.result;
         let out = self.explained(setup, told)?;
-        let err = closing_with(self.job.alloc, self.m.module(), r, true, self.lines)?;
+        let err = closing_of_run(self.job.alloc, self.m.module(), told, true, self.lines)?;
         Ok(Output {
             status: status_of(r),
             out: Bytes::from_vec(out),

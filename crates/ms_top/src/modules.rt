@@ -3,6 +3,7 @@ ghost use Rattle.std.specs.Prelude.{◌≡◌, ◌≤◌, length, false, IfOk};
 ghost use Rattle.ms_ir.specs.ThreadCalls.{is_threaded};
 ghost use Rattle.ms_runs.specs.Limits.{WithinLimits};
 ghost use Rattle.ms_check_valid.specs.{Formed.{Formed}, Uninstrumented.{CanInstrument}};
+ghost use Rattle.ms_report.specs.CallTexts.{closing_calling as closing_lines};
 ghost use Rattle.ms_words.specs.Limits.{RunsWithinLimits, IsWithinLimits};
 ghost use Rattle.ms_threads.specs.Faithful.{IsSchedule};
 ghost use Rattle.ms_top.specs.Command.{setup_of as setup_with, input_limit, only_input};
@@ -19,7 +20,7 @@ use ms_bits::{Bytes, NoMemory};
 use ms_check::CheckedModule;
 use ms_fork::Gate;
 use ms_ir::Module;
-use ms_report::{SiteLines, closing_with, report_text_calling};
+use ms_report::{SiteLines, closing_calling, report_text_calling};
 use ms_runs::{End, RunResult, Setup};
 use ms_runtime::{ToldRun, run_told};
 use ms_threads::run_threads_told;
@@ -215,9 +216,30 @@ pub fn text_of_run<L: SiteLines>(
 {
     let r = &told.result;
     let mut text = report_text_calling(alloc, m, r, told.calls.as_slice(), lines)?;
-    let closing = closing_with(alloc, m, r, verdict, lines)?;
+    let closing = closing_of_run(alloc, m, told, verdict, lines)?;
     text.extend_from_slice(&closing)?;
     Ok(text)
+}
+
+/// The closing lines of a run, with those of the calls that are told where it ended.
+pub fn closing_of_run<L: SiteLines>(
+    alloc: Global,
+    m: &Module,
+    told: &ToldRun,
+    verdict: bool,
+    lines: &L,
+) -> Result<Vec<u8>, NoMemory>
+    requires { Formed m.now }
+    ensures { IfOk result (λ text. text.items ≡ closing_lines (L.lines lines.now) m.now told.now.result told.now.end_calls verdict) }
+{
+    closing_calling(
+        alloc,
+        m,
+        &told.result,
+        told.end_calls.as_ref(),
+        verdict,
+        lines,
+    )
 }
 
 /// The status that a run decides: 77 exactly where it has a report.

@@ -1,12 +1,12 @@
 //! What `check` says of a module under several schedules.
-ghost use Rattle.std.specs.Prelude.{◌≡◌, ◌≤◌, ◌++◌, true, false, [], length, if◌then◌else◌, IfOk};
+ghost use Rattle.std.specs.Prelude.{◌≡◌, ◌≤◌, ◌++◌, true, false, [], None, length, if◌then◌else◌, IfOk};
 ghost use Rattle.ms_ir.specs.ThreadCalls.{is_threaded};
 ghost use Rattle.ms_runs.specs.Limits.{WithinLimits};
 ghost use Rattle.ms_check_valid.specs.{Formed.{Formed}, Uninstrumented.{CanInstrument}};
 ghost use Rattle.ms_words.specs.Limits.{SchedulesWithinLimits};
 ghost use Rattle.ms_threads_explore.specs.Explorations.{IsExplored};
 ghost use Rattle.ms_top.specs.Command.{input_limit, only_input, setup_of as setup_with};
-ghost use Rattle.ms_top.specs.{Parts.{only_run as only_run_of, IsExploredOfGiven}, Runs.{plain_under, plain_picks_under, plain_calls_under}};
+ghost use Rattle.ms_top.specs.{Parts.{only_run as only_run_of, IsExploredOfGiven}, Runs.{plain_under, plain_picks_under, plain_calls_under, plain_end_calls_under}};
 ghost use Rattle.ms_threads.specs.Faithful.{IsSchedule};
 ghost use Rattle.ms_top.specs.Said.{answer_of_explored, explored_told, run_text, tried_text, IsAnswerOfSchedules};
 
@@ -36,20 +36,20 @@ impl<R: Threads + Sync, P: Pass, G: Gate + Sync> Job<'_, R, P, G> {
         runs: u32,
         workers: u8,
         calls: bool,
-    ) -> Result<(Explored, List<Calls>), NoMemory>
+    ) -> Result<(Explored, List<Calls>, Option<Calls>), NoMemory>
         requires plain { CanInstrument m.now }
         requires limits { WithinLimits setup.now }
         requires some { 1 ≤ runs }
         requires workers { (1 ≤ workers) × (workers ≤ 8) }
-        ensures { IfOk result (λ r. IsExploredOfGiven P.gives m.now setup.now runs calls r.0 r.1) }
+        ensures { IfOk result (λ r. IsExploredOfGiven P.gives m.now setup.now runs calls r.0 r.1 r.2) }
     {
         let instrumented = instrumented_by(self.rt, self.alloc, m, self.pass)?;
         let module = instrumented.get();
         let threads = has_threads(m);
         let explored = self.explore_under(module, threads, setup, runs, workers)?;
         let schedule = explored.schedule.as_slice();
-        let told = calls_under(self.alloc, module, threads, setup, schedule, calls)?;
-        Ok((explored, told))
+        let (told, last) = calls_under(self.alloc, module, threads, setup, schedule, calls)?;
+        Ok((explored, told, last))
     }
 
     /// The same of a module as it is, by whether it has threads: one without them has one run.
@@ -94,12 +94,13 @@ impl<R: Threads + Sync, P: Pass, G: Gate + Sync, L: SiteLines> ModuleJob<'_, R, 
         let alloc = self.job.alloc;
         let setup = setup_of(alloc, options, self.input())?;
         let calls = options.calls;
-        let (explored, told) = self.job.explore(self.m, &setup, runs, workers, calls)?;
-        output_of_schedules(alloc, self.m.module(), explored, told, self.lines)
+        let (explored, told, last) = self.job.explore(self.m, &setup, runs, workers, calls)?;
+        output_of_schedules(alloc, self.m.module(), explored, told, last, self.lines)
     }
 }
 
-/// The calls at the reports of the run of a module, with threads under a schedule, where they are wanted; else none, and nothing is run.
+/// The calls at the reports of the run of a module and where it ends, with threads under a schedule, where they are wanted; else none,
+/// and nothing is run.
 fn calls_under(
     alloc: Global,
     m: &CheckedModule,
@@ -107,17 +108,18 @@ fn calls_under(
     setup: &Setup,
     schedule: &[u8],
     wanted: bool,
-) -> Result<List<Calls>, NoMemory>
+) -> Result<(List<Calls>, Option<Calls>), NoMemory>
     requires threads { threads ≡ is_threaded m.now }
     requires limits { WithinLimits setup.now }
     requires scheduled { IsSchedule schedule.now }
-    ensures { IfOk result (λ calls. calls ≡ (if wanted then plain_calls_under threads m.now setup.now schedule.now else [])) }
+    ensures calls { IfOk result (λ r. r.0 ≡ (if wanted then plain_calls_under threads m.now setup.now schedule.now else [])) }
+    ensures ends { IfOk result (λ r. r.1 ≡ (if wanted then plain_end_calls_under threads m.now setup.now schedule.now else None)) }
 {
     if !wanted {
-        return Ok(List::from_vec(Vec::new(alloc)));
+        return Ok((List::from_vec(Vec::new(alloc)), None));
     }
     let told = run_under(alloc, m, threads, setup, schedule, true)?;
-    Ok(told.calls)
+    Ok((told.calls, told.end_calls))
 }
 
 /// The only run of a module without threads, as exploring would tell it: it makes no pick.
@@ -142,15 +144,17 @@ fn output_of_schedules<L: SiteLines>(
     m: &Module,
     explored: Explored,
     calls: List<Calls>,
+    end_calls: Option<Calls>,
     lines: &L,
 ) -> Result<Output, NoMemory>
     requires { Formed m.now }
-    ensures { IfOk result (λ a. a ≡ answer_of_explored (L.lines lines.now) m.now explored calls) }
+    ensures { IfOk result (λ a. a ≡ answer_of_explored (L.lines lines.now) m.now explored calls end_calls) }
 {
     let tried = lines_of_schedules(alloc, &explored)?;
     let told = ToldRun {
         result: explored.result,
         calls,
+        end_calls,
     };
     let err = text_of_schedules(alloc, m, &told, &tried, lines)?;
     let result = told.result;

@@ -45,8 +45,8 @@ note_end-requires c =
           (c.in_ok-answer.ensures.answered q.0 q.1.0 a),
     )
 
-pub returns-in-Ended : goal.returns-in-Ended
-returns-in-Ended c = record {
+pub returns-in_ok-note_end-in-Ended : goal.returns-in_ok-note_end-in-Ended
+returns-in_ok-note_end-in-Ended c = record {
   wanted = c.note_end.ensures.wanted;
   turned = λ u same b.
       let m = c.args.m.now in
@@ -58,7 +58,7 @@ returns-in-Ended c = record {
       c.note_end.new.self c.note_end.ensures.running c.note_end.ensures.wanted
       (λ wanted.
           subst (λ (v : Vec Calls Global). Noted m c.answer_of.new.self.fiber 0 (length c.answer_of.new.self.told.reports) c.args.self.now.calls.items v.items) (sym c.note_end.ensures.calls) (c.in_ok-note_calls.ensures wanted))
-      (λ wanted. c.in_ok-note_end.ensures.ended b.paused.asking.within.frames there wanted)
+      (λ wanted. c.in_ok-note_end-in-Ended.ensures.ended b.paused.asking.within.frames there wanted)
       (λ wanted places held.
           subst (λ (kept : BlindPlaces). Placed (if ltb c.args.self.now.running.told.blind c.answer_of.new.self.told.blind then counted_at c.args.call.site places else places) kept) (sym c.note_end.ensures.places)
           (c.in_ok-note.ensures wanted places held))

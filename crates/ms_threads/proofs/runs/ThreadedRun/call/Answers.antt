@@ -48,7 +48,8 @@ returns-clause-turned c = λ u same a.
     let m = c.args.m.now in
     let f = c.in_ok-answer.ensures.answered u c.args.schedule.now same a in
     let near = noted_far m u c.args.schedule.now c.args.self.now c.answer_of.new.self c.note_calls.new.self c.args.call a c.if-is_thread_call.ensures c.in_ok-answer.answer f c.answer_of.ensures.table c.answer_of.ensures.calls c.note_calls.ensures.same c.in_ok-note_calls.ensures.noted in
-    turned_so m u c.args.schedule.now (far_of m c.args.call.asked c.args.self.now.running) _ c.after_answer.result c.after_answer.new.self
-    (omega (arith, near, far_least m u c.args.schedule.now c.args.call.asked c.args.self.now.running))
+    if_ok c.after_answer.result
+    (λ e. turned_so m u c.args.schedule.now (far_of m c.args.call.asked c.args.self.now.running) _ e c.after_answer.new.self
+    (omega (arith, near, far_least m u c.args.schedule.now c.args.call.asked c.args.self.now.running)))
     (c.after_answer.ensures.turned u c.args.schedule.now
     (noted_after m u c.args.schedule.now c.args.self.now c.answer_of.new.self c.note_calls.new.self c.args.call a c.if-is_thread_call.ensures c.in_ok-answer.answer f c.answer_of.ensures.table c.answer_of.ensures.calls c.note_calls.ensures.same c.in_ok-note_calls.ensures.noted))

@@ -14,5 +14,5 @@ returns g c =
     let job = c.args.self.now in
     if_ok c.output_of_schedules.result
     (λ a is. schedules_answer g.P.Pass.gives (g.L.SiteLines.lines job.lines.now) job.m.now c.module.result.now c.args.options.now.calls c.in_ok-setup.setup (setup_of c.args.options.now (only_input job.inputs.now)) c.args.runs
-    c.in_ok-explored.explored c.in_ok-explored.told a c.module.ensures (c.in_ok-setup.ensures ∙ ap (setup_of c.args.options.now) c.input.ensures) c.in_ok-explored.ensures is)
+    c.in_ok-explored.explored c.in_ok-explored.told c.in_ok-explored.last a c.module.ensures (c.in_ok-setup.ensures ∙ ap (setup_of c.args.options.now) c.input.ensures) c.in_ok-explored.ensures is)
     c.output_of_schedules.ensures
