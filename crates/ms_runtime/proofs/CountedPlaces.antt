@@ -32,7 +32,7 @@ module _ (site : ℕ) where
   counted_there [] i v e lt is = absurd (omega (arith, lt))
   counted_there (p ∷ ps) i v e lt is = by_test (eqb site p.site) i e lt is (λ j f l same. counted_there ps j v f l same) ∙ ap (onward p ps) (turned site p.site)
     where
-      by_test : (b : Bool) (i : ℕ) → i ≡ cond (not b) (1 + place_in ps) 0 → i < length ps + 1 → v ≡ get_or (p ∷ ps) i v
+      by_test : (b : Bool) (i : ℕ) → i ≡ cond (not b) (1 + place_in ps) 0 → i < suc (length ps) → v ≡ get_or (p ∷ ps) i v
           → ((j : ℕ) → j ≡ place_in ps → j < length ps → v ≡ get_or ps j v → set ps j (one_more v) ≡ counted_at site ps) → set (p ∷ ps) i (one_more v) ≡ onward p ps b
       by_test true zero e lt is rest = ap (λ (q : BlindPlace). one_more q ∷ ps) is
       by_test true (suc i) e lt is rest = absurd (omega (arith, e))
@@ -44,7 +44,7 @@ module _ (site : ℕ) where
   counted_last [] le = refl
   counted_last (p ∷ ps) le = by_test (eqb site p.site) le (counted_last ps) ∙ ap (onward p ps) (turned site p.site)
     where
-      by_test : (b : Bool) → length ps + 1 ≤ cond (not b) (1 + place_in ps) 0 → (length ps ≤ place_in ps → ps ++ (let p : BlindPlace = record { site = site; count = 1 } in p) ∷ [] ≡ counted_at site ps)
+      by_test : (b : Bool) → suc (length ps) ≤ cond (not b) (1 + place_in ps) 0 → (length ps ≤ place_in ps → ps ++ (let p : BlindPlace = record { site = site; count = 1 } in p) ∷ [] ≡ counted_at site ps)
           → p ∷ ps ++ (let p : BlindPlace = record { site = site; count = 1 } in p) ∷ [] ≡ onward p ps b
       by_test true le rest = absurd (omega (arith, le))
       by_test false le rest = ap (λ (l : List BlindPlace). p ∷ l) (rest (omega (arith, le)))

@@ -1,5 +1,5 @@
 -- From pause to pause a run keeps what it records of its reports.
-use Rattle.std.proofs.Common.{◌≡◌, ◌<◌, ◌≤◌, ◌+◌, ◌-◌, ◌*◌, ◌^◌, ℕ, List, [], ◌∷◌, ◌++◌, length, replicate, sym, ap, subst, ◌∙◌, arith, Option, Some, None, Bool, true, false, if◌then◌else◌, refl, ltb}
+use Rattle.std.proofs.Common.{◌≡◌, ◌≤◌, ◌+◌, ◌*◌, ◌^◌, ℕ, List, [], ◌∷◌, length, sym, ap, subst, ◌∙◌, arith, Option, Some, None, Bool, true, false, if◌then◌else◌, refl, ltb}
 use Rattle.ms_ir.specs.declared.syntax.Module.{Module}
 use Rattle.ms_ir.specs.ThreadCalls.{is_threaded}
 use Rattle.ms_runs.specs.declared.runs.BlindPlace.{BlindPlace}
@@ -35,7 +35,7 @@ use Rattle.ms_runtime.specs.declared.runs.Recorded.{Recorded}
 use Rattle.ms_runtime.specs.Answering.{AnsweredFor}
 use Rattle.ms_runtime.specs.Going.{ahead, Begins, Over}
 use Rattle.ms_runtime.specs.Places.{Placed, CountsBelow}
-use Rattle.ms_runtime.specs.Recorded.{GoingTold, PausedTold, TurnedTold, Sited, Noted}
+use Rattle.ms_runtime.specs.Recorded.{GoingTold, PausedTold, TurnedTold, Noted}
 use Rattle.ms_runtime.proofs.CountedPlaces.{counts_few, counts_wider, places_told}
 use Rattle.ms_runtime.proofs.Countings.{made_reports, of_reports, blind_made, made_blind, of_blind}
 use Rattle.ms_runtime.proofs.EndedSteps.{ends_spent, ends_there}

@@ -1,5 +1,5 @@
 -- What is told of a plain run, and of the shadow run of a module.
-use Rattle.std.specs.Prelude.{Bool, List, [], Option, None, if◌then◌else◌}
+use Rattle.std.specs.Prelude.{Bool, [], None, if◌then◌else◌}
 use Rattle.ms_ir.specs.declared.syntax.Module.{Module}
 use Rattle.ms_runs.specs.declared.runs.Setup.{Setup}
 use Rattle.ms_runs.specs.Plain.{plain}

@@ -1,4 +1,4 @@
-use Rattle.std.proofs.Common.{◌≡◌, ◌∙◌, Bool, true, false, List, [], if◌then◌else◌, Option, refl, subst}
+use Rattle.std.proofs.Common.{◌∙◌, Option, refl, subst}
 use Rattle.ms_runs.specs.declared.runs.End.{End}
 use Rattle.ms_runs.specs.Plain.{plain}
 use Rattle.ms_runs.specs.Calls.{plain_calls, plain_end_calls, plain_blind, places_of}
