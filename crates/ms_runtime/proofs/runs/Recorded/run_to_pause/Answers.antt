@@ -54,7 +54,7 @@ returns-in_ok-note_end-in-Spent c = record {
       let h = subst (λ (x : Pause). Advanced (IsRunning m u g.going.beside) m u g.going.beside g.going.state old.budget.left old.fiber.frame.at x c.advance.new.fiber c.advance.new.world c.advance.new.budget.left) c.in-Spent.is
       (c.in_ok-advance.ensures.advanced u g.going.beside g.going.state g.going.stands) in
       turn_spent m u c.args.self.now g (record old { fiber = c.advance.new.fiber; world = c.advance.new.world; budget = c.advance.new.budget }) refl refl h
-      c.note_end.new.self c.note_end.ensures.running c.note_end.ensures.wanted c.note_end.ensures.calls
+      c.note_end.new.self c.note_end.ensures.running c.note_end.ensures.wanted c.note_end.ensures.calls c.note_end.ensures.places
       (λ wanted. c.in_ok-note_end-in-Spent.ensures.ended h.last.frames (callers_run m c.advance.new.fiber u g.going.beside c.advance.new.world h.last h.stands) wanted);
 }
 
@@ -78,7 +78,7 @@ returns-in_ok-note_end-2-in-Ended c = record {
       let h = subst (λ (x : Pause). Advanced (IsRunning m u g.going.beside) m u g.going.beside g.going.state old.budget.left old.fiber.frame.at x c.advance.new.fiber c.advance.new.world c.advance.new.budget.left) c.in-Ended.is
       (c.in_ok-advance.ensures.advanced u g.going.beside g.going.state g.going.stands) in
       turn_ended m u c.args.self.now g (record old { fiber = c.advance.new.fiber; world = c.advance.new.world; budget = c.advance.new.budget }) refl refl c.in-Ended.end h
-      c.note_end-2.new.self c.note_end-2.ensures.running c.note_end-2.ensures.wanted c.note_end-2.ensures.calls (λ wanted. c.in_ok-note_end-2-in-Ended.ensures.ended h.within.frames h.callers wanted);
+      c.note_end-2.new.self c.note_end-2.ensures.running c.note_end-2.ensures.wanted c.note_end-2.ensures.calls c.note_end-2.ensures.places (λ wanted. c.in_ok-note_end-2-in-Ended.ensures.ended h.within.frames h.callers wanted);
 }
 
 pub returns-in-Finished : goal.returns-in-Finished
@@ -92,7 +92,7 @@ returns-in-Finished c = record {
       (turn_finished m u c.args.self.now g later refl refl c.in-Finished.value
       (subst (λ (x : Pause). Advanced (IsRunning m u g.going.beside) m u g.going.beside g.going.state old.budget.left old.fiber.frame.at x c.advance.new.fiber c.advance.new.world c.advance.new.budget.left) c.in-Finished.is
       (c.in_ok-advance.ensures.advanced u g.going.beside g.going.state g.going.stands))
-      c.note_alone.new.self c.note_alone.ensures.running c.note_alone.ensures.wanted c.note_alone.ensures.calls c.note_alone.ensures.ended);
+      c.note_alone.new.self c.note_alone.ensures.running c.note_alone.ensures.wanted c.note_alone.ensures.calls c.note_alone.ensures.places c.note_alone.ensures.ended);
 }
 
 pub returns-in-Asked : goal.returns-in-Asked
