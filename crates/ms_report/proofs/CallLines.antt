@@ -68,7 +68,7 @@ module _ (under : Lines) (all : (site : ℕ) → IsIndented (under site)) where
       by_test false =
           stays (codes "  more calls: " ++ decimal count ++ codes "\n") (line_after (joined (literal (codes "  more calls: ") refl) (of_number count)) newline) refl
 
-  calls_leave : (m : Module) (calls : Option Calls) → Leaves (calls_if under m calls) (calls_if no_lines m calls)
+  pub calls_leave : (m : Module) (calls : Option Calls) → Leaves (calls_if under m calls) (calls_if no_lines m calls)
   calls_leave m None = nothing
   calls_leave m (Some c) = both (both (called_leave m (take most_calls c.sites)) (further_stays (length c.sites - most_calls))) (started_leaves m c.started)
 

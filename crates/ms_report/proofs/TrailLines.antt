@@ -1,8 +1,9 @@
 -- The lines of a trail, from which those under each move are taken out.
-use Rattle.std.proofs.Common.{◌≡◌, ◌+◌, ◌^◌, ◌++◌, ℕ, List, [], ◌∷◌, Option, Some, None, refl, sym, subst, append-nil, codes}
+use Rattle.std.proofs.Common.{◌≡◌, ◌+◌, ◌^◌, ◌++◌, ℕ, List, [], ◌∷◌, Option, Some, None, refl, sym, ap, subst, append-nil, codes}
 use Rattle.std.specs.Prelude.{◌%◌, slice_get}
 use Rattle.ms_ir.specs.declared.syntax.Name.{Name}
 use Rattle.ms_ir.specs.declared.syntax.Module.{Module}
+use Rattle.ms_runs.specs.declared.runs.Calls.{Calls}
 use Rattle.ms_trail_moves.specs.declared.moves.Source.{Source}
 use Rattle.ms_trail_moves.specs.declared.moves.Source.TheVariants.{Root, Value, Byte}
 use Rattle.ms_trail_moves.specs.declared.moves.Target.{Target}
@@ -13,8 +14,9 @@ use Rattle.ms_trail_moves.specs.Leads.{came_from}
 use Rattle.ms_where_places.specs.Indented.{IsIndented, unindented}
 use Rattle.ms_report.specs.RunTexts.{function_of}
 use Rattle.ms_report.specs.WithLines.{Lines, no_lines}
-use Rattle.ms_report.specs.TrailTexts.{value_text, byte_text, source_text, target_text, way_text, move_text, move_line, hop_with, hops_with, use_line, trail_with}
+use Rattle.ms_report.specs.TrailTexts.{value_text, byte_text, source_text, target_text, way_text, move_text, move_line, hop_with, hops_with, use_line, trail_with, trail_calling}
 use Rattle.ms_report.proofs.Singles.{Single, literal, joined, of_number, of_hexadecimal, of_name, of_function}
+use Rattle.ms_report.proofs.CallLines.{calls_leave}
 use Rattle.ms_report.proofs.Indents.{Leaves, newline, line_after, nothing, whole, both, without, stays, goes}
 
 -- ---- no newline stands in the parts
@@ -63,3 +65,17 @@ module _ (under : Lines) (all : (site : ℕ) → IsIndented (under site)) where
 
   pub trail_left : (m : Module) (moves : List Move) (at : Source) (hops : List Hop) → unindented (trail_with under m moves at hops) ≡ trail_with no_lines m moves at hops
   trail_left m moves at hops = whole (trail_with under m moves at hops) (trail_with no_lines m moves at hops) (both (hops_leave m moves hops) (use_stays at))
+
+  pub trail_calling_left : (m : Module) (moves : List Move) (at : Source) (hops : List Hop) (calls : Option Calls)
+      → unindented (trail_calling under m moves at hops calls) ≡ trail_calling no_lines m moves at hops calls
+  trail_calling_left m moves at [] calls = whole (use_line at) (use_line at) (use_stays at)
+  trail_calling_left m moves at (hop ∷ rest) calls =
+      whole (trail_calling under m moves at (hop ∷ rest) calls) (trail_calling no_lines m moves at (hop ∷ rest) calls)
+      (both (both (both (hop_leaves m hop (slice_get moves hop.index)) (calls_leave under all m calls)) (hops_leave m moves rest)) (use_stays at))
+
+-- ---- calls
+
+-- where none are told there are no lines of theirs
+pub none_called_first : (under : Lines) (m : Module) (moves : List Move) (at : Source) (hops : List Hop) → trail_calling under m moves at hops None ≡ trail_with under m moves at hops
+none_called_first under m moves at [] = refl
+none_called_first under m moves at (hop ∷ rest) = ap (λ (t : List ℕ). t ++ hops_with under m moves rest ++ use_line at) (append-nil (hop_with under m hop (slice_get moves hop.index)))

@@ -17,7 +17,7 @@ use Rattle.ms_report.specs.ReportTexts.{origin_line, origin_text, earlier, repor
 use Rattle.ms_report.specs.SchedulesTexts.{extent_text, tried_line, schedule_line, schedules_text}
 use Rattle.ms_report.specs.WithLines.{no_lines, under_line, origin_site, end_site, chain_with, origins_with, closing_text_with}
 use Rattle.ms_report.specs.CallTexts.{most_calls, called_line, started_line, called_with, further_line, started_with, calls_if, reports_calling, ended_with, closing_calling}
-use Rattle.ms_report.specs.TrailTexts.{move_line, hop_with, hops_with, use_line, trail_with}
+use Rattle.ms_report.specs.TrailTexts.{move_line, hop_with, hops_with, use_line, trail_with, trail_calling}
 use Rattle.ms_report.specs.Uncalled.{tells_call, unless_call, uncalled}
 use Rattle.ms_report.proofs.Singles.{Single, literal, joined, of_number, of_hex, of_end, of_verdict, of_origin, of_use, of_bits, of_site}
 use Rattle.ms_report.proofs.Indents.{IsLine, newline, line_after, first_cut}
@@ -164,9 +164,12 @@ hops_stay : (m : Module) (moves : List Move) (hops : List Hop) → Lacks (hops_w
 hops_stay m moves [] = nothing
 hops_stay m moves (hop ∷ rest) = both (hop_stays m hop (slice_get moves hop.index)) (hops_stay m moves rest)
 
-trail_stays : (m : Module) (moves : List Move) (at : Source) (hops : List Hop) → Lacks (trail_with no_lines m moves at hops) (trail_with no_lines m moves at hops)
-trail_stays m moves at hops =
-    both (hops_stay m moves hops) (stays (use_line at) (line_after (joined (literal (codes "  use: ") refl) (of_source at)) newline) refl)
+use_stays : (at : Source) → Lacks (use_line at) (use_line at)
+use_stays at = stays (use_line at) (line_after (joined (literal (codes "  use: ") refl) (of_source at)) newline) refl
+
+trail_lacks : (m : Module) (moves : List Move) (at : Source) (hops : List Hop) (calls : Option Calls) → Lacks (trail_calling no_lines m moves at hops calls) (trail_with no_lines m moves at hops)
+trail_lacks m moves at [] calls = use_stays at
+trail_lacks m moves at (hop ∷ rest) calls = both (both (gone (hop_stays m hop (slice_get moves hop.index)) (calls_go m calls)) (hops_stay m moves rest)) (use_stays at)
 
 -- ---- whole texts
 
@@ -185,5 +188,5 @@ pub closing_before : (m : Module) (r : RunResult) (calls : Option Calls) (verdic
 closing_before m r calls verdict tried all_tried outcomes shown schedule =
     whole _ _ (both (closing_lacks m r calls verdict) (schedules_stay tried all_tried outcomes shown schedule))
 
-pub trail_left : (m : Module) (moves : List Move) (at : Source) (hops : List Hop) → uncalled (trail_with no_lines m moves at hops) ≡ trail_with no_lines m moves at hops
-trail_left m moves at hops = whole (trail_with no_lines m moves at hops) (trail_with no_lines m moves at hops) (trail_stays m moves at hops)
+pub trail_left : (m : Module) (moves : List Move) (at : Source) (hops : List Hop) (calls : Option Calls) → uncalled (trail_calling no_lines m moves at hops calls) ≡ trail_with no_lines m moves at hops
+trail_left m moves at hops calls = whole (trail_calling no_lines m moves at hops calls) (trail_with no_lines m moves at hops) (trail_lacks m moves at hops calls)

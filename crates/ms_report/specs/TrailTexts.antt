@@ -2,6 +2,7 @@
 use Rattle.std.specs.Prelude.{ℕ, ◌+◌, ◌%◌, ◌^◌, List, [], ◌∷◌, ◌++◌, Option, Some, None, slice_get, codes, decimal}
 use Rattle.ms_ir.specs.declared.syntax.Name.{Name}
 use Rattle.ms_ir.specs.declared.syntax.Module.{Module}
+use Rattle.ms_runs.specs.declared.runs.Calls.{Calls}
 use Rattle.ms_trail_moves.specs.declared.moves.Source.{Source}
 use Rattle.ms_trail_moves.specs.declared.moves.Source.TheVariants.{Root, Value, Byte}
 use Rattle.ms_trail_moves.specs.declared.moves.Target.{Target}
@@ -13,6 +14,7 @@ use Rattle.ms_text_grammar.specs.LayoutNames.{name_text}
 use Rattle.ms_report.specs.RunTexts.{function_of, function_text}
 use Rattle.ms_report.specs.ReportTexts.{hexadecimal}
 use Rattle.ms_report.specs.WithLines.{Lines}
+use Rattle.ms_report.specs.CallTexts.{calls_if}
 
 -- ---- places
 
@@ -61,3 +63,9 @@ use_line at = codes "  use: " ++ source_text at ++ codes "\n"
 -- the lines of hops over moves to what a use reads, and the line of that
 abbrev pub trail_with : Lines → Module → List Move → Source → List Hop → List ℕ
 trail_with under m moves at hops = hops_with under m moves hops ++ use_line at
+
+-- the same, and below the first hop those of the calls that stood there, if they are told
+abbrev pub trail_calling : Lines → Module → List Move → Source → List Hop → Option Calls → List ℕ
+trail_calling under m moves at [] calls = use_line at
+trail_calling under m moves at (hop ∷ rest) calls =
+    hop_with under m hop (slice_get moves hop.index) ++ calls_if under m calls ++ hops_with under m moves rest ++ use_line at

@@ -5,7 +5,7 @@ ghost use Rattle.ms_ir.specs.Instructions.{func_at, insts_at, site_at};
 ghost use Rattle.ms_runs.specs.{declared.runs.RunResult.{RunResult}, declared.runs.Calls.{Calls}};
 ghost use Rattle.ms_where_places.specs.Indented.{IsIndented, unindented};
 ghost use Rattle.ms_report.specs.{declared.refusals.Refusal.{Refusal}, RunTexts.{closing_of, function_of}};
-ghost use Rattle.ms_report.specs.{ReportTexts.{report_text_of}, RefusalTexts.{refusal_text}, TrailTexts.{trail_with}};
+ghost use Rattle.ms_report.specs.{ReportTexts.{report_text_of}, RefusalTexts.{refusal_text}, TrailTexts.{trail_with, trail_calling}};
 ghost use Rattle.ms_report.specs.WithLines.{no_lines, reports_with, closing_text_with, refusal_text_with};
 ghost use Rattle.ms_report.specs.{CallTexts.{reports_calling, closing_calling}, Uncalled.{uncalled}};
 ghost use Rattle.ms_trail_moves.specs.{declared.moves.Source.{Source}, declared.moves.Move.{Move}, declared.moves.Hop.{Hop}};
@@ -24,6 +24,8 @@ pub fn law_lines_are_added()
     ensures taken_out_of_calls { (under : ℕ → List ℕ) (m : Module) (r : RunResult) (calls : List Calls) → ((site : ℕ) → IsIndented (under site)) → unindented (reports_calling under m calls 0 r.reports) ≡ reports_calling no_lines m calls 0 r.reports }
     ensures none_in_closing_calls { (under : ℕ → List ℕ) (m : Module) (r : RunResult) (verdict : Bool) → closing_calling under m r None verdict ≡ closing_text_with under m r verdict }
     ensures taken_out_of_closing_calls { (under : ℕ → List ℕ) (m : Module) (r : RunResult) (calls : Option Calls) (verdict : Bool) → ((site : ℕ) → IsIndented (under site)) → unindented (closing_calling under m r calls verdict) ≡ closing_calling no_lines m r calls verdict }
+    ensures none_in_trail_calls { (under : ℕ → List ℕ) (m : Module) (moves : List Move) (at : Source) (hops : List Hop) → trail_calling under m moves at hops None ≡ trail_with under m moves at hops }
+    ensures taken_out_of_trail_calls { (under : ℕ → List ℕ) (m : Module) (moves : List Move) (at : Source) (hops : List Hop) (calls : Option Calls) → ((site : ℕ) → IsIndented (under site)) → unindented (trail_calling under m moves at hops calls) ≡ trail_calling no_lines m moves at hops calls }
     ensures taken_out_of_refusals { (under : ℕ → List ℕ) (cause : Refusal) → ((site : ℕ) → IsIndented (under site)) → unindented (refusal_text_with under cause) ≡ refusal_text cause }
 {}
 
@@ -32,7 +34,7 @@ pub fn law_lines_are_added()
 pub fn law_calls_are_added()
     ensures taken_out { (m : Module) (r : RunResult) (calls : List Calls) → uncalled (reports_calling no_lines m calls 0 r.reports) ≡ report_text_of m r }
     ensures closings { (m : Module) (r : RunResult) (calls : Option Calls) (verdict : Bool) → uncalled (closing_calling no_lines m r calls verdict) ≡ closing_of m r verdict }
-    ensures trails { (m : Module) (moves : List Move) (at : Source) (hops : List Hop) → uncalled (trail_with no_lines m moves at hops) ≡ trail_with no_lines m moves at hops }
+    ensures trails { (m : Module) (moves : List Move) (at : Source) (hops : List Hop) (calls : Option Calls) → uncalled (trail_calling no_lines m moves at hops calls) ≡ trail_with no_lines m moves at hops }
 {}
 
 /// The function that a line names with a site is that in which the instruction with this site stands.

@@ -24,5 +24,5 @@ pub use reports::{report_text, report_text_calling, report_text_with};
 pub use schedules::schedules_text;
 pub use site_lines::{NoLines, SiteLines};
 pub use summaries::summary_text;
-pub use trails::trail_text_with;
+pub use trails::trail_text_calling;
 pub use words::{WordsFault, words_line};

@@ -1,15 +1,17 @@
 //! The lines of the way on which the poisoned bits of a report came, for `explain`: one for each hop.
-ghost use Rattle.std.specs.Prelude.{◌≡◌, ◌+◌, ◌++◌, Some as Held, slice_get, IfOk};
+ghost use Rattle.std.specs.{Prelude.{◌≡◌, ◌+◌, ◌++◌, Some as Held, slice_get, IfOk}, Option.{option_copied}};
 ghost use Rattle.ms_ir.specs.Places.{HasSmallNumbers};
 ghost use Rattle.ms_trail_moves.specs.Leads.{came_from};
 ghost use Rattle.ms_check_valid.specs.Formed.{Formed};
-ghost use Rattle.ms_report.specs.TrailTexts.{value_text, byte_text, source_text, target_text, way_text, move_text, move_line, hop_with, hops_with, use_line, trail_with};
+ghost use Rattle.ms_report.specs.TrailTexts.{value_text, byte_text, source_text, target_text, way_text, move_text, move_line, hop_with, hops_with, use_line, trail_calling};
 
+use crate::calls::push_calls_if;
 use crate::reports::push_hexadecimal;
 use crate::site_lines::SiteLines;
 use crate::sites::push_function_of;
 use ms_bits::NoMemory;
 use ms_ir::{Module, Name};
+use ms_runs::Calls;
 use ms_trail_moves::moves::{Hop, Move, Source, Target};
 use ms_write_values::{push_name, push_number};
 use std::alloc::Global;
@@ -150,31 +152,47 @@ impl<L: SiteLines> Moved<'_, L> {
         Ok(())
     }
 
-    /// Adds the lines of hops, and the line of what the use reads to which they lead.
-    fn push_trail(&self, text: &mut Vec<u8>, at: &Source, hops: &[Hop]) -> Result<(), NoMemory>
+    /// Adds the lines of hops with those of the calls that stood at the first one, if they are told, and the line of what the use
+    /// reads to which they lead.
+    fn push_trail(
+        &self,
+        text: &mut Vec<u8>,
+        at: &Source,
+        hops: &[Hop],
+        calls: Option<&Calls>,
+    ) -> Result<(), NoMemory>
         requires { HasSmallNumbers self.now.m.now }
-        ensures { IfOk result (λ _. text.new.items ≡ text.old.items ++ trail_with (L.lines self.now.under.now) self.now.m.now self.now.moves.now at.now hops.now) }
+        ensures { IfOk result (λ _. text.new.items ≡ text.old.items ++ trail_calling (L.lines self.now.under.now) self.now.m.now self.now.moves.now at.now hops.now (option_copied calls.entry)) }
     {
-        self.push_hops(text, hops)?;
-        push_use(text, at)
+        match hops {
+            [] => push_use(text, at),
+            [first, rest @ ..] => {
+                self.push_hop(text, *first)?;
+                push_calls_if(text, self.m, calls, self.under)?;
+                self.push_hops(text, rest)?;
+                push_use(text, at)
+            }
+        }
     }
 }
 
-/// The lines of the hops over moves of a run of `m`, with these lines under each, and the line of what the use reads to which they
-/// lead. A hop whose index is no move's has no line. Linear in the number of hops, beside what adding lines costs.
-pub fn trail_text_with<L: SiteLines>(
+/// The lines of the hops over moves of a run of `m`, with these lines under each and those of the calls that stood at the first
+/// one, if they are told, and the line of what the use reads to which they lead. A hop whose index is no move's has no line. Linear in
+/// the number of hops, beside what adding lines costs.
+pub fn trail_text_calling<L: SiteLines>(
     alloc: Global,
     m: &Module,
     moves: &[Move],
     at: &Source,
     hops: &[Hop],
+    calls: Option<&Calls>,
     under: &L,
 ) -> Result<Vec<u8>, NoMemory>
     requires { Formed m.now }
-    ensures { IfOk result (λ text. text.items ≡ trail_with (L.lines under.now) m.now moves.now at.now hops.now) }
+    ensures { IfOk result (λ text. text.items ≡ trail_calling (L.lines under.now) m.now moves.now at.now hops.now (option_copied calls.entry)) }
 {
     let mut text = Vec::new(alloc);
     let moved = Moved { m, moves, under };
-    moved.push_trail(&mut text, at, hops)?;
+    moved.push_trail(&mut text, at, hops, calls)?;
     Ok(text)
 }

@@ -37,7 +37,7 @@ module _ {S T B : Type 0} (count : World → ℕ) (world : S → World) (says : 
       by_steps rest (Stop e w) (More d') h = absurd h
 
   pub ends_alike : (rel : ℕ → S → T → Type 0) → Says rel → (n : ℕ) (c : S) (d : T) → rel n c d → ends_in says step n c ≡ ends_in says' step' n d
-  ends_alike rel k zero c d r = refl
+  ends_alike rel k zero c d r = ap Some (k.same zero c d r)
   ends_alike rel k (suc n) c d r = by_steps (λ c' d' h. ends_alike rel k n c' d' h) (step c) (step' d) (k.steps n c d r)
     where
       by_steps : ((c' : S) (d' : T) → rel n c' d' → ends_in says step n c' ≡ ends_in says' step' n d')

@@ -1,6 +1,6 @@
 -- The calls that stand where a use is reported and where a run ends, and the sites of blind uses, in plain and in shadow
 -- runs (own).
-use Rattle.std.specs.Prelude.{◌≡◌, ℕ, zero, suc, ◌+◌, ◌-◌, List, [], ◌∷◌, ◌++◌, length, map, replicate, eqb, if◌then◌else◌, Option, Some, None}
+use Rattle.std.specs.Prelude.{◌≡◌, ℕ, zero, suc, ◌+◌, ◌-◌, List, [], ◌∷◌, ◌++◌, length, map, replicate, eqb, if◌then◌else◌, Option, Some}
 use Rattle.ms_ir.specs.declared.syntax.Module.{Module}
 use Rattle.ms_ir.specs.Instructions.{site_at}
 use Rattle.ms_runs.specs.declared.runs.BlindPlace.{BlindPlace}
@@ -43,13 +43,13 @@ abbrev pub said_in : {S B : Type 0} → (World → ℕ) → (S → World) → (S
 said_in count world says step zero s told = told
 said_in count world says step (suc n) s told = said_after count world (says s) (said_in count world says step n) told (step s)
 
--- what is said of the state whose step ends the run, and of none where its steps are spent
+-- what is said of the state at which a run stops: the one whose step ends it, or the last where its steps are spent
 abbrev pub ends_after : {S B : Type 0} → B → (S → Option B) → Stepped S → Option B
 ends_after one go (More s) = go s
 ends_after one go (Stop e w) = Some one
 
 abbrev pub ends_in : {S B : Type 0} → (S → B) → (S → Stepped S) → ℕ → S → Option B
-ends_in says step zero s = None
+ends_in says step zero s = Some (says s)
 ends_in says step (suc n) s = ends_after (says s) (ends_in says step n) (step s)
 
 -- ---- reports
@@ -85,7 +85,7 @@ shadow_calls = shadow_calls_by by_completions
 
 -- ---- the end
 
--- the calls that stand where a plain run ends; none where its steps are spent
+-- the calls that stand where a plain run ends, or its steps are spent
 abbrev pub plain_end_calls : Module → Setup → Option Calls
 plain_end_calls m setup = ends_in (λ (p : PlainState). main_calls m p.frames) (plain_step (setting_of m setup) m) setup.steps (plain_start m setup)
 

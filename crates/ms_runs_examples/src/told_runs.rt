@@ -1,5 +1,5 @@
 //! What is told of runs: each use once, blind places, and the calls at the end.
-ghost use Rattle.std.specs.Prelude.{◌≡◌, true, [], ◌∷◌, Some, None};
+ghost use Rattle.std.specs.Prelude.{◌≡◌, true, [], ◌∷◌, Some};
 ghost use Rattle.ms_runs.specs.declared.runs.End.TheVariants as «end»;
 ghost use Rattle.ms_runs.specs.{Shadow.{shadow}, Calls.{shadow_blind, shadow_end_calls, places_of}};
 ghost use Rattle.ms_runs_examples.specs.{Setups.{defaults, steps}, ToldPrograms.{uses_told, told_again, divided, deep_trap}};
@@ -20,8 +20,9 @@ pub fn blind_places()
     ensures places { places_of (shadow_blind divided defaults) ≡ record { site = 1; count = 2 } ∷ record { site = 5; count = 1 } ∷ [] }
 {}
 
-/// The calls above a trap, and none where the steps are spent before it.
+/// The calls above a trap, and those where the steps are spent before it.
 pub fn calls_at_the_end()
     ensures trap { shadow_end_calls deep_trap defaults ≡ Some (record { sites = 2 ∷ 4 ∷ 6 ∷ []; started = 0 }) }
-    ensures spent { shadow_end_calls deep_trap (steps 3) ≡ None }
+    ensures spent { shadow_end_calls deep_trap (steps 3) ≡ Some (record { sites = 2 ∷ 4 ∷ 6 ∷ []; started = 0 }) }
+    ensures before { shadow_end_calls deep_trap (steps 2) ≡ Some (record { sites = 4 ∷ 6 ∷ []; started = 0 }) }
 {}

@@ -1,5 +1,5 @@
 -- What a run says of where it ends, by the steps that it has done.
-use Rattle.std.proofs.Common.{◌≡◌, ◌<◌, ◌+◌, ◌-◌, ℕ, zero, suc, List, refl, ap, ◌∙◌, arith, Option, Some, None}
+use Rattle.std.proofs.Common.{◌≡◌, ◌<◌, ◌+◌, ◌-◌, ℕ, zero, suc, List, refl, ap, ◌∙◌, arith, Option, Some}
 use Rattle.ms_ir.specs.declared.syntax.Module.{Module}
 use Rattle.ms_runs.specs.declared.runs.Calls.{Calls}
 use Rattle.ms_runs.specs.declared.runs.End.{End}
@@ -30,8 +30,8 @@ module _ (m : Module) (u : Setup) where
       by_step rest (More c) f = rest c f
       by_step rest (Stop x w) f = absurd (cc)
 
-  -- where all steps are done, it has not ended
-  pub ends_spent : (n : ℕ) (s t : PlainState) → steps (step_of m u) n s ≡ More t → ends_from n s ≡ None
+  -- where all steps are done, the last state is meant
+  pub ends_spent : (n : ℕ) (s t : PlainState) → steps (step_of m u) n s ≡ More t → ends_from n s ≡ Some (main_calls m t.frames)
   ends_spent n s t e = ap (λ (k : ℕ). ends_from k s) (let z : n ≡ n + 0 = omega arith in z) ∙ ends_on n 0 s t e
 
   -- it ends in the step after so many

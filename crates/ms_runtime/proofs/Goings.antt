@@ -1,5 +1,5 @@
 -- From pause to pause a run keeps what it answers.
-use Rattle.std.proofs.Common.{◌≡◌, ◌<◌, ◌≤◌, ◌+◌, ◌-◌, ◌*◌, ◌^◌, ℕ, zero, suc, Bool, true, false, eqb, if◌then◌else◌, List, [], ◌∷◌, slice_get, length, min, refl, sym, ap, subst, ◌∙◌, arith, Option, Some}
+use Rattle.std.proofs.Common.{◌≡◌, ◌<◌, ◌≤◌, ◌+◌, ◌-◌, ◌*◌, ◌^◌, ℕ, zero, suc, Bool, true, false, eqb, if◌then◌else◌, List, [], ◌∷◌, slice_get, length, refl, sym, ap, subst, ◌∙◌, arith, Option, Some}
 use Rattle.ms_ir.specs.declared.syntax.Module.{Module}
 use Rattle.ms_ir.specs.declared.syntax.Name.{Name}
 use Rattle.ms_ir.specs.declared.syntax.Ty.{Ty}
@@ -9,19 +9,18 @@ use Rattle.ms_ir.specs.declared.syntax.Inst.{Inst}
 use Rattle.ms_ir.specs.declared.calls.RuntimeFn.TheVariants as function
 use Rattle.ms_ir.specs.ThreadCalls.{is_asked, calls_thread, is_threaded}
 use Rattle.ms_ir.specs.Instructions.{over_funcs, func_index}
-use Rattle.ms_runs.specs.declared.runs.Calls.{Calls}
 use Rattle.ms_runs.specs.declared.runs.End.{End}
 use Rattle.ms_runs.specs.declared.runs.End.TheVariants as «end»
-use Rattle.ms_runs.specs.declared.runs.Report.{Report}
 use Rattle.ms_runs.specs.declared.runs.Setup.{Setup}
 use Rattle.ms_runs.specs.declared.runs.RunResult.{RunResult}
 use Rattle.ms_runs.specs.World.{World, result, stuck}
 use Rattle.ms_runs.specs.Memory.{end_block, end_blocks}
 use Rattle.ms_runs.specs.Control.{Frame, release, given_back}
-use Rattle.ms_runs.specs.Plain.{PlainState, go_on, run, plain, plain_start, Stop}
-use Rattle.ms_runs.specs.Calls.{main_calls, tell, plain_calls, plain_end_calls}
+use Rattle.ms_runs.specs.Plain.{PlainState, Stepped, go_on, run, plain, plain_start, Stop}
+use Rattle.ms_runs.specs.Calls.{main_calls, tell_to, plain_end_calls}
 use Rattle.ms_runs_good_laws.proofs.ThreadsApart.{none_called}
 use Rattle.ms_runs_good_laws.proofs.Frames.{same_insts}
+use Rattle.ms_runs_good_laws.proofs.ReportsGrow.{stepped_world}
 use Rattle.ms_check_valid.specs.Formed.{Formed}
 use Rattle.ms_check_valid.specs.Valid.{Valid}
 use Rattle.ms_machine_code.specs.declared.code.Program.{Program}
@@ -45,7 +44,8 @@ use Rattle.ms_runtime.specs.Served.{IsBeside, CanAnswer}
 use Rattle.ms_runtime.specs.Answering.{AnsweredFor}
 use Rattle.ms_runtime.specs.Going.{ahead, Begins, Going, LeftAfter, HasSlack, Asking, Paused, Answers, Over}
 use Rattle.ms_runtime.proofs.EndedSteps.{ends_from, rest_ends, ends_due, ends_within}
-use Rattle.ms_runtime.proofs.ToldSteps.{tells, rest_told, one_grows, told_spent, told_ends, told_due, told_within, told_early}
+use Rattle.ms_runtime.proofs.SaidSteps.{tells, rest_told, told_spent, told_ends, told_due, told_within, told_early}
+use Rattle.ms_runtime.proofs.Countings.{Counting, uncut}
 
 -- ---- numbers
 
@@ -66,10 +66,6 @@ further left left' at at' all e le = let same : left' * (all + 1) ≡ left * (al
 
 pub one_nearer : (left left' at at' all : ℕ) → left' ≡ left → at' ≡ at + 1 → at < all → left' * (all + 1) + (all - at') < left * (all + 1) + (all - at)
 one_nearer left left' at at' all e more lt = let same : left' * (all + 1) ≡ left * (all + 1) = ap (λ n. n * (all + 1)) e in omega (arith, same, more, lt)
-
--- a count below its type's end is no cut one
-uncut : (b t : ℕ) → t ≡ min b (2 ^ 64 - 1) → t ≤ 2 ^ 62 → b ≡ t
-uncut b t e few = omega (arith, e, few)
 
 -- ---- calls that are asked for
 
@@ -209,14 +205,15 @@ module _ (m : Module) (u : Setup) where
           }
 
       -- what is told from there on is the rest
-      pub going_tells : (calls : List Calls) → length calls ≡ length r.told.reports
-          → tells m u r.budget.left g.state calls ≡ rest_told m u going_asks.asking.within going_asks.rest calls (step_of m u going_asks.asking.within)
+      pub going_tells : {B : Type 0} (count : World → ℕ) (says : PlainState → B) (had : RunResult → ℕ) (k : Counting count says had m u) (told : List B) → length told ≡ had r.told
+          → tells count says m u r.budget.left g.state told ≡ rest_told count says m u going_asks.asking.within going_asks.rest told (step_of m u going_asks.asking.within)
       unfolding going_asks
-      going_tells calls count =
+      going_tells count says had k said counted =
           let b : (rest : ℕ) × (LeftAfter call.asked rest r'.budget.left × (rest + h.done + 1 ≡ r.budget.left)) = after m u g.beside g.state r r' g.keeping.room call h made in
-          let up : length h.before.world.reports ≤ length h.within.world.reports = h.same.reports in
-          let same : length h.within.world.reports ≡ length r.told.reports = ap length (h.stands.shows.reports ∙ g.told.reports) in
-          told_due m u r.budget.left b.0 h.done g.state h.before calls b.1.1 h.came (omega (arith, up, same, count)) ∙ told_within m u h.before h.within h.same b.0 calls
+          let up : count h.before.world ≤ count h.within.world = k.up h.before h.within h.same in
+          let same : count h.within.world ≡ had r.told = k.held g.beside r'.world h.within.world r h.stands.shows g.told (omega (arith, g.keeping.blind)) in
+          told_due count says m u k.grows r.budget.left b.0 h.done g.state h.before said b.1.1 h.came (omega (arith, up, same, counted))
+          ∙ told_within count says m u h.before h.within h.same (k.alike h.before h.within h.same) b.0 said
 
       -- and so is what is said of its end
       pub going_ends : ends_from m u r.budget.left g.state ≡ rest_ends m u going_asks.asking.within going_asks.rest (step_of m u going_asks.asking.within)
@@ -226,19 +223,23 @@ module _ (m : Module) (u : Setup) where
           ends_due m u r.budget.left b.0 h.done g.state h.before b.1.1 h.came ∙ ends_within m u h.before h.within h.same b.0
 
     -- nor is more told where no step is left, or a step ended the run
-    told_as : (calls : List Calls) → length calls ≡ length r.told.reports → (last : World) → last.reports ≡ g.beside.reports → length last.reports ≤ length calls
-    told_as calls count last e = let same : length last.reports ≡ length r.told.reports = ap length (e ∙ g.told.reports) in omega (arith, same, count)
+    module _ {B : Type 0} (count : World → ℕ) (says : PlainState → B) (had : RunResult → ℕ) (k : Counting count says had m u) (said : List B) (counted : length said ≡ had r.told) where
+      told_as : (w : WorldState) (last : World) → Shows w g.beside last → count last ≤ length said
+      told_as w last shows = let same : count last ≡ had r.told = k.held g.beside w last r shows g.told (omega (arith, g.keeping.blind)) in omega (arith, same, counted)
 
-    pub spent_tells : (calls : List Calls) → length calls ≡ length r.told.reports → IsSpent (IsRunning m u g.beside) m u g.state r.budget.left r'.fiber r'.world r'.budget.left → tells m u r.budget.left g.state calls ≡ calls
-    spent_tells calls count h = told_spent m u r.budget.left g.state h.last calls h.came (told_as calls count h.last.world h.stands.shows.reports)
+      pub spent_tells : IsSpent (IsRunning m u g.beside) m u g.state r.budget.left r'.fiber r'.world r'.budget.left → tells count says m u r.budget.left g.state said ≡ said
+      spent_tells h = told_spent count says m u k.grows r.budget.left g.state h.last said h.came (told_as r'.world h.last.world h.stands.shows)
 
-    pub ended_tells : (calls : List Calls) → length calls ≡ length r.told.reports → (e : End) → HasEnded m u g.beside g.state r.budget.left e r'.fiber r'.world → tells m u r.budget.left g.state calls ≡ calls
-    ended_tells calls count e h = told_ends m u r.budget.left h.done g.state h.before e h.last calls h.few h.came h.ends.step (told_as calls count h.last h.shows.reports)
+      pub ended_tells : (e : End) → HasEnded m u g.beside g.state r.budget.left e r'.fiber r'.world → tells count says m u r.budget.left g.state said ≡ said
+      ended_tells e h = told_ends count says m u k.grows r.budget.left h.done g.state h.before e h.last said h.few h.came h.ends.step (told_as r'.world h.last h.shows)
 
-    pub finished_tells : (calls : List Calls) → length calls ≡ length r.told.reports → (word : ℕ) → HasFinished m u g.beside g.state r.budget.left word r'.world r'.budget.left → tells m u r.budget.left g.state calls ≡ calls
-    finished_tells calls count word h =
-        told_ends m u r.budget.left h.done g.state h.before stuck h.within.world calls (let c : r'.budget.left + h.done + 1 ≡ r.budget.left = h.counted in omega (arith, c)) h.came h.ends
-        (told_as calls count h.within.world (sym (ap (λ (x : RunResult). x.reports) (shown_back stuck h.finishes.frame h.within.world)) ∙ h.finishes.shows.reports))
+      pub finished_tells : (word : ℕ) → HasFinished m u g.beside g.state r.budget.left word r'.world r'.budget.left → tells count says m u r.budget.left g.state said ≡ said
+      finished_tells word h =
+          let back : World = given_back h.finishes.frame h.within.world in
+          let few : count back ≤ length said = told_as r'.world back h.finishes.shows in
+          let same : count back ≡ count h.within.world = sym (k.returned stuck back) ∙ ap had (shown_back stuck h.finishes.frame h.within.world) ∙ k.returned stuck h.within.world in
+          told_ends count says m u k.grows r.budget.left h.done g.state h.before stuck h.within.world said (let c : r'.budget.left + h.done + 1 ≡ r.budget.left = h.counted in omega (arith, c)) h.came h.ends
+          (omega (arith, same, few))
 
   -- ---- answers
 
@@ -275,13 +276,13 @@ module _ (m : Module) (u : Setup) where
         stops_step (asked.Runtime f) last h = h.step
 
     -- what was told then is all
-    pub ends_tell : (e : End) → AnsweredFor m u call a.within (answer.Ended e) r r' → (told calls : List Calls) → told ≡ tell (main_calls m a.within.frames) r'.told.reports calls
-        → rest_told m u a.within b.rest calls (step_of m u a.within) ≡ plain_calls m u → told ≡ plain_calls m u
-    ends_tell e x told calls is rest =
+    pub ends_tell : {B : Type 0} (count : World → ℕ) (says : PlainState → B) (had : RunResult → ℕ) (k : Counting count says had m u) (e : End) → AnsweredFor m u call a.within (answer.Ended e) r r'
+        → (told before all : List B) → told ≡ tell_to (says a.within) (had r'.told) before → rest_told count says m u a.within b.rest before (step_of m u a.within) ≡ all → told ≡ all
+    ends_tell count says had k e x told before all is rest =
         let stopped : HasStopped m u x.beside call.asked a.within e r'.world = answered_ends m p u a.beside r.fiber r.world a.within stands call a.waits x.beside r'.world x.keeps.fill x.keeps.slots e x.answered in
         is
-        ∙ ap (λ (l : List Report). tell (main_calls m a.within.frames) l calls) (sym (stopped.shows.reports ∙ x.told.reports))
-        ∙ sym (ap (rest_told m u a.within b.rest calls) (stops_so call.asked stopped.last stopped.ends)) ∙ rest
+        ∙ ap (λ (n : ℕ). tell_to (says a.within) n before) (sym (k.held x.beside r'.world stopped.last r' stopped.shows x.told (omega (arith, x.blind, a.keeping.blind, below_all r call a))))
+        ∙ sym (ap (rest_told count says m u a.within b.rest before) (stops_so call.asked stopped.last stopped.ends)) ∙ rest
       where
         stops_so : (of : Asked) (last : World) → Stops m u of a.within e last → step_of m u a.within ≡ Stop e last
         stops_so (asked.External x) last h = h.0
@@ -307,22 +308,35 @@ module _ (m : Module) (u : Setup) where
         by_asked (asked.Runtime f) c h = ap (λ (n : ℕ). ends_from m u n g.state) (sym c) ∙ sym (ends_within m u a.within g.state h b.rest) ∙ is
 
     -- what is told from the state after it on
-    pub goes_tell : (r'' : Running) (g : Going m u r'') → Resumes m u call.asked a.within g.state → r''.budget.left ≡ r.budget.left → (told calls : List Calls) → told ≡ tell (main_calls m a.within.frames) r''.told.reports calls
-        → rest_told m u a.within b.rest calls (step_of m u a.within) ≡ plain_calls m u → tells m u r''.budget.left g.state told ≡ plain_calls m u
-    goes_tell r'' g resumes left told calls is rest =
-        ap (λ (l : List Calls). tells m u r''.budget.left g.state l) (is ∙ ap (λ (l : List Report). tell (main_calls m a.within.frames) l calls) (sym (g.stands.shows.reports ∙ g.told.reports)))
-        ∙ ap (λ (n : ℕ). tells m u n g.state (tell (main_calls m a.within.frames) g.state.world.reports calls)) left
+    pub goes_tell : {B : Type 0} (count : World → ℕ) (says : PlainState → B) (had : RunResult → ℕ) (k : Counting count says had m u) (r'' : Running) (g : Going m u r'') → Resumes m u call.asked a.within g.state
+        → r''.budget.left ≡ r.budget.left → (told before all : List B) → told ≡ tell_to (says a.within) (had r''.told) before
+        → rest_told count says m u a.within b.rest before (step_of m u a.within) ≡ all → tells count says m u r''.budget.left g.state told ≡ all
+    goes_tell count says had k r'' g resumes left told before all is rest =
+        ap (λ l. tells count says m u r''.budget.left g.state l)
+        (is ∙ ap (λ (n : ℕ). tell_to (says a.within) n before) (sym (k.held g.beside r''.world g.state.world r'' g.stands.shows g.told (omega (arith, g.keeping.blind)))))
+        ∙ ap (λ (n : ℕ). tells count says m u n g.state (tell_to (says a.within) (count g.state.world) before)) left
         ∙ by_asked call.asked b.counted resumes
       where
-        by_asked : (of : Asked) → LeftAfter of b.rest r.budget.left → Resumes m u of a.within g.state
-            → tells m u r.budget.left g.state (tell (main_calls m a.within.frames) g.state.world.reports calls) ≡ plain_calls m u
+        by_asked : (of : Asked) → LeftAfter of b.rest r.budget.left → Resumes m u of a.within g.state → tells count says m u r.budget.left g.state (tell_to (says a.within) (count g.state.world) before) ≡ all
         by_asked (asked.External e) c h =
-            ap (λ (n : ℕ). tells m u n g.state (tell (main_calls m a.within.frames) g.state.world.reports calls)) (sym c) ∙ sym (ap (rest_told m u a.within b.rest calls) h.0) ∙ rest
+            ap (λ (n : ℕ). tells count says m u n g.state (tell_to (says a.within) (count g.state.world) before)) (sym c) ∙ sym (ap (rest_told count says m u a.within b.rest before) h.0) ∙ rest
         by_asked (asked.Runtime f) c h =
-            ap (λ (n : ℕ). tells m u n g.state (tell (main_calls m a.within.frames) g.state.world.reports calls)) (sym c)
-            ∙ ap (λ (sites : List ℕ). rest_told m u g.state b.rest (tell (let k : Calls = record { sites = sites; started = 0 } in k) g.state.world.reports calls) (step_of m u g.state)) h.calls
-            ∙ told_early m u g.state b.rest g.state.world.reports calls (step_of m u g.state) (one_grows m u g.state)
-            ∙ sym (told_within m u a.within g.state h b.rest calls) ∙ rest
+            ap (λ (n : ℕ). tells count says m u n g.state (tell_to (says a.within) (count g.state.world) before)) (sym c)
+            ∙ ap (λ one. rest_told count says m u g.state b.rest (tell_to one (count g.state.world) before) (step_of m u g.state)) (k.alike a.within g.state h)
+            ∙ told_early count says m u g.state b.rest (count g.state.world) before (step_of m u g.state) (k.grows g.state)
+            ∙ sym (told_within count says m u a.within g.state h (k.alike a.within g.state h) b.rest before) ∙ rest
+
+    -- none is taken back
+    pub goes_up : {B : Type 0} (count : World → ℕ) (says : PlainState → B) (had : RunResult → ℕ) (k : Counting count says had m u) (r'' : Running) (g : Going m u r'') → Resumes m u call.asked a.within g.state → had r.told ≤ had r''.told
+    goes_up count says had k r'' g resumes =
+        let few : count a.within.world ≡ had r.told = k.held a.beside r.world a.within.world r a.stands.shows a.told (omega (arith, a.keeping.blind)) in
+        let more : count g.state.world ≡ had r''.told = k.held g.beside r''.world g.state.world r'' g.stands.shows g.told (omega (arith, g.keeping.blind)) in
+        let up : count a.within.world ≤ count g.state.world = by_asked call.asked resumes in
+        omega (arith, few, more, up)
+      where
+        by_asked : (of : Asked) → Resumes m u of a.within g.state → count a.within.world ≤ count g.state.world
+        by_asked (asked.External e) h = subst (λ (y : Stepped PlainState). count a.within.world ≤ count (stepped_world y)) h.0 (k.grows a.within)
+        by_asked (asked.Runtime f) h = k.up a.within g.state h
 
     -- or the run goes on after it
     pub asked_goes_on : (value : Option ℕ) → AnsweredFor m u call a.within (answer.Resumed value) r r' → (r'' : Running)
@@ -386,9 +400,10 @@ going_begun m u calm r b = record {
 }
 
 -- where nothing was told, all is told from there on
-pub begun_tells : (m : Module) (u : Setup) (calm : is_threaded m ≡ false) (r : Running) (b : Begins m u r) (calls : List Calls) → calls ≡ [] → tells m u r.budget.left (going_begun m u calm r b).state calls ≡ plain_calls m u
+pub begun_tells : {B : Type 0} (count : World → ℕ) (says : PlainState → B) (m : Module) (u : Setup) (calm : is_threaded m ≡ false) (r : Running) (b : Begins m u r) (told : List B) → told ≡ []
+    → tells count says m u r.budget.left (going_begun m u calm r b).state told ≡ tells count says m u u.steps (plain_start m u) []
 unfolding going_begun
-begun_tells m u calm r b calls none = ap (λ (l : List Calls). tells m u r.budget.left (plain_start m u) l) none ∙ ap (λ (n : ℕ). tells m u n (plain_start m u) []) b.budget
+begun_tells count says m u calm r b told none = ap (λ l. tells count says m u r.budget.left (plain_start m u) l) none ∙ ap (λ (n : ℕ). tells count says m u n (plain_start m u) []) b.budget
 
 -- and so is what is said of its end
 pub begun_ends : (m : Module) (u : Setup) (calm : is_threaded m ≡ false) (r : Running) (b : Begins m u r) → ends_from m u r.budget.left (going_begun m u calm r b).state ≡ plain_end_calls m u

@@ -1,7 +1,9 @@
 pub mod Reporting
 pub mod OnMemory
 pub mod RootCounts
-pub mod ToldSteps
+pub mod SaidSteps
+pub mod Countings
+pub mod CountedPlaces
 pub mod EndedSteps
 pub mod Goings
 pub mod RecordedRuns

@@ -4,11 +4,13 @@
 
 mod arguments;
 mod memory;
+mod places;
 mod reports;
 mod runs;
 mod serving;
 mod thread_results;
 
+pub use places::BlindPlaces;
 pub use reports::ReportLimit;
 pub use runs::{Running, ToldRun, note_calls, run, run_told, start_run, told_calls, told_end};
 pub use serving::serve;

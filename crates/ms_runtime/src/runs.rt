@@ -12,6 +12,7 @@ ghost use Rattle.ms_runtime.specs.Recorded.{GoingTold, PausedTold, TurnedTold, I
 ghost use Rattle.ms_runtime.specs.{Answering.{AnsweredFor}, Served.{limit_of}};
 ghost use Rattle.ms_runtime.specs.ToldRuns.{plain_told};
 
+use crate::places::BlindPlaces;
 use crate::reports::ReportLimit;
 use crate::serving::serve;
 use ms_bits::{Bytes, List, NoMemory, Trap};
@@ -22,7 +23,7 @@ use ms_ir::{External, roots};
 use ms_machine::{advance, calls, calls_below, printed_types, resume, start};
 use ms_machine_frames::{Budget, Fiber, Pause};
 use ms_printf::answer_typed;
-use ms_runs::{Calls, End, RunResult, Setup};
+use ms_runs::{BlindPlace, Calls, End, RunResult, Setup};
 use std::alloc::Global;
 
 /// A run between two pauses.
@@ -40,12 +41,14 @@ pub struct Running {
 #[derive(Drop)]
 pub struct Recorded {
     pub running: Running,
-    /// Whether the calls at its reports are wanted.
+    /// Whether the calls at its reports, and the places of its blind uses, are wanted.
     pub wanted: bool,
     /// Where they are wanted, the calls that stood at each report so far, in order; else none.
     pub calls: Vec<Calls>,
-    /// The calls that stood where the run ended, where they are wanted, and it has ended before its steps were spent.
+    /// The calls that stood where the run ended, where they are wanted, and it has ended.
     pub ended: Option<Calls>,
+    /// The blind uses so far, where they are wanted; else none.
+    pub places: BlindPlaces,
 }
 
 /// What a run returns, and what is told beside it.
@@ -54,8 +57,10 @@ pub struct ToldRun {
     pub result: RunResult,
     /// The calls that stood at each report, in order; none where they weren't asked for.
     pub calls: List<Calls>,
-    /// The calls that stood where the run ended; none where its steps were spent, and where they weren't asked for.
+    /// The calls that stood where the run ended; none where they weren't asked for, and of a run with threads whose steps were spent.
     pub end_calls: Option<Calls>,
+    /// The places of the blind uses, in the order of the first at each; none where they weren't asked for.
+    pub places: List<BlindPlace>,
 }
 
 /// The end of a run without threads in which a function other than `main` returns, and nothing stands below it.
@@ -183,6 +188,7 @@ impl Recorded {
         ensures running { self.new.running ≡ self.old.running }
         ensures wanted { self.new.wanted ≡ self.old.wanted }
         ensures calls { self.new.calls ≡ self.old.calls }
+        ensures places { self.new.places ≡ self.old.places }
         ensures ended { (frames : List (FrameOf ℕ)) → CallersOf m.now self.old.running.fiber frames → OnOk result (self.old.wanted ≡ true → self.new.ended ≡ Some (main_calls m.now frames)) }
     {
         if !self.wanted {
@@ -198,6 +204,7 @@ impl Recorded {
         ensures running { self.new.running ≡ self.old.running }
         ensures wanted { self.new.wanted ≡ self.old.wanted }
         ensures calls { self.new.calls ≡ self.old.calls }
+        ensures places { self.new.places ≡ self.old.places }
         ensures ended { self.old.wanted ≡ true → self.new.ended ≡ Some (record { sites = []; started = 0 }) }
     {
         if self.wanted {
@@ -221,8 +228,11 @@ impl Recorded {
     {
         m.law_valid();
         let _code = m.program();
+        let before = self.running.told.blind;
         let answer = self.running.answer_of(alloc, m, &call, limit)?;
         note_calls(alloc, m, &self.running, 0, self.wanted, &mut self.calls)?;
+        let blind = self.running.told.blind;
+        self.places.note(call.site, before, blind, self.wanted)?;
         match answer {
             Answer::Ended(end) => {
                 self.note_end(alloc, m)?;
@@ -255,7 +265,10 @@ impl Recorded {
             &mut running.world,
             &mut running.budget,
         )? {
-            Pause::Spent => Ok(Some(End::Spent)),
+            Pause::Spent => {
+                self.note_end(alloc, m)?;
+                Ok(Some(End::Spent))
+            }
             Pause::Ended(end) => {
                 self.note_end(alloc, m)?;
                 Ok(Some(end))
@@ -288,9 +301,10 @@ pub fn told_end(ended: Option<Calls>, wanted: bool) -> Option<Calls>
 }
 
 /// Runs a checked module without thread calls to its end. Ok is what its plain run returns, and the calls that stood at each of
-/// its reports, in order, and where it ended, where they are wanted.
+/// its reports, in order, and where it ended, and the places of its blind uses, where they are wanted.
 ///
-/// A report takes as long as calls stand there; nothing else takes longer than in `run`.
+/// A report takes as long as calls stand there; nothing else takes longer than in `run`, but a blind use by one look-up of its
+/// site.
 pub fn run_told(
     alloc: Global,
     m: &CheckedModule,
@@ -311,6 +325,7 @@ pub fn run_told(
         wanted,
         calls: Vec::new(alloc),
         ended: None,
+        places: BlindPlaces::new(alloc),
     };
     loop {
         if let Some(end) = recorded.run_to_pause(alloc, m, limit)? {
@@ -318,12 +333,14 @@ pub fn run_told(
                 running,
                 calls,
                 ended,
+                places,
                 ..
             } = recorded;
             return Ok(ToldRun {
                 result: running.into_result(end),
                 calls: told_calls(alloc, calls, wanted),
                 end_calls: told_end(ended, wanted),
+                places: places.into_places(alloc, wanted),
             });
         }
     }

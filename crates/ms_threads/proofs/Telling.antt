@@ -12,7 +12,7 @@ use Rattle.ms_runs.specs.World.{World}
 use Rattle.ms_runs.specs.Control.{Frame}
 use Rattle.ms_runs.specs.Plain.{PlainState, Stepped, More, Stop, and_then, steps, setting_of}
 use Rattle.ms_runs.specs.Threads.{Fibers as FibersOf, fibers_of}
-use Rattle.ms_runs.specs.Calls.{call_sites, tell}
+use Rattle.ms_runs.specs.Calls.{reports_made, call_sites, tell}
 use Rattle.ms_runs.proofs.Telling.{tell_none, tell_twice}
 use Rattle.ms_runs_good_laws.proofs.ReportsGrow.{stepped_world}
 use Rattle.ms_runs_threads.specs.Fibers.{Others, Fibers, site_at, fibers_step, world_of}
@@ -24,7 +24,8 @@ use Rattle.ms_host.specs.Shows.{Shows}
 use Rattle.ms_host.specs.declared.calls.HostCall.{HostCall}
 use Rattle.ms_machine_steps.specs.Waiting.{FirstWaits}
 use Rattle.ms_machine_steps.specs.Advances.{step_of, Within, AllOwn}
-use Rattle.ms_runtime.proofs.ToldSteps.{steps_grow}
+use Rattle.ms_runtime.proofs.SaidSteps.{steps_grow}
+use Rattle.ms_runtime.proofs.Countings.{of_reports}
 use Rattle.ms_threads.specs.declared.runs.ThreadedRun.{ThreadedRun}
 use Rattle.ms_threads.specs.ThreadTables.{starts_of, Shares}
 use Rattle.ms_threads.specs.Going.{fiber_of, shared_in, goes_at, told_so, tells_from, tells_after, acts, Telling, KeepsCalls}
@@ -138,7 +139,7 @@ module _ (m : Module) (u : Setup) (schedule : List ℕ) where
       by_step (More c) is same came =
           let threads : length c.world.threads ≡ length a.world.threads = ap (λ (f : FibersOf). length f.threads) same in
           let there : length c.world.threads ≤ length said.starts = omega (arith, threads, made) in
-          let up = steps_grow m u n c b came in
+          let up = steps_grow reports_made m u (of_reports m u).grows n c b came in
           more_after (going a) said (n + k) (step a others) (goes_at c others) (own_step m u schedule a c others all.0 is) there (omega (arith, up, few))
           ∙ own_tells n k c b others said (all.1 c is) came there few
       by_step (Stop x w) is same came = absurd (cc)

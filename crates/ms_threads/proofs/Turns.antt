@@ -28,7 +28,7 @@ use Rattle.ms_host.specs.declared.calls.HostCall.{HostCall}
 use Rattle.ms_machine_frames.specs.declared.fibers.Fiber.{Fiber}
 use Rattle.ms_runs.specs.Plain.{PlainState, Stepped, More, steps}
 use Rattle.ms_runs_good_laws.proofs.ReportsGrow.{stepped_world}
-use Rattle.ms_runtime.proofs.ToldSteps.{one_grows}
+use Rattle.ms_runtime.proofs.Countings.{of_reports}
 use Rattle.ms_runs_fills_laws.proofs.Kept.{given_back_kept}
 use Rattle.ms_threads_laws.proofs.OwnSteps.{back_keeps}
 use Rattle.ms_runtime.specs.declared.runs.Running.{Running}
@@ -137,7 +137,7 @@ module _ (m : Module) (u : Setup) (schedule : List ℕ) where
         let rest : ℕ = t.running.budget.left - h.done - 1 in
         let sum : rest + h.done + 1 ≡ t.running.budget.left = omega (arith, h.few) in
         let all = told_few h.last h.shows.reports in
-        let up = one_grows m u h.before in
+        let up = (of_reports m u).grows h.before in
         let same : length (stepped_world (step_of m u h.before)).reports ≡ length h.last.reports = ap (λ (y : Stepped PlainState). length (stepped_world y).reports) h.ends.step in
         subst (IsOver m u schedule e) (sym is)
         (ends_so g.made e h.last g.beside (record t' { ended = t''.ended }) still_recorded

@@ -35,7 +35,7 @@ use Rattle.ms_report.proofs.WithoutLines.{none_under, reports_alone, closing_alo
 use Rattle.ms_report.proofs.Unindented.{fault_left, refusal_left, threads_left}
 use Rattle.ms_report.specs.CallTexts.{reports_calling, closing_calling}
 use Rattle.ms_report.proofs.CallLines.{none_called, none_called_last, calling_before, closing_calling_before, closing_calling_left}
-use Rattle.ms_report.proofs.TrailLines.{trail_left}
+use Rattle.ms_report.proofs.TrailLines.{trail_calling_left}
 use Rattle.ms_words.specs.declared.commands.Command.{Command}
 use Rattle.ms_words.specs.declared.commands.Command.TheVariants.{Run, Check, CheckSchedules, Explain, Corpus}
 use Rattle.ms_words.specs.declared.commands.Options.{Options}
@@ -44,7 +44,7 @@ use Rattle.ms_threads_explore.specs.declared.explorer.Explored.{Explored}
 use Rattle.ms_top.specs.declared.output.Output.{Output}
 use Rattle.ms_top.specs.Added.{with_locations, without_lines, without_any_lines, CorpusAdds}
 use Rattle.ms_top.specs.Command.{form_of, located_file, only_input, setup_of}
-use Rattle.ms_top.specs.Explained.{way_with, trace_with, followed, no_report, explained_with}
+use Rattle.ms_top.specs.Explained.{root_calls, way_with, trace_with, followed, no_report, explained_with}
 use Rattle.ms_top.specs.Lines.{AreLinesIn, AreLines, fault_text_with}
 use Rattle.ms_top.specs.Runs.{silent, plain_calls_under, plain_end_calls_under, plain_told_under}
 use Rattle.ms_top.specs.Said.{answer_of, answer_of_result, explored_told, answer_of_explored, answer_of_results, run_text, says, status_of, tried_text, UnlessThreaded, IsExplanation, AreSections, IsAnswerToModule, IsAnswerToReading, IsAnswerToText}
@@ -79,22 +79,24 @@ run_left under all verdict m t =
     ∙ ap (λ (closing : List ℕ). reports_calling no_lines m t.calls 0 r.reports ++ closing) (closing_calling_left under all m r t.end_calls verdict)
 
 module _ (under : Lines) (all : (site : ℕ) → IsIndented (under site)) (m : Module) where
-  way_left : (moves : List Move) (at : Source) (hops : Option (List Hop)) → unindented (way_with under m moves at hops) ≡ way_with no_lines m moves at hops
-  way_left moves at None = refl
-  way_left moves at (Some hops) = trail_left under all m moves at hops
+  way_left : (wanted : Bool) (s : Setup) (moves : List Move) (at : Source) (hops : Option (List Hop)) → unindented (way_with under wanted m s moves at hops) ≡ way_with no_lines wanted m s moves at hops
+  way_left wanted s moves at None = refl
+  way_left wanted s moves at (Some hops) = trail_calling_left under all m moves at hops (root_calls wanted m s moves hops)
 
-  trace_left : (t : Trace) → unindented (trace_with under m t) ≡ trace_with no_lines m t
-  trace_left NoReport = refl
-  trace_left (TooLong n) = refl
-  trace_left (Found moves at) = way_left moves at (trail_of moves at)
+  trace_left : (wanted : Bool) (s : Setup) (t : Trace) → unindented (trace_with under wanted m s t) ≡ trace_with no_lines wanted m s t
+  trace_left wanted s NoReport = refl
+  trace_left wanted s (TooLong n) = refl
+  trace_left wanted s (Found moves at) = way_left wanted s moves at (trail_of moves at)
 
-  report_left : (rs : List Report) (calls : List Calls) (t : Trace) (none : Bool) → unindented (if none then no_report else reports_calling under m calls 0 rs ++ trace_with under m t)
-      ≡ (if none then no_report else reports_calling no_lines m calls 0 rs ++ trace_with no_lines m t)
-  report_left rs calls t true = refl
-  report_left rs calls t false = calling_before under all m calls rs (trace_with under m t) ∙ ap (λ (way : List ℕ). reports_calling no_lines m calls 0 rs ++ way) (trace_left t)
+  report_left : (wanted : Bool) (s : Setup) (rs : List Report) (calls : List Calls) (t : Trace) (none : Bool)
+      → unindented (if none then no_report else reports_calling under m calls 0 rs ++ trace_with under wanted m s t)
+      ≡ (if none then no_report else reports_calling no_lines m calls 0 rs ++ trace_with no_lines wanted m s t)
+  report_left wanted s rs calls t true = refl
+  report_left wanted s rs calls t false =
+      calling_before under all m calls rs (trace_with under wanted m s t) ∙ ap (λ (way : List ℕ). reports_calling no_lines m calls 0 rs ++ way) (trace_left wanted s t)
 
-  explained_left : (s : Setup) (t : ToldRun) → unindented (explained_with under m s t) ≡ explained_with no_lines m s t
-  explained_left s t = report_left t.result.reports t.calls (followed m s) (eqb (length t.result.reports) 0)
+  explained_left : (wanted : Bool) (s : Setup) (t : ToldRun) → unindented (explained_with under wanted m s t) ≡ explained_with no_lines wanted m s t
+  explained_left wanted s t = report_left wanted s t.result.reports t.calls (followed m s) (eqb (length t.result.reports) 0)
 
 tried_left : (under : Lines) → ((site : ℕ) → IsIndented (under site)) → (m : Module) (e : Explored) (calls : List Calls) (last : Option Calls)
     → unindented (run_text under true m (explored_told e calls last) ++ tried_text e) ≡ run_text no_lines true m (explored_told e calls last) ++ tried_text e
@@ -177,7 +179,7 @@ module _ (Gives : Module → Module → Type 0) where
           j,
           gives,
           ap without_any_lines is
-              ∙ ap₂ (λ (out err : List ℕ). answer_of (status_of r) out err) (explained_left under all m s t) (closing_calling_left under all m r t.end_calls true),
+              ∙ ap₂ (λ (out err : List ℕ). answer_of (status_of r) out err) (explained_left under all m o.calls s t) (closing_calling_left under all m r t.end_calls true),
         )
 
     explain_module : (m : Module) (under : Lines) (a : Output) → AreLines (Explain file (with_locations true o)) text m under → IsAnswerToModule Gives under (Explain file (with_locations true o)) inputs m a

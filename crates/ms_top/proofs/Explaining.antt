@@ -1,13 +1,14 @@
 -- What `explain` says, and that the way which it shows begins at a root that the run had reached.
-use Rattle.std.proofs.Common.{◌≡◌, ◌≢◌, ◌∙◌, ◌<◌, ◌≤◌, ◌^◌, ◌++◌, ℕ, Bool, true, false, List, [], ◌∷◌, length, Option, Some, eqb, leb, if◌then◌else◌, refl, sym, ap, subst, ◌⊎◌, inl, inr, arith}
+use Rattle.std.proofs.Common.{◌≡◌, ◌≢◌, ◌∙◌, ◌<◌, ◌≤◌, ◌^◌, ◌++◌, ℕ, Bool, true, false, List, [], ◌∷◌, length, Option, Some, eqb, leb, ltb, if◌then◌else◌, refl, sym, ap, subst, ◌⊎◌, inl, inr, arith}
 use Rattle.std.specs.Prelude.{reverse}
-use Rattle.std.proofs.lemmas.Bool.{leb-true, leb-false, ne_eqb}
+use Rattle.std.proofs.lemmas.Bool.{leb-true, leb-false, ltb-true, ne_eqb}
 use Rattle.ms_ir.specs.declared.syntax.Module.{Module}
 use Rattle.ms_ir.specs.ThreadCalls.{is_threaded}
 use Rattle.ms_runs.specs.declared.runs.End.TheVariants.{Reported}
 use Rattle.ms_runs.specs.declared.runs.Report.{Report}
 use Rattle.ms_runs.specs.declared.runs.RunResult.{RunResult}
 use Rattle.ms_runs.specs.declared.runs.Setup.{Setup}
+use Rattle.ms_runs.specs.Limits.{WithinLimits}
 use Rattle.ms_runs.specs.Faithful.{Fair, Faithful}
 use Rattle.ms_runs.specs.Plain.{plain}
 use Rattle.ms_runs.specs.Shadow.{shadow}
@@ -35,7 +36,7 @@ use Rattle.ms_words.specs.declared.commands.Command.TheVariants.{Explain}
 use Rattle.ms_words.specs.declared.commands.Options.{Options}
 use Rattle.ms_top.specs.declared.output.Output.{Output}
 use Rattle.ms_top.specs.Command.{only_input, setup_of}
-use Rattle.ms_top.specs.Explained.{CanLead, explained_with, followed, no_report, trace_with, way_with}
+use Rattle.ms_top.specs.Explained.{CanLead, explained_with, followed, no_report, shortened, trace_with, way_with}
 use Rattle.ms_top.specs.Instrumented.{IsInstrumented}
 use Rattle.ms_top.specs.Parts.{IsRunOfGiven}
 use Rattle.ms_top.specs.Promised.{told_reports, ShowsWay}
@@ -49,10 +50,10 @@ use Rattle.ms_top.proofs.Faithful.{alone_says, told_alone}
 -- ---- answers
 
 pub explain_answer : (Gives : Module → Module → Type 0) (under : Lines) (m : Module) (calls : Bool) (s t : Setup) (schedule : List ℕ) (r : ToldRun) (a : Output) → is_threaded m ≡ false → s ≡ t
-    → IsRunOfGiven Gives m s schedule calls r → a ≡ answer_of_explained under m s r → IsExplanation Gives under calls t m a
+    → IsRunOfGiven Gives m s schedule calls r → a ≡ answer_of_explained under calls m s r → IsExplanation Gives under calls t m a
 explain_answer Gives under m calls s t schedule r a alone given q is =
     let run : r ≡ plain_told calls q.0 s = subst (λ b. r ≡ plain_told_under calls b q.0 s schedule) alone q.2 in
-    (q.0, q.1, is ∙ ap (λ u. answer_of_explained under m u r) given ∙ ap (answer_of_explained under m t) (run ∙ ap (plain_told calls q.0) given))
+    (q.0, q.1, is ∙ ap (λ u. answer_of_explained under calls m u r) given ∙ ap (answer_of_explained under calls m t) (run ∙ ap (plain_told calls q.0) given))
 
 -- ---- ways
 
@@ -83,9 +84,24 @@ pub can_lead : (m : Module) → is_threaded m ≡ false → (s : Setup) (found :
 can_lead m alone s found is = subst CanLead (sym is) (trace_leads m alone s (moves_of.trace m s) refl)
 
 -- the lines of what following a run comes to
-pub run_lines : (under : Lines) (m n : Module) (s : Setup) (found : Trace) (text : List ℕ) → n ≡ m → found ≡ limited (moves_of.trace m s) → text ≡ trace_with under n found → text ≡ trace_with under m (followed m s)
+pub run_lines : (under : Lines) (calls : Bool) (m : Module) (s : Setup) (found : Trace) (text : List ℕ) → found ≡ limited (moves_of.trace m s) → text ≡ trace_with under calls m s found → text ≡ trace_with under calls m s (followed m s)
 unfolding followed
-run_lines under m n s found text same is lines = lines ∙ ap (λ (k : Module). trace_with under k found) same ∙ ap (trace_with under m) is
+run_lines under calls m s found text is lines = lines ∙ ap (trace_with under calls m s) is
+
+-- with fewer steps a setup is within the limits as before
+pub shortened_within : (s : Setup) (steps : ℕ) → WithinLimits s → WithinLimits (shortened s steps)
+shortened_within s steps l = record {
+  input = l.input;
+  filled = l.filled;
+  fill = l.fill;
+  steps = fewer (ltb steps s.steps) refl;
+  some_reports = l.some_reports;
+  reports = l.reports;
+}
+  where
+    fewer : (less : Bool) → ltb steps s.steps ≡ less → (if less then steps else s.steps) ≤ 1000000000
+    fewer true less = let lt = ltb-true steps s.steps less in let most = l.steps in omega (arith, lt, most)
+    fewer false more = l.steps
 
 -- ---- reports
 
@@ -115,42 +131,42 @@ module _ (stay : WaysStay) (under : Lines) (calls : Bool) (m : Module) (s : Setu
 
   -- the text where some moves are found
   text_shown : is_threaded m ≡ false → (moves : List Move) (at : Source) → moves_of.trace m s ≡ moves_of.Found moves at → (few : Bool) → leb (length moves) move_limit ≡ few
-      → (text : List ℕ) → text ≡ reports ++ trace_with under m (if few then Found moves at else TooLong (length moves)) → ShowsWay under calls m s text
+      → (text : List ℕ) → text ≡ reports ++ trace_with under calls m s (if few then Found moves at else TooLong (length moves)) → ShowsWay under calls m s text
   text_shown alone moves at traced true few text is =
       let way = some_way m alone s moves at traced in
-      record { moves = moves; at = at; traced = traced; shown = inr (few_kept moves few, way, is ∙ ap (λ (found : Option (List Hop)). reports ++ way_with under m moves at found) (way_found m alone s moves at traced way)); stays = stay m alone s moves at traced }
+      record { moves = moves; at = at; traced = traced; shown = inr (few_kept moves few, way, is ∙ ap (λ (found : Option (List Hop)). reports ++ way_with under calls m s moves at found) (way_found m alone s moves at traced way)); stays = stay m alone s moves at traced }
   text_shown alone moves at traced false many text is = record { moves = moves; at = at; traced = traced; shown = inl (many_moves moves many, is); stays = stay m alone s moves at traced }
 
   -- what is said of a run with a report shows the way of its bits
-  pub shows_way : is_threaded m ≡ false → (text : List ℕ) → text ≡ explained_with under m s (shadow_told calls m s) → (shadow m s).reports ≢ [] → ShowsWay under calls m s text
+  pub shows_way : is_threaded m ≡ false → (text : List ℕ) → text ≡ explained_with under calls m s (shadow_told calls m s) → (shadow m s).reports ≢ [] → ShowsWay under calls m s text
   shows_way alone text is some =
       let found = where_reported m s (reported m s some) in
       text_shown alone found.0 found.1 found.2 (leb (length found.0) move_limit) refl text
-      (is ∙ ap (λ (none : Bool). if none then no_report else reports ++ trace_with under m (followed m s)) (none_counted (shadow m s).reports some)
-      ∙ ap (λ (t : Trace). reports ++ trace_with under m t) (followed_is m s found.0 found.1 found.2))
+      (is ∙ ap (λ (none : Bool). if none then no_report else reports ++ trace_with under calls m s (followed m s)) (none_counted (shadow m s).reports some)
+      ∙ ap (λ (t : Trace). reports ++ trace_with under calls m s t) (followed_is m s found.0 found.1 found.2))
 
 -- and of one without a report that there is none
-pub shows_none : (under : Lines) (calls : Bool) (m : Module) (s : Setup) (text : List ℕ) → text ≡ explained_with under m s (shadow_told calls m s) → (shadow m s).reports ≡ [] → text ≡ no_report
+pub shows_none : (under : Lines) (calls : Bool) (m : Module) (s : Setup) (text : List ℕ) → text ≡ explained_with under calls m s (shadow_told calls m s) → (shadow m s).reports ≡ [] → text ≡ no_report
 shows_none under calls m s text is none =
-    is ∙ ap (λ (rs : List Report). if eqb (length rs) 0 then no_report else told_reports under calls m s ++ trace_with under m (followed m s)) none
+    is ∙ ap (λ (rs : List Report). if eqb (length rs) 0 then no_report else told_reports under calls m s ++ trace_with under calls m s (followed m s)) none
 
 -- ---- where the pass gives faithful modules
 
 pub explains_shadow : (Gives : Module → Module → Type 0) (under : Lines) (file : List ℕ) (inputs : List (List ℕ)) (o : Options) (m : Module) (a : Output) → ((j : Module) → Gives m j → Faithful m j × SameCalls m j)
-    → is_threaded m ≡ false → let s = setup_of o (only_input inputs) in Fair s → IsAnswerToValid Gives under (Explain file o) inputs m a → a ≡ answer_of_explained under m s (shadow_told o.calls m s)
+    → is_threaded m ≡ false → let s = setup_of o (only_input inputs) in Fair s → IsAnswerToValid Gives under (Explain file o) inputs m a → a ≡ answer_of_explained under o.calls m s (shadow_told o.calls m s)
 explains_shadow Gives under file inputs o m a faithful alone fair is =
     let s = setup_of o (only_input inputs) in
     let h = alone_says m a (IsExplanation Gives under o.calls s m a) alone is in
     let known = faithful h.0 h.1 in
     let told : plain_told o.calls h.0 s ≡ shadow_told o.calls m s = λ i. told_as o.calls (known.0.runs s fair i) (known.1.same s fair i) (known.1.ends s fair i) in
-    h.2 ∙ ap (answer_of_explained under m s) told
+    h.2 ∙ ap (answer_of_explained under o.calls m s) told
 
 pub explained_shadow : (under : Lines) (file : List ℕ) (inputs : List (List ℕ)) (o : Options) (m : Module) (a : Output) → is_threaded m ≡ false → let s = setup_of o (only_input inputs) in Fair s
-    → IsAnswerToValid IsInstrumented under (Explain file o) inputs m a → a ≡ answer_of_explained under m s (shadow_told o.calls m s)
+    → IsAnswerToValid IsInstrumented under (Explain file o) inputs m a → a ≡ answer_of_explained under o.calls m s (shadow_told o.calls m s)
 explained_shadow under file inputs o m a alone fair is =
     let s = setup_of o (only_input inputs) in
     let h = alone_says m a (IsExplanation IsInstrumented under o.calls s m a) alone is in
-    h.2 ∙ ap (answer_of_explained under m s) (told_alone m h.0 h.1 alone o.calls s fair)
+    h.2 ∙ ap (answer_of_explained under o.calls m s) (told_alone m h.0 h.1 alone o.calls s fair)
 
 pub explained_way : WaysStay → (under : Lines) (file : List ℕ) (inputs : List (List ℕ)) (o : Options) (m : Module) (a : Output) → is_threaded m ≡ false → let s = setup_of o (only_input inputs) in Fair s
     → IsAnswerToValid IsInstrumented under (Explain file o) inputs m a → (shadow m s).reports ≢ [] → ShowsWay under o.calls m s a.out

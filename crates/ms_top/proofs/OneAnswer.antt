@@ -92,7 +92,7 @@ of_sections under names o inputs m a b (j, p, is) (k, q, same) =
     is ∙ ap (λ n. answer_of_results under m names (map (λ input. plain_told o.calls n (setup_of o input)) inputs)) (made_once m j k p q) ∙ sym same
 
 of_explanation : (under : Lines) (calls : Bool) (s : Setup) (m : Module) (a b : Output) → IsExplanation IsInstrumented under calls s m a → IsExplanation IsInstrumented under calls s m b → a ≡ b
-of_explanation under calls s m a b (j, p, is) (k, q, same) = is ∙ ap (λ n. answer_of_explained under m s (plain_told calls n s)) (made_once m j k p q) ∙ sym same
+of_explanation under calls s m a b (j, p, is) (k, q, same) = is ∙ ap (λ n. answer_of_explained under calls m s (plain_told calls n s)) (made_once m j k p q) ∙ sym same
 
 of_schedules : (under : Lines) (calls : Bool) (s : Setup) (runs : ℕ) (m : Module) (a b : Output) → IsAnswerOfSchedules IsInstrumented under calls s runs m a
     → IsAnswerOfSchedules IsInstrumented under calls s runs m b → a ≡ b

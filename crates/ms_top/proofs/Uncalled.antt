@@ -27,6 +27,7 @@ use Rattle.ms_report.specs.WithLines.{Lines, no_lines}
 use Rattle.ms_report.specs.CallTexts.{reports_calling, closing_calling}
 use Rattle.ms_report.specs.Uncalled.{uncalled}
 use Rattle.ms_report.proofs.CallLines.{none_called_last}
+use Rattle.ms_report.proofs.TrailLines.{none_called_first}
 use Rattle.ms_report.proofs.Uncalled.{calling_before, closing_left, closing_before, trail_left}
 use Rattle.ms_words.specs.declared.commands.Command.TheVariants.{Run, Check, CheckSchedules, Explain, Corpus}
 use Rattle.ms_words.specs.declared.commands.Options.{Options}
@@ -35,7 +36,7 @@ use Rattle.ms_threads_explore.specs.declared.explorer.Explored.{Explored}
 use Rattle.ms_top.specs.declared.output.Output.{Output}
 use Rattle.ms_top.specs.Added.{telling, without_calls, without_any_calls, CorpusTells}
 use Rattle.ms_top.specs.Command.{only_input, setup_of}
-use Rattle.ms_top.specs.Explained.{way_with, trace_with, followed, no_report, explained_with}
+use Rattle.ms_top.specs.Explained.{root_calls, way_with, trace_with, followed, no_report, explained_with}
 use Rattle.ms_top.specs.Lines.{AreLines}
 use Rattle.ms_top.specs.Runs.{silent, plain_calls_under, plain_end_calls_under, plain_under}
 use Rattle.ms_top.specs.Said.{answer_of, answer_of_result, answer_of_explained, explored_told, answer_of_explored, answer_of_results, run_text, status_of, tried_text, UnlessThreaded, IsExplanation, AreSections, IsAnswerToModule, IsAnswerToReading, IsAnswerToText}
@@ -52,19 +53,19 @@ run_left verdict m t =
     calling_before m t.calls r.reports (closing_calling no_lines m r t.end_calls verdict)
     ∙ ap (λ (closing : List ℕ). reports_calling no_lines m [] 0 r.reports ++ closing) (closing_left m r t.end_calls verdict ∙ sym (none_called_last no_lines m r verdict))
 
-way_left : (m : Module) (moves : List Move) (at : Source) (hops : Option (List Hop)) → uncalled (way_with no_lines m moves at hops) ≡ way_with no_lines m moves at hops
-way_left m moves at None = refl
-way_left m moves at (Some hops) = trail_left m moves at hops
+way_left : (m : Module) (s : Setup) (moves : List Move) (at : Source) (hops : Option (List Hop)) → uncalled (way_with no_lines true m s moves at hops) ≡ way_with no_lines false m s moves at hops
+way_left m s moves at None = refl
+way_left m s moves at (Some hops) = trail_left m moves at hops (root_calls true m s moves hops) ∙ sym (none_called_first no_lines m moves at hops)
 
-trace_left : (m : Module) (t : Trace) → uncalled (trace_with no_lines m t) ≡ trace_with no_lines m t
-trace_left m NoReport = refl
-trace_left m (TooLong n) = refl
-trace_left m (Found moves at) = way_left m moves at (trail_of moves at)
+trace_left : (m : Module) (s : Setup) (t : Trace) → uncalled (trace_with no_lines true m s t) ≡ trace_with no_lines false m s t
+trace_left m s NoReport = refl
+trace_left m s (TooLong n) = refl
+trace_left m s (Found moves at) = way_left m s moves at (trail_of moves at)
 
-report_left : (m : Module) (rs : List Report) (calls : List Calls) (t : Trace) (none : Bool) → uncalled (if none then no_report else reports_calling no_lines m calls 0 rs ++ trace_with no_lines m t)
-    ≡ (if none then no_report else reports_calling no_lines m [] 0 rs ++ trace_with no_lines m t)
-report_left m rs calls t true = refl
-report_left m rs calls t false = calling_before m calls rs (trace_with no_lines m t) ∙ ap (λ (way : List ℕ). reports_calling no_lines m [] 0 rs ++ way) (trace_left m t)
+report_left : (m : Module) (s : Setup) (rs : List Report) (calls : List Calls) (t : Trace) (none : Bool) → uncalled (if none then no_report else reports_calling no_lines m calls 0 rs ++ trace_with no_lines true m s t)
+    ≡ (if none then no_report else reports_calling no_lines m [] 0 rs ++ trace_with no_lines false m s t)
+report_left m s rs calls t true = refl
+report_left m s rs calls t false = calling_before m calls rs (trace_with no_lines true m s t) ∙ ap (λ (way : List ℕ). reports_calling no_lines m [] 0 rs ++ way) (trace_left m s t)
 
 tried_left : (m : Module) (e : Explored) (calls : List Calls) (last : Option Calls)
     → uncalled (run_text no_lines true m (explored_told e calls last) ++ tried_text e) ≡ run_text no_lines true m (explored_told e [] None) ++ tried_text e
@@ -91,11 +92,11 @@ module _ (under : Lines) (none : under ≡ no_lines) (m : Module) where
       ap without_calls is
       ∙ subst (λ (l : Lines). without_calls (answer_of_explored l m e calls last) ≡ answer_of_explored l m e [] None) (sym none) (ap (answer_of (status_of e.result) e.result.output) (tried_left m e calls last))
 
-  explained_said : (s : Setup) (r : RunResult) (calls : List Calls) (last : Option Calls) (a : Output) → a ≡ answer_of_explained under m s (told r calls last) → without_any_calls a ≡ answer_of_explained under m s (silent r)
+  explained_said : (s : Setup) (r : RunResult) (calls : List Calls) (last : Option Calls) (a : Output) → a ≡ answer_of_explained under true m s (told r calls last) → without_any_calls a ≡ answer_of_explained under false m s (silent r)
   explained_said s r calls last a is =
       ap without_any_calls is
-      ∙ subst (λ (l : Lines). without_any_calls (answer_of_explained l m s (told r calls last)) ≡ answer_of_explained l m s (silent r)) (sym none)
-      (ap₂ (λ (out err : List ℕ). answer_of (status_of r) out err) (report_left m r.reports calls (followed m s) (eqb (length r.reports) 0)) (closing_left m r last true ∙ sym (none_called_last no_lines m r true)))
+      ∙ subst (λ (l : Lines). without_any_calls (answer_of_explained l true m s (told r calls last)) ≡ answer_of_explained l false m s (silent r)) (sym none)
+      (ap₂ (λ (out err : List ℕ). answer_of (status_of r) out err) (report_left m s r.reports calls (followed m s) (eqb (length r.reports) 0)) (closing_left m r last true ∙ sym (none_called_last no_lines m r true)))
 
 -- what is told of many runs, without their calls
 silent_each : (j : Module) (o : Options) (inputs : List (List ℕ)) → map (λ input. plain_told false j (setup_of o input)) inputs ≡ map (λ (t : ToldRun). silent t.result) (map (λ input. plain_told true j (setup_of o input)) inputs)

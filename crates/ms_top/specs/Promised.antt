@@ -30,7 +30,7 @@ use Rattle.ms_threads_schedules_laws.specs.Promise.{RunsAsOne, schedules_tried}
 use Rattle.ms_threads_explore.specs.declared.explorer.Explored.{Explored}
 use Rattle.ms_threads_explore.specs.Explorations.{IsExplored}
 use Rattle.ms_report.specs.RunTexts.{line}
-use Rattle.ms_report.specs.TrailTexts.{trail_with}
+use Rattle.ms_report.specs.TrailTexts.{trail_calling}
 use Rattle.ms_report.specs.WithLines.{Lines}
 use Rattle.ms_report.specs.CallTexts.{reports_calling}
 use Rattle.ms_runtime.specs.ToldRuns.{shadow_told}
@@ -42,7 +42,7 @@ use Rattle.ms_top.specs.declared.output.Output.{Output}
 use Rattle.ms_top.specs.Command.{files_of, only_input, setup_of}
 use Rattle.ms_top.specs.Files.{Counted, CanRead, Whole, Fault, Long}
 use Rattle.ms_top.specs.Lines.{AreLines}
-use Rattle.ms_top.specs.Explained.{too_long, no_report}
+use Rattle.ms_top.specs.Explained.{too_long, no_report, root_calls}
 use Rattle.ms_top.specs.Runs.{shadow_under, shadow_picks_under, shadow_calls_under, shadow_end_calls_under, shadow_told_under, HoldsUnder, CallsHoldUnder}
 use Rattle.ms_top.specs.Said.{answer_of_result, answer_of_results, answer_of_explained, answer_of_explored, says}
 use Rattle.ms_top.specs.Statuses as statuses
@@ -148,7 +148,7 @@ pub record ShowsWay (under : Lines) (calls : Bool) (m : Module) (setup : Setup) 
   pub at : Source
   pub traced : trace m setup ≡ Found moves at
   pub shown : ((4194304 < length moves) × (text ≡ told_reports under calls m setup ++ too_long))
-      ⊎ ((length moves ≤ 4194304) × (way : FromReached m (to_first_report setup) moves at) × (text ≡ told_reports under calls m setup ++ trail_with under m moves at way.hops))
+      ⊎ ((length moves ≤ 4194304) × (way : FromReached m (to_first_report setup) moves at) × (text ≡ told_reports under calls m setup ++ trail_calling under m moves at way.hops (root_calls calls m setup moves way.hops)))
   pub stays : (hops : List Hop) → Leads moves at hops → ReadsToReport m (to_first_report setup) moves at hops
 
 -- The answer a explains what `check` says of the same files with the same options, and shows the way of a report's bits where there
@@ -157,7 +157,7 @@ pub record WayShown (c : Counted) (file : List ℕ) (o : Options) (a : Output) :
   pub checked : Output
   pub shadow_shown : ShadowShown c file o checked
   pub alone : is_threaded shadow_shown.module_read ≡ false
-  pub explained : a ≡ answer_of_explained shadow_shown.under shadow_shown.module_read (setup_of o (only_input shadow_shown.inputs)) (shadow_told o.calls shadow_shown.module_read (setup_of o (only_input shadow_shown.inputs)))
+  pub explained : a ≡ answer_of_explained shadow_shown.under o.calls shadow_shown.module_read (setup_of o (only_input shadow_shown.inputs)) (shadow_told o.calls shadow_shown.module_read (setup_of o (only_input shadow_shown.inputs)))
   pub way : (shadow shadow_shown.module_read (setup_of o (only_input shadow_shown.inputs))).reports ≢ [] → ShowsWay shadow_shown.under o.calls shadow_shown.module_read (setup_of o (only_input shadow_shown.inputs)) a.out
   pub none : (shadow shadow_shown.module_read (setup_of o (only_input shadow_shown.inputs))).reports ≡ [] → a.out ≡ no_report
 

@@ -90,10 +90,10 @@ run_text under verdict m t = reports_calling under m t.calls 0 t.result.reports 
 abbrev pub answer_of_result : Lines → (verdict : Bool) → Module → ToldRun → Output
 answer_of_result under verdict m t = answer_of (status_of t.result) t.result.output (run_text under verdict m t)
 
--- the answer that explains what is told of a module's run with a setup: its report with the way of the bits that this is about, and
--- the closing lines with the verdict
-abbrev pub answer_of_explained : Lines → Module → Setup → ToldRun → Output
-answer_of_explained under m s t = answer_of (status_of t.result) (explained_with under m s t) (closing_calling under m t.result t.end_calls true)
+-- the answer that explains what is told of a module's run with a setup: its report with the way of the bits that this is about, where
+-- calls are wanted with those at its root, and the closing lines with the verdict
+abbrev pub answer_of_explained : Lines → (calls : Bool) → Module → Setup → ToldRun → Output
+answer_of_explained under calls m s t = answer_of (status_of t.result) (explained_with under calls m s t) (closing_calling under m t.result t.end_calls true)
 
 -- ---- many schedules
 
@@ -166,7 +166,7 @@ module _ (Gives : Module → Module → Type 0) where
 
   -- what explains a run of a module that the pass gives, and the moves of the shadow run of the module itself
   abbrev pub IsExplanation : Lines → (calls : Bool) → Setup → Module → Output → Type 0
-  IsExplanation under calls s m a = (j : Module) × Gives m j × (a ≡ answer_of_explained under m s (plain_told calls j s))
+  IsExplanation under calls s m a = (j : Module) × Gives m j × (a ≡ answer_of_explained under calls m s (plain_told calls j s))
 
   -- the answer of `explain`
   abbrev pub IsAnswerOfExplain : Lines → (calls : Bool) → Setup → Module → Output → Type 0

@@ -89,7 +89,7 @@ pub fn law_checks_show_the_shadow_run()
 /// with threads is refused.
 pub fn law_explanations_show_the_way()
     ensures shadow { (under : Lines) (file : List ℕ) (inputs : List (List ℕ)) (o : Options) (m : Module) (a : Output) → is_threaded m ≡ false → let s = setup_of o (only_input inputs) in Fair s
-        → IsAnswerToValid IsInstrumented under (Explain file o) inputs m a → a ≡ answer_of_explained under m s (shadow_told o.calls m s) }
+        → IsAnswerToValid IsInstrumented under (Explain file o) inputs m a → a ≡ answer_of_explained under o.calls m s (shadow_told o.calls m s) }
     ensures way { (under : Lines) (file : List ℕ) (inputs : List (List ℕ)) (o : Options) (m : Module) (a : Output) → is_threaded m ≡ false → let s = setup_of o (only_input inputs) in Fair s
         → IsAnswerToValid IsInstrumented under (Explain file o) inputs m a → (shadow m s).reports ≢ [] → ShowsWay under o.calls m s a.out }
     ensures none { (under : Lines) (file : List ℕ) (inputs : List (List ℕ)) (o : Options) (m : Module) (a : Output) → is_threaded m ≡ false → let s = setup_of o (only_input inputs) in Fair s
@@ -103,7 +103,7 @@ pub fn law_explanations_show_the_way()
 /// What `explain` says holds of every pass whose modules are faithful and name the same calls at their reports.
 pub fn law_faithful_passes_explain<P: Pass>()
     ensures { (under : Lines) (file : List ℕ) (inputs : List (List ℕ)) (o : Options) (m : Module) (a : Output) → ((j : Module) → P.gives m j → Faithful m j × SameCalls m j)
-        → is_threaded m ≡ false → let s = setup_of o (only_input inputs) in Fair s → IsAnswerToValid P.gives under (Explain file o) inputs m a → a ≡ answer_of_explained under m s (shadow_told o.calls m s) }
+        → is_threaded m ≡ false → let s = setup_of o (only_input inputs) in Fair s → IsAnswerToValid P.gives under (Explain file o) inputs m a → a ≡ answer_of_explained under o.calls m s (shadow_told o.calls m s) }
 {}
 
 /// What `instrument` writes is the text of a faithful module, and of no other formed module. `run` says of that text what `check`

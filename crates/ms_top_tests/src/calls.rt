@@ -651,6 +651,45 @@ verdict: poisoned
 ~
 77
 ====
+# The calls that stood at the root are below the first move.
+explain --calls f~
+define ptr @make() {
+  %1 = call ptr @malloc(i64 4)
+  ret ptr %1
+}
+define i32 @use(i32 %0) {
+  %2 = icmp eq i32 %0, 0
+  br i1 %2, label %3, label %4
+3:
+  ret i32 1
+4:
+  ret i32 0
+}
+define i32 @main() {
+  %1 = call ptr @make()
+  %2 = load i32, ptr %1
+  %3 = call i32 @use(i32 %2)
+  ret i32 %3
+}
+declare ptr @malloc(i64)
+~
+report 1: branch at site 4 in @use, part 0, bits 0x1 of i1
+  called at site 9 in @main
+  origin 1: malloc at site 1 in @make
+  move 0: site 1 in @make, root 1 to byte 0x710000000000
+  called at site 7 in @main
+  move 1: site 8 in @main, byte 0x710000000000 to %2 of frame 0
+  move 2: site 9 in @main, %2 of frame 0 to %0 of frame 2
+  move 3: site 3 in @use, %0 of frame 2 to %2 of frame 2
+  use: %2 of frame 2
+~
+end: reported
+reports: 1
+blind: 0
+verdict: poisoned
+~
+77
+====
 # No report and no trap, no line.
 check --calls f~
 define i32 @use(i32 %0) {

@@ -12,4 +12,4 @@ pub returns-clause-closings : goal.returns-clause-closings
 returns-clause-closings c = λ m r calls verdict. closing_left m r calls verdict ∙ closing_alone m r verdict
 
 pub returns-clause-trails : goal.returns-clause-trails
-returns-clause-trails c = λ m moves at hops. trail_left m moves at hops
+returns-clause-trails c = λ m moves at hops calls. trail_left m moves at hops calls

@@ -1,6 +1,6 @@
 use Rattle.ms_report.proofs.WithoutLines.{reports_alone, closing_alone, refusal_alone}
 use Rattle.ms_report.proofs.Unindented.{reports_left, closing_left, refusal_left}
-use Rattle.ms_report.proofs.TrailLines.{trail_left}
+use Rattle.ms_report.proofs.TrailLines.{trail_left, trail_calling_left, none_called_first}
 use Rattle.ms_report.proofs.CallLines.{none_called, none_called_last, calling_left, closing_calling_left}
 use Rattle.ms_report.proofs.laws.law_lines_are_added.Goals as goal
 
@@ -36,3 +36,9 @@ returns-clause-none_in_closing_calls c = λ under m r verdict. none_called_last 
 
 pub returns-clause-taken_out_of_closing_calls : goal.returns-clause-taken_out_of_closing_calls
 returns-clause-taken_out_of_closing_calls c = λ under m r calls verdict all. closing_calling_left under all m r calls verdict
+
+pub returns-clause-none_in_trail_calls : goal.returns-clause-none_in_trail_calls
+returns-clause-none_in_trail_calls c = λ under m moves at hops. none_called_first under m moves at hops
+
+pub returns-clause-taken_out_of_trail_calls : goal.returns-clause-taken_out_of_trail_calls
+returns-clause-taken_out_of_trail_calls c = λ under m moves at hops calls all. trail_calling_left under all m moves at hops calls

@@ -1,14 +1,14 @@
-use Rattle.std.proofs.Common.{◌≡◌, ◌∙◌, Bool, true, false, List, [], if◌then◌else◌, Option, refl, subst}
+use Rattle.std.proofs.Common.{◌∙◌, Option, refl, subst}
 use Rattle.ms_runs.specs.declared.runs.End.{End}
 use Rattle.ms_runs.specs.Plain.{plain}
-use Rattle.ms_runs.specs.Calls.{plain_calls, plain_end_calls}
+use Rattle.ms_runs.specs.Calls.{plain_calls, plain_end_calls, plain_blind, places_of}
 use Rattle.ms_runtime.specs.Going.{ahead}
 use Rattle.ms_runtime.specs.Recorded.{TurnedTold}
 use Rattle.ms_runtime.proofs.RecordedRuns.{told_begun, told_if, ended_if}
 use Rattle.ms_runtime.proofs.runs.run_told.Goals as goal
 
 pub loop-recorded-init : goal.loop-recorded-init
-loop-recorded-init c = (told_begun c.args.m.now c.args.setup.now c.requires.alone _ c.in_ok-running.ensures.begins c.new.ensures.items refl, refl)
+loop-recorded-init c = (told_begun c.args.m.now c.args.setup.now c.requires.alone _ c.in_ok-running.ensures.begins c.new.ensures.items refl c.new-2.ensures, refl)
 
 pub returns-in-Some : goal.returns-in-Some
 returns-in-Some c =
@@ -19,7 +19,8 @@ returns-in-Some c =
     let result = c.into_result.ensures (plain m u) over.0 in
     let calls = c.told_calls.ensures ∙ told_if c.args.wanted c.run_to_pause.new.self.calls.items (plain_calls m u) (λ wanted. over.1 (c.run_to_pause.ensures.wanted ∙ c.loop-recorded.invariant.1 ∙ wanted)) in
     let end_calls = c.told_end.ensures ∙ ended_if c.args.wanted c.run_to_pause.new.self.ended (plain_end_calls m u) (λ wanted. over.2 (c.run_to_pause.ensures.wanted ∙ c.loop-recorded.invariant.1 ∙ wanted)) in
-    λ i. record { result = result i; calls = calls i; end_calls = end_calls i }
+    let places = c.into_places.ensures (places_of (plain_blind m u)) (λ wanted. over.3 (c.run_to_pause.ensures.wanted ∙ c.loop-recorded.invariant.1 ∙ wanted)) in
+    λ i. record { result = result i; calls = calls i; end_calls = end_calls i; places = places i }
 
 pub loop-recorded-smaller : goal.loop-recorded-smaller
 loop-recorded-smaller c =

@@ -1,5 +1,6 @@
-use Rattle.std.proofs.Common.{List, ◌∷◌, Vec, Global, length, refl, sym, subst, ◌∙◌}
+use Rattle.std.proofs.Common.{List, ◌∷◌, Vec, Global, length, ltb, if◌then◌else◌, refl, sym, subst, ◌∙◌}
 use Rattle.ms_runs.specs.declared.runs.Calls.{Calls}
+use Rattle.ms_runs.specs.Calls.{counted_at}
 use Rattle.ms_host.specs.declared.calls.Answer.{Answer}
 use Rattle.ms_machine_frames.specs.declared.frames.Frame.{Frame as Kept}
 use Rattle.ms_machine_frames.specs.Standing.{frames_of}
@@ -7,8 +8,10 @@ use Rattle.ms_machine_steps.specs.Waiting.{answered}
 use Rattle.ms_machine.specs.Running.{AllStandFor}
 use Rattle.ms_runtime.specs.Answering.{AnsweredFor}
 use Rattle.ms_runtime.specs.Going.{ahead}
+use Rattle.ms_runtime.specs.declared.places.BlindPlaces.{BlindPlaces}
+use Rattle.ms_runtime.specs.Places.{Placed}
 use Rattle.ms_runtime.specs.Recorded.{Noted}
-use Rattle.ms_runtime.proofs.RecordedRuns.{runs_there, callers_there, answer_ended, answer_goes}
+use Rattle.ms_runtime.proofs.RecordedRuns.{runs_there, callers_there, places_before, answer_ended, answer_goes}
 use Rattle.ms_runtime.proofs.runs.Recorded.answer_call.Goals as goal
 
 pub answer_of-requires : goal.answer_of-requires
@@ -19,6 +22,11 @@ note_calls-requires c =
     let q = c.requires.paused in
     runs_there c.args.m.now q.0 c.program-code.result.now c.program-code.ensures c.law_valid.ensures.formed c.law_valid.ensures.valid c.args.call c.args.self.now q.1.1 c.answer_of.new.self c.in_ok-answer.answer
     (c.in_ok-answer.ensures.answered q.0 q.1.0 q.1.1.paused.asking)
+
+pub note-requires : goal.note-requires
+note-requires c =
+    let q = c.requires.paused in
+    places_before c.args.m.now q.0 c.program-code.result.now c.program-code.ensures c.law_valid.ensures.formed c.law_valid.ensures.valid c.args.call c.args.self.now q.1.1 c.answer_of.new.self
 
 pub resume-requires : goal.resume-requires
 resume-requires c =
@@ -49,8 +57,12 @@ returns-in_ok-note_end-in-Ended c = record {
       (subst (λ (x : Answer). AnsweredFor m u c.args.call b.paused.asking.within x c.args.self.now.running c.answer_of.new.self) c.in-Ended.is answered)
       c.note_end.new.self c.note_end.ensures.running c.note_end.ensures.wanted
       (λ wanted.
-      subst (λ (v : Vec Calls Global). Noted m c.answer_of.new.self.fiber 0 (length c.answer_of.new.self.told.reports) c.args.self.now.calls.items v.items) (sym c.note_end.ensures.calls) (c.in_ok-note_calls.ensures wanted))
-      (λ wanted. c.in_ok-note_end-in-Ended.ensures.ended b.paused.asking.within.frames there wanted) (ahead m c.args.self.now.running);
+          subst (λ (v : Vec Calls Global). Noted m c.answer_of.new.self.fiber 0 (length c.answer_of.new.self.told.reports) c.args.self.now.calls.items v.items) (sym c.note_end.ensures.calls) (c.in_ok-note_calls.ensures wanted))
+      (λ wanted. c.in_ok-note_end-in-Ended.ensures.ended b.paused.asking.within.frames there wanted)
+      (λ wanted places held.
+          subst (λ (kept : BlindPlaces). Placed (if ltb c.args.self.now.running.told.blind c.answer_of.new.self.told.blind then counted_at c.args.call.site places else places) kept) (sym c.note_end.ensures.places)
+          (c.in_ok-note.ensures wanted places held))
+      (ahead m c.args.self.now.running);
 }
 
 pub returns-in-Resumed : goal.returns-in-Resumed
@@ -60,7 +72,7 @@ returns-in-Resumed c = record {
       let m = c.args.m.now in
       answer_goes m u c.program-code.result.now c.program-code.ensures c.law_valid.ensures.formed c.law_valid.ensures.valid c.args.call c.args.self.now b c.answer_of.new.self c.in-Resumed.value
       (subst (λ (x : Answer). AnsweredFor m u c.args.call b.paused.asking.within x c.args.self.now.running c.answer_of.new.self) c.in-Resumed.is (c.in_ok-answer.ensures.answered u same b.paused.asking))
-      _ refl refl c.in_ok-note_calls.ensures
+      _ refl refl c.in_ok-note_calls.ensures c.in_ok-note.ensures
       refl refl refl refl (c.keep.ensures.at ∙ c.resume.ensures.at)
       (record { spawned = c.keep.ensures.own.spawned ∙ c.resume.ensures.own.spawned; heap = c.keep.ensures.own.heap ∙ c.resume.ensures.own.heap })
       (λ frame below stands waits. subst (λ (ks : List Kept). AllStandFor m ks (answered m c.in-Resumed.value frame ∷ below)) (sym c.keep.ensures.frames) (c.resume.ensures.stands u frame below c.args.call stands waits));

@@ -3,6 +3,7 @@ use Rattle.ms_runs.specs.declared.runs.End.{End}
 use Rattle.ms_machine_frames.specs.declared.pauses.Pause.{Pause}
 use Rattle.ms_machine_steps.specs.Advances.{Advanced}
 use Rattle.ms_machine.specs.Running.{IsRunning}
+use Rattle.ms_machine.proofs.CallSites.{callers_run}
 use Rattle.ms_runtime.specs.declared.runs.Running.{Running}
 use Rattle.ms_runtime.specs.Going.{ahead}
 use Rattle.ms_runtime.specs.Recorded.{TurnedTold}
@@ -33,19 +34,32 @@ answer_call-requires c =
       );
     }
 
-pub returns-in-Spent : goal.returns-in-Spent
-returns-in-Spent c = record {
-  wanted = refl;
+pub note_end-requires : goal.note_end-requires
+note_end-requires c =
+    let m = c.args.m.now in
+    let q = c.requires.going in
+    let u = q.0 in
+    let g = q.1.1 in
+    let old = c.args.self.now.running in
+    let h = subst (λ (x : Pause). Advanced (IsRunning m u g.going.beside) m u g.going.beside g.going.state old.budget.left old.fiber.frame.at x c.advance.new.fiber c.advance.new.world c.advance.new.budget.left) c.in-Spent.is
+    (c.in_ok-advance.ensures.advanced u g.going.beside g.going.state g.going.stands) in
+    (h.last.frames, callers_run m c.advance.new.fiber u g.going.beside c.advance.new.world h.last h.stands)
+
+pub returns-in_ok-note_end-in-Spent : goal.returns-in_ok-note_end-in-Spent
+returns-in_ok-note_end-in-Spent c = record {
+  wanted = c.note_end.ensures.wanted;
   turned = λ u same g.
       let m = c.args.m.now in
       let old = c.args.self.now.running in
-      turn_spent m u c.args.self.now g (record old { fiber = c.advance.new.fiber; world = c.advance.new.world; budget = c.advance.new.budget }) refl refl
-      (subst (λ (x : Pause). Advanced (IsRunning m u g.going.beside) m u g.going.beside g.going.state old.budget.left old.fiber.frame.at x c.advance.new.fiber c.advance.new.world c.advance.new.budget.left) c.in-Spent.is
-      (c.in_ok-advance.ensures.advanced u g.going.beside g.going.state g.going.stands));
+      let h = subst (λ (x : Pause). Advanced (IsRunning m u g.going.beside) m u g.going.beside g.going.state old.budget.left old.fiber.frame.at x c.advance.new.fiber c.advance.new.world c.advance.new.budget.left) c.in-Spent.is
+      (c.in_ok-advance.ensures.advanced u g.going.beside g.going.state g.going.stands) in
+      turn_spent m u c.args.self.now g (record old { fiber = c.advance.new.fiber; world = c.advance.new.world; budget = c.advance.new.budget }) refl refl h
+      c.note_end.new.self c.note_end.ensures.running c.note_end.ensures.wanted c.note_end.ensures.calls c.note_end.ensures.places
+      (λ wanted. c.in_ok-note_end-in-Spent.ensures.ended h.last.frames (callers_run m c.advance.new.fiber u g.going.beside c.advance.new.world h.last h.stands) wanted);
 }
 
-pub note_end-requires : goal.note_end-requires
-note_end-requires c =
+pub note_end-2-requires : goal.note_end-2-requires
+note_end-2-requires c =
     let m = c.args.m.now in
     let q = c.requires.going in
     let u = q.0 in
@@ -55,16 +69,16 @@ note_end-requires c =
     (c.in_ok-advance.ensures.advanced u g.going.beside g.going.state g.going.stands) in
     (h.within.frames, h.callers)
 
-pub returns-in_ok-note_end-in-Ended : goal.returns-in_ok-note_end-in-Ended
-returns-in_ok-note_end-in-Ended c = record {
-  wanted = c.note_end.ensures.wanted;
+pub returns-in_ok-note_end-2-in-Ended : goal.returns-in_ok-note_end-2-in-Ended
+returns-in_ok-note_end-2-in-Ended c = record {
+  wanted = c.note_end-2.ensures.wanted;
   turned = λ u same g.
       let m = c.args.m.now in
       let old = c.args.self.now.running in
       let h = subst (λ (x : Pause). Advanced (IsRunning m u g.going.beside) m u g.going.beside g.going.state old.budget.left old.fiber.frame.at x c.advance.new.fiber c.advance.new.world c.advance.new.budget.left) c.in-Ended.is
       (c.in_ok-advance.ensures.advanced u g.going.beside g.going.state g.going.stands) in
       turn_ended m u c.args.self.now g (record old { fiber = c.advance.new.fiber; world = c.advance.new.world; budget = c.advance.new.budget }) refl refl c.in-Ended.end h
-      c.note_end.new.self c.note_end.ensures.running c.note_end.ensures.wanted c.note_end.ensures.calls (λ wanted. c.in_ok-note_end-in-Ended.ensures.ended h.within.frames h.callers wanted);
+      c.note_end-2.new.self c.note_end-2.ensures.running c.note_end-2.ensures.wanted c.note_end-2.ensures.calls c.note_end-2.ensures.places (λ wanted. c.in_ok-note_end-2-in-Ended.ensures.ended h.within.frames h.callers wanted);
 }
 
 pub returns-in-Finished : goal.returns-in-Finished
@@ -78,7 +92,7 @@ returns-in-Finished c = record {
       (turn_finished m u c.args.self.now g later refl refl c.in-Finished.value
       (subst (λ (x : Pause). Advanced (IsRunning m u g.going.beside) m u g.going.beside g.going.state old.budget.left old.fiber.frame.at x c.advance.new.fiber c.advance.new.world c.advance.new.budget.left) c.in-Finished.is
       (c.in_ok-advance.ensures.advanced u g.going.beside g.going.state g.going.stands))
-      c.note_alone.new.self c.note_alone.ensures.running c.note_alone.ensures.wanted c.note_alone.ensures.calls c.note_alone.ensures.ended);
+      c.note_alone.new.self c.note_alone.ensures.running c.note_alone.ensures.wanted c.note_alone.ensures.calls c.note_alone.ensures.places c.note_alone.ensures.ended);
 }
 
 pub returns-in-Asked : goal.returns-in-Asked

@@ -9,5 +9,5 @@ pub returns : goal.returns
 returns g c =
     let job = c.args.self.now in
     if_ok c.lines_of_trace.result
-    (λ text is. run_lines (g.L.SiteLines.lines job.lines.now) job.m.now c.module.result.now c.args.setup.now c.in_ok-found.found text.items c.module.ensures c.in_ok-found.ensures is)
+    (λ text is. run_lines (g.L.SiteLines.lines job.lines.now) c.args.calls job.m.now c.args.setup.now c.in_ok-found.found text.items c.in_ok-found.ensures is)
     c.lines_of_trace.ensures
