@@ -1,10 +1,10 @@
 -- What `clap` finds in accepted words: the value of each option, and the files.
-use Rattle.std.proofs.Common.{◌≡◌, ◌∙◌, ◌++◌, ◌≤◌, ◌&&◌, ◌||◌, Bool, true, false, not, List, [], ◌∷◌, Option, Some, None, refl, sym, ap, ap₂, subst, codes, length, arith, fold, cond, append-nil, true≢false}
+use Rattle.std.proofs.Common.{◌≡◌, ◌∙◌, ◌++◌, ◌≤◌, ◌&&◌, ◌||◌, Bool, true, false, List, [], ◌∷◌, Option, Some, None, refl, sym, ap, ap₂, subst, codes, length, arith, fold, cond, append-nil, true≢false}
 use Rattle.std.specs.Prelude.{All, ◌^◌, ◌-◌, bytes_eq, is_some, slice_get, unwrap_or, option_map, drop, nat_le, if◌then◌else◌}
 use Rattle.std.specs.List.{list_all, list_any}
 use Rattle.std.specs.Option.{option_map_or}
 use Rattle.std.proofs.lemmas.Bool.{and_parts, le-leb}
-use Rattle.clap.specs.Words.{App, Row, Rule, matches_of, rows_of, takes as takes_words, first_of, all_of, first_value, matched_of, raw_values}
+use Rattle.clap.specs.Words.{App, Row, Rule, matches_of, rows_of, takes as takes_words, first_of, all_of, first_value}
 use Rattle.clap.specs.Walk.{Names, Walk, walk, walked, nothing_held, used_by_id, more_values, reading_by, with_default, has_row, settled, finished, arg_by_id, arg_by_index}
 use Rattle.clap.specs.Simple.{argument_words, built, entered, is_simple, names_of}
 use Rattle.clap.specs.Takes.{default_passes, entered_passes, is_valid, level_passes, settle_passes, turn_passes, use_passes, value_passes, walk_passes}
@@ -22,7 +22,7 @@ use Rattle.ms_words.specs.declared.names.Takes.TheVariants.{Nothing, Anything, H
 use Rattle.ms_words.specs.Table.{Word, takes, option_word, options_of}
 use Rattle.ms_words.specs.Values.{hex_bytes, value_fault}
 use Rattle.ms_words.specs.Reading.{Given, takes_nothing, option_eq}
-use Rattle.ms_words.specs.Words.{value_of, number_by, options_by, no_schedule, check_by, command_by, command_given}
+use Rattle.ms_words.specs.Words.{value_of, number_by, no_schedule, check_by, command_by, command_given}
 use Rattle.ms_words.specs.ClapForm.{app_for, spelled, spelled_options}
 use Rattle.ms_words.specs.Fields.{Fits, FitsRun, FitsReports, FitsScheduled, found_value, found_file, found_inputs, found_by}
 use Rattle.ms_words.specs.Accepted.{Whole}
@@ -59,7 +59,7 @@ reads Run = record {
   simple = refl;
   names = refl;
   binary = refl;
-  known = (refl, (refl, (refl, (refl, (refl, (refl, (refl, tt)))))));
+  known = (refl, (refl, (refl, (refl, (refl, (refl, (refl, (refl, tt))))))));
   apart = refl;
   index = refl;
   files = refl;
@@ -71,7 +71,7 @@ reads Check = record {
   simple = refl;
   names = refl;
   binary = refl;
-  known = (refl, (refl, (refl, (refl, (refl, (refl, (refl, (refl, (refl, tt)))))))));
+  known = (refl, (refl, (refl, (refl, (refl, (refl, (refl, (refl, (refl, (refl, tt))))))))));
   apart = refl;
   index = refl;
   files = refl;
@@ -95,7 +95,7 @@ reads Corpus = record {
   simple = refl;
   names = refl;
   binary = refl;
-  known = (refl, (refl, (refl, (refl, (refl, (refl, tt))))));
+  known = (refl, (refl, (refl, (refl, (refl, (refl, (refl, tt)))))));
   apart = refl;
   index = refl;
   files = refl;
@@ -130,6 +130,7 @@ apart_from_files option.Functions = (refl, refl)
 apart_from_files option.Run = (refl, refl)
 apart_from_files option.Where = (refl, refl)
 apart_from_files option.Calls = (refl, refl)
+apart_from_files option.Once = (refl, refl)
 
 -- ---- the rows of accepted words
 
@@ -215,7 +216,7 @@ rows_at_end c g =
     ap₂ (λ (names : Names) (words : List Word). finished (rules_for c) (walk (rules_for c) names nothing_held words).held) (reads c).names (words_after c g)
     ∙ ap (λ (w : Walk). finished (rules_for c) w.held) (walk_ends c g)
     ∙ ap (λ (rows : List Row). fold with_default rows (rules_for c))
-    (settled_end (rules_for c) (reads c).files (all_rows (options_of c) g) g.files (has_none (codes "files") _ (no_files_yet (options_of c) g)))
+    (settled_end (rules_for c) (reads c).files (all_rows (options_of c) g) g.files (has_none (codes "files") (all_rows (options_of c) g) (no_files_yet (options_of c) g)))
 
 -- ---- the command of `clap` takes accepted words
 
@@ -394,6 +395,7 @@ fields_found Run g f whole are =
     let schedule = value_found Run g f are option.Schedule refl refl in
     let locations = flag_found Run g f are option.Where refl in
     let calls = flag_found Run g f are option.Calls refl in
+    let once = flag_found Run g f are option.Once refl in
     λ i. made.Run (file i) (record {
       input = input i;
       fill = option_map_or hex_bytes (fill i) [];
@@ -402,6 +404,7 @@ fields_found Run g f whole are =
       schedule = option_map_or hex_bytes (schedule i) [];
       locations = locations i;
       calls = calls i;
+      once = once i;
     })
 fields_found Check g f whole are =
     let file = file_found Check g f are (omega (arith, whole.enough)) in
@@ -414,6 +417,7 @@ fields_found Check g f whole are =
     let workers = value_found Check g f are option.Workers refl refl in
     let locations = flag_found Check g f are option.Where refl in
     let calls = flag_found Check g f are option.Calls refl in
+    let once = flag_found Check g f are option.Once refl in
     λ i. check_by (schedules i) (record {
       input = input i;
       fill = option_map_or hex_bytes (fill i) [];
@@ -422,6 +426,7 @@ fields_found Check g f whole are =
       schedule = option_map_or hex_bytes (schedule i) [];
       locations = locations i;
       calls = calls i;
+      once = once i;
     }) (number_by (schedules i)) (number_by (workers i)) (file i)
 fields_found Explain g f whole are =
     let file = file_found Explain g f are (omega (arith, whole.enough)) in
@@ -438,6 +443,7 @@ fields_found Explain g f whole are =
       schedule = no_schedule;
       locations = locations i;
       calls = calls i;
+      once = false;
     })
 fields_found Corpus g f whole are =
     let file = file_found Corpus g f are (omega (arith, whole.enough)) in
@@ -448,6 +454,7 @@ fields_found Corpus g f whole are =
     let reports = value_found Corpus g f are option.Reports refl refl in
     let locations = flag_found Corpus g f are option.Where refl in
     let calls = flag_found Corpus g f are option.Calls refl in
+    let once = flag_found Corpus g f are option.Once refl in
     λ i. made.Corpus (file i) (inputs i) (record {
       input = None;
       fill = option_map_or hex_bytes (fill i) [];
@@ -456,6 +463,7 @@ fields_found Corpus g f whole are =
       schedule = no_schedule;
       locations = locations i;
       calls = calls i;
+      once = once i;
     }) (number_by (workers i))
 fields_found Gen g f whole are =
     let seed = value_found Gen g f are option.Seed refl refl in

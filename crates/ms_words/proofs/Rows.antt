@@ -1,9 +1,9 @@
 -- Rows of what `clap` finds: a new one is the last, and what is found among them.
-use Rattle.std.proofs.Common.{◌≡◌, ◌∙◌, ◌++◌, ◌&&◌, ◌||◌, Bool, true, false, not, cond, List, [], ◌∷◌, Option, Some, None, is_some, refl, sym, ap, find, append-nil, true≢false, if◌then◌else◌}
+use Rattle.std.proofs.Common.{◌≡◌, ◌∙◌, ◌++◌, ◌||◌, Bool, true, false, not, cond, List, [], ◌∷◌, Option, Some, None, is_some, refl, sym, ap, find, append-nil, true≢false, if◌then◌else◌}
 use Rattle.std.specs.Prelude.{bytes_eq, fold, option_and_then, slice_get}
 use Rattle.std.specs.List.{list_all}
 use Rattle.std.proofs.lemmas.Bool.{and_parts}
-use Rattle.clap.specs.Walk.{Row, Rule, at_row, has_row, first_of, with_values, without, more_values, with_default, default_rows, reading_by}
+use Rattle.clap.specs.Walk.{Row, Rule, at_row, has_row, with_values, without, more_values, with_default, default_rows, reading_by}
 use Rattle.clap.specs.declared.builder.value_parser.Reading.{Reading}
 use Rattle.clap.specs.declared.parser.matches.ValueSource.{ValueSource}
 use Rattle.clap.specs.declared.parser.matches.ValueSource.TheVariants.{CommandLine, DefaultValue}

@@ -1,16 +1,16 @@
 -- How `clap` walks over accepted words: each option that has a value adds one row, and the files are kept together.
 use Rattle.std.proofs.Common.{◌≡◌, ◌∙◌, ◌++◌, ◌&&◌, ◌||◌, Bool, true, false, not, cond, List, [], ◌∷◌, Option, Some, None, refl, sym, ap, ap₂, append-nil, append_assoc, codes, true≢false, if◌then◌else◌}
-use Rattle.std.specs.Prelude.{bytes_eq, fold, is_some, ⊤}
+use Rattle.std.specs.Prelude.{bytes_eq, ⊤}
 use Rattle.std.specs.List.{list_all}
 use Rattle.std.specs.Option.{option_map_or}
 use Rattle.std.proofs.lemmas.Bool.{and_parts}
-use Rattle.clap.specs.Walk.{Held, Outcome, Row, Rule, Step, Walk, walked, idle, positional, next, trailing, word_met, long_or_other, long_met, after_flag, after_step, to_positional, with_values, without, has_row, arg_by_long, arg_by_index, reading_by}
+use Rattle.clap.specs.Walk.{Held, Row, Rule, Step, Walk, walked, idle, positional, next, trailing, word_met, long_or_other, long_met, after_flag, after_step, to_positional, with_values, without, has_row, arg_by_long, arg_by_index, reading_by}
 use Rattle.clap.specs.Simple.{Shape, filled, with_index}
-use Rattle.clap.specs.Takes.{walk_passes, turn_passes, step_passes, long_passes, flag_word_passes, positional_passes}
+use Rattle.clap.specs.Takes.{turn_passes, step_passes, long_passes, flag_word_passes, positional_passes}
 use Rattle.clap.specs.Lexer.{long_of}
 use Rattle.clap.specs.declared.parser.matches.ValueSource.TheVariants.{CommandLine}
 use Rattle.ms_words.specs.declared.names.OptionName.{OptionName}
-use Rattle.ms_words.specs.declared.names.OptionName.TheVariants.{Input, Fill, Steps, Reports, Schedule, Schedules, Workers, Seed, Functions, Run, Where, Calls}
+use Rattle.ms_words.specs.declared.names.OptionName.TheVariants.{Input, Fill, Steps, Reports, Schedule, Schedules, Workers, Seed, Functions, Run, Where, Calls, Once}
 use Rattle.ms_words.specs.declared.names.Takes.{Takes}
 use Rattle.ms_words.specs.declared.names.Takes.TheVariants.{Nothing, Anything, Hex, Number}
 use Rattle.ms_words.specs.Table.{Word, takes, option_word}
@@ -68,6 +68,7 @@ word_read Functions v = (refl, refl)
 word_read Run v = (refl, refl)
 word_read Where v = (refl, refl)
 word_read Calls v = (refl, refl)
+word_read Once v = (refl, refl)
 
 -- ---- options that are apart
 
