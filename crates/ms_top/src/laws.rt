@@ -2,9 +2,10 @@
 
 ghost use Rattle.std.specs.Prelude.{◌≡◌, ◌≢◌, ◌⊎◌, ℕ, true, false, ◌^◌, ◌<◌, ◌≤◌, Bool, List, [], ◌∷◌, ◌++◌, All, length, map, take, Some, None, Ok, codes, find};
 ghost use Rattle.ms_io.specs.{Counts.{Rose}, Reading.{Holdings}};
-ghost use Rattle.ms_ir.specs.{declared.syntax.Module.{Module}, ThreadCalls.{is_threaded}};
+ghost use Rattle.ms_ir.specs.{declared.syntax.Module.{Module}, Instructions.{NoMarks}, ThreadCalls.{is_threaded}};
 ghost use Rattle.ms_ir.specs.declared.forms.Form.TheVariants.{Plain};
-ghost use Rattle.ms_runs.specs.{declared.runs.RunResult.{RunResult}, declared.runs.Setup.{Setup}, Calls.{SameCalls}, Faithful.{Fair, Faithful}, Once.{firsts}, Shadow.{shadow}};
+ghost use Rattle.ms_runs.specs.declared.runs.End.TheVariants.{Reported};
+ghost use Rattle.ms_runs.specs.{declared.runs.RunResult.{RunResult}, declared.runs.Setup.{Setup}, Calls.{shadow_end_calls, SameCalls}, Faithful.{Fair, Faithful}, Once.{firsts}, Shadow.{shadow}};
 ghost use Rattle.ms_runtime.specs.declared.runs.ToldRun.{ToldRun};
 ghost use Rattle.ms_corpus.specs.Wanted.{shadow_wanted, silent};
 ghost use Rattle.ms_runs_fills_laws.specs.{Checked.{HoldsUnderFills}, Once.{each_time}};
@@ -15,7 +16,7 @@ ghost use Rattle.ms_text_laws.specs.Fits.{FitsText};
 ghost use Rattle.ms_pass_form_laws.specs.Elided.{IsElided};
 ghost use Rattle.ms_top.specs.{declared.output.Output.{Output}, Answered.{AreHeld, IsTaken, IsDoneStatus, Begins}};
 ghost use Rattle.ms_top.specs.Added.{with_locations, without_places, without_told_calls, without_lines, without_any_lines, CorpusAdds, telling, without_calls, without_any_calls, CorpusTells};
-ghost use Rattle.ms_top.specs.{Command.{files_of, form_of, input_limit, only_input, setup_of, wanted_of}, Explained.{no_report}};
+ghost use Rattle.ms_top.specs.{Command.{files_of, form_of, input_limit, only_input, setup_of, wanted_of}, Explained.{calls_before, no_report, shortened}};
 ghost use Rattle.ms_top.specs.Files.{Counted, CanRead, Whole};
 ghost use Rattle.ms_top.specs.Promised.{CorpusShown, NothingRan, SchedulesShown, ShadowShown, ThreadsRefused, ShowsWay, WayShown};
 ghost use Rattle.ms_top.specs.{Runs.{shadow_told_under, shadow_under, shadow_places_under, CallsHoldUnder, HoldsUnder}, Instrumented.{IsInstrumented}};
@@ -92,8 +93,9 @@ pub fn law_checks_show_the_shadow_run()
 /// What `explain` says of a checked module is the first report of its shadow run, where the setup is fair, with the way of that
 /// report's bits over the moves of that run, or that there is none; the closing lines are those of `check`. The way begins at a root
 /// that the run had reached, each place on it is what the next move reads, and the last is what the report's use reads. From the state
-/// after a move up to the one in which the next one reads it, the same bits of a place stay poisoned, and there are some. A module
-/// with threads is refused.
+/// after a move up to the one in which the next one reads it, the same bits of a place stay poisoned, and there are some. The calls at
+/// its root are those that stand before the step of its first move in the run of the module itself; where the shadow run has no report
+/// before that step they stand there in it. A module with threads is refused.
 pub fn law_explanations_show_the_way()
     ensures shadow { (under : Lines) (file : List ℕ) (inputs : List (List ℕ)) (o : Options) (m : Module) (a : Output) → is_threaded m ≡ false → let s = setup_of o (only_input inputs) in Fair s
         → IsAnswerToValid IsInstrumented under (Explain file o) inputs m a → a ≡ answer_of_explained under o.calls m s (shadow_wanted (wanted_of o) m s) }
@@ -101,6 +103,8 @@ pub fn law_explanations_show_the_way()
         → IsAnswerToValid IsInstrumented under (Explain file o) inputs m a → (shadow m s).reports ≢ [] → ShowsWay under o.calls m s a.out }
     ensures none { (under : Lines) (file : List ℕ) (inputs : List (List ℕ)) (o : Options) (m : Module) (a : Output) → is_threaded m ≡ false → let s = setup_of o (only_input inputs) in Fair s
         → IsAnswerToValid IsInstrumented under (Explain file o) inputs m a → (shadow m s).reports ≡ [] → a.out ≡ no_report }
+    ensures root { (m : Module) (s : Setup) (event : ℕ) → NoMarks m → (shadow m (shortened s event)).«end» ≢ Reported
+        → calls_before m s (Some event) ≡ shadow_end_calls m (shortened s event) }
     ensures threads { (under : Lines) (file : List ℕ) (o : Options) (inputs : List (List ℕ)) (m : Module) (a : Output) → is_threaded m ≡ true
         → IsAnswerToValid IsInstrumented under (Explain file o) inputs m a → a ≡ says statuses.refused threads_text }
 {
