@@ -59,7 +59,7 @@ reads Run = record {
   simple = refl;
   names = refl;
   binary = refl;
-  known = (refl, (refl, (refl, (refl, (refl, (refl, (refl, tt)))))));
+  known = (refl, (refl, (refl, (refl, (refl, (refl, (refl, (refl, tt))))))));
   apart = refl;
   index = refl;
   files = refl;
@@ -71,7 +71,7 @@ reads Check = record {
   simple = refl;
   names = refl;
   binary = refl;
-  known = (refl, (refl, (refl, (refl, (refl, (refl, (refl, (refl, (refl, tt)))))))));
+  known = (refl, (refl, (refl, (refl, (refl, (refl, (refl, (refl, (refl, (refl, tt))))))))));
   apart = refl;
   index = refl;
   files = refl;
@@ -95,7 +95,7 @@ reads Corpus = record {
   simple = refl;
   names = refl;
   binary = refl;
-  known = (refl, (refl, (refl, (refl, (refl, (refl, tt))))));
+  known = (refl, (refl, (refl, (refl, (refl, (refl, (refl, tt)))))));
   apart = refl;
   index = refl;
   files = refl;
@@ -130,6 +130,7 @@ apart_from_files option.Functions = (refl, refl)
 apart_from_files option.Run = (refl, refl)
 apart_from_files option.Where = (refl, refl)
 apart_from_files option.Calls = (refl, refl)
+apart_from_files option.Once = (refl, refl)
 
 -- ---- the rows of accepted words
 
@@ -394,6 +395,7 @@ fields_found Run g f whole are =
     let schedule = value_found Run g f are option.Schedule refl refl in
     let locations = flag_found Run g f are option.Where refl in
     let calls = flag_found Run g f are option.Calls refl in
+    let once = flag_found Run g f are option.Once refl in
     λ i. made.Run (file i) (record {
       input = input i;
       fill = option_map_or hex_bytes (fill i) [];
@@ -402,6 +404,7 @@ fields_found Run g f whole are =
       schedule = option_map_or hex_bytes (schedule i) [];
       locations = locations i;
       calls = calls i;
+      once = once i;
     })
 fields_found Check g f whole are =
     let file = file_found Check g f are (omega (arith, whole.enough)) in
@@ -414,6 +417,7 @@ fields_found Check g f whole are =
     let workers = value_found Check g f are option.Workers refl refl in
     let locations = flag_found Check g f are option.Where refl in
     let calls = flag_found Check g f are option.Calls refl in
+    let once = flag_found Check g f are option.Once refl in
     λ i. check_by (schedules i) (record {
       input = input i;
       fill = option_map_or hex_bytes (fill i) [];
@@ -422,6 +426,7 @@ fields_found Check g f whole are =
       schedule = option_map_or hex_bytes (schedule i) [];
       locations = locations i;
       calls = calls i;
+      once = once i;
     }) (number_by (schedules i)) (number_by (workers i)) (file i)
 fields_found Explain g f whole are =
     let file = file_found Explain g f are (omega (arith, whole.enough)) in
@@ -438,6 +443,7 @@ fields_found Explain g f whole are =
       schedule = no_schedule;
       locations = locations i;
       calls = calls i;
+      once = false;
     })
 fields_found Corpus g f whole are =
     let file = file_found Corpus g f are (omega (arith, whole.enough)) in
@@ -448,6 +454,7 @@ fields_found Corpus g f whole are =
     let reports = value_found Corpus g f are option.Reports refl refl in
     let locations = flag_found Corpus g f are option.Where refl in
     let calls = flag_found Corpus g f are option.Calls refl in
+    let once = flag_found Corpus g f are option.Once refl in
     λ i. made.Corpus (file i) (inputs i) (record {
       input = None;
       fill = option_map_or hex_bytes (fill i) [];
@@ -456,6 +463,7 @@ fields_found Corpus g f whole are =
       schedule = no_schedule;
       locations = locations i;
       calls = calls i;
+      once = once i;
     }) (number_by (workers i))
 fields_found Gen g f whole are =
     let seed = value_found Gen g f are option.Seed refl refl in

@@ -7,7 +7,7 @@ use Rattle.std.proofs.lemmas.Bool.{and_parts, leb-true}
 use Rattle.std.proofs.lemmas.List.Elements.{All-head, All-tail}
 use Rattle.ms_words.specs.declared.commands.WordsError.TheVariants as e
 use Rattle.ms_words.specs.declared.names.OptionName.{OptionName}
-use Rattle.ms_words.specs.declared.names.OptionName.TheVariants.{Input, Fill, Steps, Reports, Schedule, Schedules, Workers, Seed, Functions, Run, Where, Calls}
+use Rattle.ms_words.specs.declared.names.OptionName.TheVariants.{Input, Fill, Steps, Reports, Schedule, Schedules, Workers, Seed, Functions, Run, Where, Calls, Once}
 use Rattle.ms_words.specs.declared.names.Takes.{Takes}
 use Rattle.ms_words.specs.declared.names.Takes.TheVariants.{Hex, Number}
 use Rattle.ms_words.specs.Table.{Word, takes, default_of}
@@ -33,6 +33,7 @@ default_good Functions = tt
 default_good Run = tt
 default_good Where = tt
 default_good Calls = tt
+default_good Once = tt
 
 found_if : (b : Bool) (o : OptionName) (p : OptionName × Word) (rest : Option (OptionName × Word)) → option_eq p.0 o ≡ b → value_fault (takes p.0) 0 p.1 ≡ None
     → IsGood o (option_map (λ q. q.1) rest) → IsGood o (option_map (λ q. q.1) (cond b (Some p) rest))

@@ -5,7 +5,7 @@ use Rattle.ms_words.specs.declared.names.CommandName.{CommandName}
 use Rattle.ms_words.specs.declared.names.CommandName.TheVariants.{Instrument, Check, Explain, Corpus, Gen}
 use Rattle.ms_words.specs.declared.names.CommandName.TheVariants as name
 use Rattle.ms_words.specs.declared.names.OptionName.{OptionName}
-use Rattle.ms_words.specs.declared.names.OptionName.TheVariants.{Input, Fill, Steps, Reports, Schedule, Schedules, Workers, Seed, Functions, Run, Where, Calls}
+use Rattle.ms_words.specs.declared.names.OptionName.TheVariants.{Input, Fill, Steps, Reports, Schedule, Schedules, Workers, Seed, Functions, Run, Where, Calls, Once}
 use Rattle.ms_words.specs.Table.{option_word, options_of, most_files}
 use Rattle.ms_words.specs.Reading.{option_eq}
 
@@ -26,6 +26,7 @@ same_option Functions Functions same = refl
 same_option Run Run same = refl
 same_option Where Where same = refl
 same_option Calls Calls same = refl
+same_option Once Once same = refl
 same_option a b same = absurd (true≢false (sym same))
 
 pub few_options : (c : CommandName) → length (options_of c) ≤ 100

@@ -10,7 +10,7 @@ use Rattle.clap.specs.Takes.{turn_passes, step_passes, long_passes, flag_word_pa
 use Rattle.clap.specs.Lexer.{long_of}
 use Rattle.clap.specs.declared.parser.matches.ValueSource.TheVariants.{CommandLine}
 use Rattle.ms_words.specs.declared.names.OptionName.{OptionName}
-use Rattle.ms_words.specs.declared.names.OptionName.TheVariants.{Input, Fill, Steps, Reports, Schedule, Schedules, Workers, Seed, Functions, Run, Where, Calls}
+use Rattle.ms_words.specs.declared.names.OptionName.TheVariants.{Input, Fill, Steps, Reports, Schedule, Schedules, Workers, Seed, Functions, Run, Where, Calls, Once}
 use Rattle.ms_words.specs.declared.names.Takes.{Takes}
 use Rattle.ms_words.specs.declared.names.Takes.TheVariants.{Nothing, Anything, Hex, Number}
 use Rattle.ms_words.specs.Table.{Word, takes, option_word}
@@ -68,6 +68,7 @@ word_read Functions v = (refl, refl)
 word_read Run v = (refl, refl)
 word_read Where v = (refl, refl)
 word_read Calls v = (refl, refl)
+word_read Once v = (refl, refl)
 
 -- ---- options that are apart
 

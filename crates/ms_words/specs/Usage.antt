@@ -35,6 +35,7 @@ about_option option.Functions = codes "number of functions beside main"
 about_option option.Run = codes "check the module instead of writing it"
 about_option option.Where = codes "below each line that names a site, print where it stands in FILE and in the source"
 about_option option.Calls = codes "below each report and trap, print the calls that stand there, the innermost first"
+about_option option.Once = codes "neither report nor count a use of the same site, kind and part as one before it"
 
 abbrev pub about_topic : Topic → Word
 about_topic Help = codes "print this text"

@@ -72,7 +72,7 @@ returns-in-Resumed c = record {
       let m = c.args.m.now in
       answer_goes m u c.program-code.result.now c.program-code.ensures c.law_valid.ensures.formed c.law_valid.ensures.valid c.args.call c.args.self.now b c.answer_of.new.self c.in-Resumed.value
       (subst (λ (x : Answer). AnsweredFor m u c.args.call b.paused.asking.within x c.args.self.now.running c.answer_of.new.self) c.in-Resumed.is (c.in_ok-answer.ensures.answered u same b.paused.asking))
-      _ refl refl c.in_ok-note_calls.ensures c.in_ok-note.ensures
+      _ refl c.in_ok-note_calls.ensures c.in_ok-note.ensures
       refl refl refl refl (c.keep.ensures.at ∙ c.resume.ensures.at)
       (record { spawned = c.keep.ensures.own.spawned ∙ c.resume.ensures.own.spawned; heap = c.keep.ensures.own.heap ∙ c.resume.ensures.own.heap })
       (λ frame below stands waits. subst (λ (ks : List Kept). AllStandFor m ks (answered m c.in-Resumed.value frame ∷ below)) (sym c.keep.ensures.frames) (c.resume.ensures.stands u frame below c.args.call stands waits));
