@@ -75,7 +75,8 @@ impl Model for Depot {
 }
 
 impl Depot {
-    /// A depot of so many roots, with no pair. Takes no memory.
+    /// A depot of so many roots, with no pair. Takes no memory. Roots are fewer than 2^30, as in each formed module, so that the
+    /// numbers of pairs, which follow them, have 32 bits.
     pub fn new(alloc: Global, roots: u32) -> Depot
         requires { roots < 2 ^ 30 }
         ensures roots { result.roots ≡ roots }

@@ -1,5 +1,6 @@
 //! The instrumented form of blocks, one after the other, with the number of the next inserted result, which stays below 2^40
-//! (`room`).
+//! (`room`). A function has at most 2^30 values (`values`), whose inserted results are numbered; limits on texts keep them far
+//! fewer.
 ghost use Rattle.std.specs.Prelude.{◌≡◌, ◌+◌, ◌++◌, [], ◌∷◌, ◌<◌, ◌≤◌, ◌^◌, All, length, IfOk, OnOk};
 ghost use Rattle.ms_ir.specs.Instructions.{over_blocks};
 ghost use Rattle.ms_check_valid.specs.Formed.{count_written};

@@ -1,4 +1,5 @@
-//! The instrumented form of functions, made in pieces by several threads.
+//! The instrumented form of functions, made in pieces by several threads. A function has at most 2^30 values (`values`), whose
+//! inserted results are numbered; limits on texts keep them far fewer.
 ghost use Rattle.std.specs.{Prelude.{◌≡◌, ◌≤◌, ◌^◌, All, length, map, IfOk}, List.{range_with_len}};
 ghost use Rattle.ms_ir.specs.Names.{name_eq, main_name};
 ghost use Rattle.ms_check_tables.specs.FirstPlace.{first_place};

@@ -1,4 +1,6 @@
-//! The instrumented form of a block's instructions: each stands between its two lists.
+//! The instrumented form of a block's instructions: each stands between its two lists. A function has at most 2^30 values
+//! (`values`), whose inserted results are numbered; limits on texts keep them far fewer. The number of the next inserted result
+//! stays below 2^40 (`room`).
 ghost use Rattle.std.specs.Prelude.{◌≡◌, ◌<◌, ◌≤◌, ◌^◌, All, length, OnOk};
 ghost use Rattle.ms_rules.specs.{Placed.{with_inst}, Scopes.{env_of, given_of}, Taken.{IsTaken}};
 ghost use Rattle.ms_pass.specs.{Counted.{here_of, past_inst, past_insts, AreSmall}, Passed.{with_insts}};

@@ -1,4 +1,5 @@
-//! The answer to a call of `printf`.
+//! The answer to a call of `printf`. Runs call `answer_typed`; `answer_printf` is for callers that have a module and not its
+//! code, here tests. `made` of a world counts the uninitialised bytes so far.
 ghost use Rattle.std.specs.Prelude.{◌≡◌, map, Some, get_or, IfOk};
 ghost use Rattle.ms_ir.specs.{declared.syntax.Inst.{Inst as InstOf}};
 ghost use Rattle.ms_ir.specs.{declared.places.Place.{Place as PlaceOf}, Instructions.{operands}};
@@ -15,7 +16,7 @@ use ms_ir::{Module, Ty};
 use ms_runs::End;
 use std::alloc::Global;
 
-/// The answer that ends the run by a trap.
+/// The answer that ends the run by a trap, at this site.
 fn ended(kind: Trap, site: u32) -> Answer
     ensures { result ≡ Answer.Ended (End.Trap kind site) }
 {

@@ -1,4 +1,4 @@
-//! The pieces of a format that is given as bytes, for those who call `cut`; runs walk along the format in memory (`walks.rt`).
+//! The pieces of a format that is given as bytes, for tests, which call `cut`; runs walk along the format in memory (`walks.rt`).
 ghost use Rattle.std.specs.Prelude.{true, ◌≡◌, ◌≤◌, ◌<◌, ◌∷◌, length, take, drop, option_map, IfOk, IfSome, MatchOption};
 ghost use Rattle.ms_runs.specs.Formats.{directive as directive_of, plain_bytes, no_pieces, with_piece, cut_of};
 

@@ -1,4 +1,5 @@
-//! The two walks of a call: what the format comes to is measured first, and printed where it fits.
+//! The two walks of a call: what the format comes to is measured first, and printed where it fits. `made` of a world counts the
+//! uninitialised bytes so far.
 ghost use Rattle.std.specs.Prelude.{◌≡◌, ◌++◌, ℕ, List, Result, Ok, IfOk, OnOk};
 ghost use Rattle.ms_bits.specs.declared.traps.Trap.{Trap as TrapOf};
 ghost use Rattle.ms_runs.specs.{World.{World as Meant}, Formats.{both_shown}};

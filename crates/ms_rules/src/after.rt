@@ -1,4 +1,6 @@
-//! The list after an instruction that is no phi: shadow and origins of memory, or what a call hands back.
+//! The list after an instruction that is no phi: shadow and origins of memory, or what a call hands back. Bounds in contracts
+//! are far above the limits on a text, and let numbers be computed: at most 2^30 values of a function, fewer than 2^40 roots.
+//! `site` is the instruction's.
 ghost use Rattle.std.specs.Prelude.{◌≡◌, ◌<◌, ◌≤◌, ◌^◌, length, OnOk};
 ghost use Rattle.ms_pass_tasks.specs.{Emit.{after_tasks}, SlotTasks.{result_mask_slot, result_origin_slot, take_value}};
 ghost use Rattle.ms_rules_tables.specs.Sizes.{element_size};

@@ -1,4 +1,6 @@
-//! Puts an instruction of a module with its two lists into the list that grows: what the pass calls.
+//! Puts an instruction of a module with its two lists into the list that grows: what the pass calls. Bounds in contracts are
+//! far above the limits on a text, and let numbers be computed: at most 2^30 values of a function, fewer than 2^40 roots, fewer
+//! than 2^40 inserted results (`room`). `site` is the instruction's.
 ghost use Rattle.std.specs.Prelude.{◌≡◌, ◌+◌, ◌<◌, ◌≤◌, ◌^◌, false, All, length, IfOk, OnOk};
 ghost use Rattle.ms_ir.specs.Instructions.{is_phi, operands, roots_in};
 ghost use Rattle.ms_rules_tables.specs.Widths.{HasWidths};

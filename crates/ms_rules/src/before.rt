@@ -1,4 +1,6 @@
-//! The list before an instruction that is no phi: what a callee is handed, checks, blind uses, mask and origin of the result.
+//! The list before an instruction that is no phi: what a callee is handed, checks, blind uses, mask and origin of the result. A
+//! function has at most 2^30 values, a bound far above the limits on a text, so that their numbers can be doubled. `site` is
+//! the instruction's.
 ghost use Rattle.std.specs.Prelude.{◌≡◌, ◌≤◌, ◌^◌, length, map, OnOk};
 ghost use Rattle.ms_pass_tasks.specs.{Emit.{before_tasks}, ResultTasks.{result_tasks}, SlotTasks.{hand_tasks}};
 ghost use Rattle.ms_rules_builder.specs.{Made.{with_tasks}, Steps.{tracked_of}};

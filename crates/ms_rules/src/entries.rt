@@ -1,4 +1,5 @@
-//! What a function begins with: it takes over the masks and origins of its parameters.
+//! What a function begins with: it takes over the masks and origins of its parameters. A function has at most 2^30 values, a
+//! bound far above the limits on a text, so that their numbers can be doubled.
 ghost use Rattle.std.specs.Prelude.{◌≡◌, ◌≤◌, ◌^◌, length, OnOk};
 ghost use Rattle.ms_pass_tasks.specs.SlotTasks.{param_mask, param_origin, take_value, take_parameters};
 ghost use Rattle.ms_rules_builder.specs.Made.{with_tasks};

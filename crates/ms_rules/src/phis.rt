@@ -1,4 +1,5 @@
-//! Phis of the program, each followed by two that are inserted: one for its mask, one for its origin.
+//! Phis of the program, each followed by two that are inserted: one for its mask, one for its origin. Bounds in contracts are
+//! far above the limits on a text, and let numbers be computed: at most 2^30 values of a function, fewer than 2^40 roots.
 ghost use Rattle.std.specs.Prelude.{◌≡◌, ◌<◌, ◌≤◌, ◌^◌, [], ◌∷◌, Some, All, length, map, IfOk, OnOk};
 ghost use Rattle.ms_ir.specs.{declared.syntax.Ty.{Int}, Instructions.{count_undefs, operands}, Layout.{width_of}};
 ghost use Rattle.ms_pass_tasks.specs.{Tasks.{inserted, mask_name, origin_name}, Environments.{mask_type}};

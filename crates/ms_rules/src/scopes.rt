@@ -1,4 +1,5 @@
-//! What the rules look up: sizes of types, functions, the numbers of a function's values, which of them are clean.
+//! What the rules look up: sizes of types, functions, the numbers of a function's values, which of them are clean. A function
+//! has at most 2^30 values, a bound far above the limits on a text, so that their numbers can be doubled.
 ghost use Rattle.std.specs.Prelude.{◌≡◌, ◌≤◌, ◌^◌, length};
 
 use ms_check_tables::{Extents, NameTable};

@@ -1,5 +1,7 @@
 //! The two lists of one instruction alone, without its module's other code: what `emit` gives. The pass doesn't call it. An
-//! instruction has at most 200 inserted results, and 55 for each operand (`room`).
+//! instruction has at most 200 inserted results, and 55 for each operand (`room`). Numbers of inserted results have 32 bits
+//! here. Bounds in contracts are far above the limits on a text, and let numbers be computed: at most 2^30 values of a
+//! function, fewer than 2^40 roots. `site` is the instruction's, `next` the number of the first inserted result.
 ghost use Rattle.std.specs.Prelude.{◌≡◌, ◌+◌, ◌*◌, ◌<◌, ◌≤◌, ◌^◌, false, length, IfOk};
 ghost use Rattle.ms_ir.specs.{Instructions.{is_phi, operands}, Names.{name_eq, main_name}};
 ghost use Rattle.ms_check_tables.specs.FirstPlace.{first_place};

@@ -1,4 +1,5 @@
-//! The operands of an instruction with what is known of their masks and origins.
+//! The operands of an instruction with what is known of their masks and origins. Bounds in contracts are far above the limits
+//! on a text, and let numbers be computed: at most 2^30 values of a function, fewer than 2^40 roots.
 ghost use Rattle.std.specs.Prelude.{◌≡◌, ◌+◌, ◌-◌, ◌++◌, ◌<◌, ◌≤◌, ◌^◌, [], ◌∷◌, All, length, map, IfOk, OnOk};
 ghost use Rattle.ms_ir.specs.{Instructions.{one_undef, operands}, Layout.{width_of}, ValueTypes.{type_of}};
 ghost use Rattle.ms_rules_builder.specs.Steps.{tracked_of, shadow_mask, shadow_origin};

@@ -1,6 +1,6 @@
-//! A list of instructions that grows at its end: those of a program, and the inserted ones, which rules are made into. Contracts
-//! tell these by tasks (`ms_pass_tasks`): `Sets` a result to a word, `Tries` an operation that may trap, `Fetches` (a load), `Puts`
-//! (a store), `Calls`.
+//! A list of instructions that grows at its end: those of a program, and the inserted ones, which rules are made into.
+//! Contracts tell these by tasks (`ms_pass_tasks`): `Sets` a result to a word, `Tries` an operation that may trap, `Fetches` (a
+//! load), `Puts` (a store), `Calls`. Inserted results are numbered from at most 2^40 on, so that no number is too large.
 ghost use Rattle.std.specs.Prelude.{◌≡◌, ℕ, length, ◌+◌, ◌-◌, ◌<◌, ◌≤◌, ◌^◌, ◌++◌, [], ◌∷◌, true, reverse, map, List as ListOf, OnOk, Option, Some, None};
 ghost use Rattle.ms_ir.specs.{declared.syntax.Ty.{Ty as TyOf, Int}, Names.{runtime_name as runtime_name_of}};
 ghost use Rattle.ms_ir.specs.Signatures.{runtime_signature};

@@ -1,4 +1,5 @@
-//! The names that inserted code gives its results, and those that it calls.
+//! The names that inserted code gives its results, and those that it calls. A value has a number below 2^62 where 2v + 2 is
+//! computed, in 64 bits.
 ghost use Rattle.std.specs.Prelude.{◌≡◌, ◌+◌, ◌*◌, ◌<◌, ◌^◌, IfOk};
 ghost use Rattle.ms_ir.specs.Names.{runtime_name as runtime_name_of};
 ghost use Rattle.ms_pass_tasks.specs.Tasks.{msan_name as msan_name_of, mask_name as mask_name_of, origin_name as origin_name_of};

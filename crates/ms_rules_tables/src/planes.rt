@@ -1,4 +1,6 @@
 //! The code that sets shadow and origins of memory after an instruction: after a store, an `alloca`, or a call of an external.
+//! `site` is the instruction's. `root` is the number of its own root, `saved` that of the inserted result saved before it: for
+//! `realloc` the size of the block.
 ghost use Rattle.std.specs.Prelude.{◌≡◌, ℕ, ◌+◌, false, map, reverse, List, [], OnOk, Option};
 ghost use Rattle.ms_ir.specs.{declared.syntax.Ty.{Ty as TyOf}, Instructions.{operands as operands_of, count_undefs}};
 ghost use Rattle.ms_ir.specs.{declared.syntax.Name.{Name as NameOf}, Signatures.{runtime_signature}};

@@ -1,5 +1,7 @@
 //! Which rule defines the mask and which the origin of a result, by the operation. `value` is the result's number among the
-//! function's values, by which mask and origin are named, `width` its bits, and `inputs` what the rule is given.
+//! function's values, by which mask and origin are named, `width` its bits, and `inputs` what the rule is given. A comment "Of
+//! a sum" says: defines both for a sum's result. Where it tells the mask alone, the origin is that of the last operand whose
+//! mask isn't 0, else the first's (`define_joined`).
 ghost use Rattle.std.specs.Prelude.{◌≡◌, ℕ, ◌≤◌, true, List, [], ◌∷◌, map, take, reverse, OnOk, Option, Some};
 ghost use Rattle.ms_bits.specs.declared.operations.Flags.{Flags as FlagsOf};
 ghost use Rattle.ms_bits.specs.WordFunctions.{move_of, bits_of as width_bits};

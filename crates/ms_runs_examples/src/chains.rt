@@ -1,4 +1,5 @@
 //! Ways from an origin back to its root, in a world with chained origins: `Chain` has the earlier origin and the store's site.
+//! The prover computes them.
 ghost use Rattle.std.specs.Prelude.{◌≡◌, [], ◌∷◌};
 ghost use Rattle.ms_runs.specs.{declared.runs.Origin.TheVariants.{Root, Chain}, Origins.{trail}};
 ghost use Rattle.ms_runs_examples.specs.Setups.{defaults};

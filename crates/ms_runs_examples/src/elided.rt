@@ -1,4 +1,5 @@
-//! An example module whose inserted word checks are counted, with and without those of clean values.
+//! An example module whose inserted word checks are counted, with and without those of clean values. The prover computes the
+//! counts.
 ghost use Rattle.std.specs.Prelude.{◌≡◌, [], ◌∷◌, map};
 ghost use Rattle.ms_runs_examples.specs.Programs.{branch_on_unset};
 ghost use Rattle.ms_pass_laws.specs.{Pass.{pass}, Numbers.{numbering}};

@@ -1,5 +1,5 @@
-//! What each clause finds at fault, and where: laws about the definitions, computed by the check. The values are worked out
-//! by hand from what docs/DEFINITIONS.md says. `body` is a module of a `main` with these instructions that returns 0, `sets n` and
+//! What each clause finds at fault, and where: laws about the definitions, computed by the prover. The values are worked out by
+//! hand from what docs/DEFINITIONS.md says. `body` is a module of a `main` with these instructions that returns 0, `sets n` and
 //! `does` are instructions with result n and without one; `percent` and `symbol` spell names with `%` and `@`.
 ghost use Rattle.std.specs.Prelude.{◌≡◌, [], ◌∷◌, ◌++◌, codes, true, false, Some, None};
 ghost use Rattle.ms_bits.specs.declared.operations.BinOp.TheVariants as binary;

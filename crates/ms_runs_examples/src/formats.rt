@@ -1,5 +1,5 @@
-//! What `printf` does, computed by the check: how formats are cut, what they print, which calls trap, and which are
-//! reported. The expected values are worked out by hand. `prints_by` is a module that calls `printf` with a format and arguments.
+//! What `printf` does, computed by the prover: how formats are cut, what they print, which calls trap, and which are reported.
+//! The expected values are worked out by hand. `prints_by` is a module that calls `printf` with a format and arguments.
 ghost use Rattle.std.specs.Prelude.{◌≡◌, [], ◌∷◌, ◌++◌, codes, true, false};
 ghost use Rattle.ms_bits.specs.declared.traps.Trap.TheVariants as trap;
 ghost use Rattle.ms_ir.specs.declared.syntax.Operand.TheVariants as operand;

@@ -1,6 +1,6 @@
 //! Which modules are formed, which values are clean, and what is declared how: laws about the definitions, computed by the
-//! check. The values are worked out by hand from what docs/DEFINITIONS.md says. `sets n` and `does` are instructions with result n
-//! and without one, `ends` is the end of `main`.
+//! prover. The values are worked out by hand from what docs/DEFINITIONS.md says. `sets n` and `does` are instructions with
+//! result n and without one, `ends` is the end of `main`.
 ghost use Rattle.std.specs.Prelude.{◌≡◌, ◌^◌, ◌++◌, [], ◌∷◌, codes, length, map, take, true, false, Some, None};
 ghost use Rattle.ms_bits.specs.declared.operations.BinOp.TheVariants as binary;
 ghost use Rattle.ms_bits.specs.declared.operations.CastOp.TheVariants as cast;

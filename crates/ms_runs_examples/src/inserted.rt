@@ -1,4 +1,4 @@
-//! Runs of instrumented modules, computed by the check. The reports are worked out by hand from the rules of masks and
+//! Runs of instrumented modules, computed by the prover. The reports are worked out by hand from the rules of masks and
 //! origins.
 ghost use Rattle.std.specs.Prelude.{◌≡◌, [], ◌∷◌};
 ghost use Rattle.ms_runs.specs.{Plain.{plain}, Masks.{by_formulas}, Shadow.{shadow_by}};

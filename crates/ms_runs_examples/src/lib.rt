@@ -1,6 +1,6 @@
-//! Example modules, and what the check computes of them: as what their texts are read, how they are written, which of them are
-//! valid, how they run, plain, with their masks and with threads, from where their poisoned bits come, and what is inserted. The
-//! expected values are worked out by hand. They show what the definitions say where a whole program puts them together.
+//! Example modules, and what the prover computes of them: as what their texts are read, how they are written, which of them are
+//! valid, how they run, plain, with their masks and with threads, from where their poisoned bits come, and what is inserted.
+//! The expected values are worked out by hand. They show what the definitions say where a whole program puts them together.
 //!
 //! This crate is the last: nothing but tests may use it, so that to change an example is cheap.
 #![tactic(auto)]

@@ -1,4 +1,4 @@
-//! Masks of single operations on words of eight bits, computed by the check: `word bits mask` is an operand with its mask.
+//! Masks of single operations on words of eight bits, computed by the prover: `word bits mask` is an operand with its mask.
 ghost use Rattle.std.specs.Prelude.{◌≡◌, [], ◌∷◌};
 ghost use Rattle.ms_bits.specs.declared.operations.BinOp.TheVariants as binary;
 ghost use Rattle.ms_bits.specs.declared.operations.CastOp.TheVariants as cast;

@@ -1,5 +1,5 @@
-//! Moves of example runs, of which `explain` makes its ways, computed by the check. The values are worked out by hand. A move has
-//! an event, a site, from where and to where; `value n f` is value n of frame f, `hop` the number of a move and a byte.
+//! Moves of example runs, of which `explain` makes its ways, computed by the prover. The values are worked out by hand. A move
+//! has an event, a site, from where and to where; `value n f` is value n of frame f, `hop` the number of a move and a byte.
 ghost use Rattle.std.specs.Prelude.{◌≡◌, [], ◌∷◌, Some};
 ghost use Rattle.ms_runs_examples.specs.Programs.{branch_on_unset};
 ghost use Rattle.ms_runs_examples.specs.Setups.{defaults};

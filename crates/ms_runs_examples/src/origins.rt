@@ -1,4 +1,4 @@
-//! What an example's shadow run has reached, and from where its poisoned bits come, computed by the check.
+//! What an example's shadow run has reached, and from where its poisoned bits come, computed by the prover.
 ghost use Rattle.std.specs.Prelude.{◌≡◌, Some, IfSome, length, option_map};
 ghost use Rattle.ms_runs_examples.specs.Setups.{defaults};
 ghost use Rattle.ms_runs.specs.Masks.{by_formulas};

@@ -1,5 +1,5 @@
-//! How example modules run: laws about the definitions, computed by the check. The values are worked out by hand from
-//! what docs/DEFINITIONS.md says. `0xa5` is the one byte of the default fill. `specs/Externals.antt` and `Programs.antt` have the
+//! How example modules run: laws about the definitions, computed by the prover. The values are worked out by hand from what
+//! docs/DEFINITIONS.md says. `0xa5` is the one byte of the default fill. `specs/Externals.antt` and `Programs.antt` have the
 //! modules: `calls_on_..` is a `main` that calls an external with these arguments on such memory, and then does the rest.
 //! `Setups.antt` has setups (`defaults`, another fill, input or bound of steps), and what runs return (`exits`, `trapped` at a
 //! site).

@@ -1,4 +1,4 @@
-//! Whole shadow runs of example modules, computed by the check. `0xa5` is the one byte of the default fill; kinds of uses are
+//! Whole shadow runs of example modules, computed by the prover. `0xa5` is the one byte of the default fill; kinds of uses are
 //! numbered as in `ms_runs_uses::kinds`; `report` has site, kind, part, mask, width and root.
 ghost use Rattle.std.specs.Prelude.{◌≡◌, [], ◌∷◌};
 ghost use Rattle.ms_bits.specs.declared.traps.Trap.TheVariants as trap;

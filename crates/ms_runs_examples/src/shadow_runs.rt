@@ -1,5 +1,5 @@
-//! How example modules run with their masks: laws about the definitions, computed by the check. The values are worked out
-//! by hand. `0xa5` is the one byte of the default fill; kinds of uses are numbered as in `ms_runs_uses::kinds`; `report` has site,
+//! How example modules run with their masks: laws about the definitions, computed by the prover. The values are worked out by
+//! hand. `0xa5` is the one byte of the default fill; kinds of uses are numbered as in `ms_runs_uses::kinds`; `report` has site,
 //! kind, part, mask, width and root.
 ghost use Rattle.std.specs.Prelude.{◌≡◌, [], ◌∷◌};
 ghost use Rattle.ms_bits.specs.declared.traps.Trap.TheVariants as trap;

@@ -1,6 +1,6 @@
-//! What texts read as, and where they stop: laws about the definitions, computed by the check. The values are worked out by
-//! hand from what the grammar says, and none is taken from a program. `Plain` and `Instrumented` are the forms of a text; `stops`
-//! has the token at which a text is refused, from 0, and the cause; `in_function` puts lines into a function.
+//! What texts read as, and where they stop: laws about the definitions, computed by the prover. The values are worked out by
+//! hand from what the grammar says, and none is taken from a program. `Plain` and `Instrumented` are the forms of a text;
+//! `stops` has the token at which a text is refused, from 0, and the cause; `in_function` puts lines into a function.
 ghost use Rattle.std.specs.Prelude.{◌≡◌, [], ◌∷◌, ◌++◌, codes, map, true, false, Some, None, Ok, Err};
 ghost use Rattle.ms_bits.specs.declared.operations.BinOp.TheVariants as binary;
 ghost use Rattle.ms_bits.specs.declared.operations.CastOp.TheVariants as cast;

@@ -1,4 +1,4 @@
-//! Modules of which the laws speak, computed by the check.
+//! Modules of which the laws speak, computed by the prover.
 ghost use Rattle.std.specs.Prelude.{◌≡◌};
 ghost use Rattle.ms_ir.specs.declared.forms.Form.TheVariants.{Plain};
 ghost use Rattle.ms_text_grammar.specs.Answers.{answer_of, reads};

@@ -1,5 +1,5 @@
-//! What modules are written as: laws about the definitions, computed by the check. The texts are worked out by hand from
-//! the rules of the layout, and none is taken from a program.
+//! What modules are written as: laws about the definitions, computed by the prover. The texts are worked out by hand from the
+//! rules of the layout, and none is taken from a program.
 ghost use Rattle.std.specs.Prelude.{◌≡◌, [], ◌∷◌, codes};
 ghost use Rattle.ms_ir.specs.declared.syntax.Ty as ty;
 ghost use Rattle.ms_runs_examples.specs.Externals.{chooses, swaps, odd_width, with_globals, inner_word};

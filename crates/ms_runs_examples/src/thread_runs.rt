@@ -1,4 +1,4 @@
-//! How modules with guest threads run: laws about the definitions, computed by the check. The modules stand in
+//! How modules with guest threads run: laws about the definitions, computed by the prover. The modules stand in
 //! `specs/Threads.antt`; the list after the setup is the schedule.
 ghost use Rattle.std.specs.Prelude.{◌≡◌, ℕ, List, [], ◌∷◌};
 ghost use Rattle.ms_bits.specs.declared.traps.Trap.TheVariants as trap;

@@ -1,4 +1,5 @@
-//! What is told of runs: each use once, blind places, and the calls at the end.
+//! What is told of runs: each use once, blind places, and the calls at the end. Laws about the definitions, computed by the
+//! prover.
 ghost use Rattle.std.specs.Prelude.{◌≡◌, true, [], ◌∷◌, Some};
 ghost use Rattle.ms_runs.specs.declared.runs.End.TheVariants as «end»;
 ghost use Rattle.ms_runs.specs.{Shadow.{shadow}, Calls.{shadow_blind, shadow_end_calls, places_of}};

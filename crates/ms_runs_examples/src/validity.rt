@@ -1,4 +1,4 @@
-//! Which modules are valid: laws about the definitions, computed by the check. The values are worked out by hand from what
+//! Which modules are valid: laws about the definitions, computed by the prover. The values are worked out by hand from what
 //! docs/DEFINITIONS.md says. The modules stand in `specs/Programs.antt` and `specs/Faults.antt`, a sentence over each.
 ghost use Rattle.std.specs.Prelude.{◌≡◌, [], ◌∷◌, codes, true, false, Some, None};
 ghost use Rattle.ms_ir.specs.declared.syntax.Name.TheVariants.{Number, Text};

@@ -1,4 +1,4 @@
-//! What goes wrong in two fills without a premise of the laws, computed by the check. The values are worked out by hand.
+//! What goes wrong in two fills without a premise of the laws, computed by the prover. The values are worked out by hand.
 ghost use Rattle.std.specs.Prelude.{◌≡◌, [], ◌∷◌};
 ghost use Rattle.ms_runs_fills_laws.specs.ExampleWorlds.{grown_from_null};
 

@@ -1,4 +1,4 @@
-//! What goes wrong with origins without a premise of the laws, computed by the check. The values are worked out by hand.
+//! What goes wrong with origins without a premise of the laws, computed by the prover. The values are worked out by hand.
 ghost use Rattle.std.specs.Prelude.{◌≡◌, ◌/◌, []};
 ghost use Rattle.ms_runs.specs.Origins.{trail};
 ghost use Rattle.ms_runs_origins_laws.specs.ExampleWorlds.{poisoned_room, one_byte_more, bare_setting};

@@ -1,5 +1,5 @@
-//! What a schedule does: laws about the definitions, computed by the check of examples whose fibers are short lists of what they
-//! do. The values are worked out by hand.
+//! What a schedule does: laws about the definitions, computed by the prover of examples whose fibers are short lists of what
+//! they do. The values are worked out by hand.
 ghost use Rattle.std.specs.Prelude.{◌≡◌, [], ◌∷◌};
 ghost use Rattle.ms_bits.specs.declared.traps.Trap.TheVariants as trap;
 ghost use Rattle.ms_runs.specs.declared.runs.End.TheVariants as «end»;

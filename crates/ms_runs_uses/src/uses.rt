@@ -112,14 +112,14 @@ pub fn printed_args(external: Option<External>, op: &Op) -> &[(Ty, Operand)]
     }
 }
 
-/// The use of the word of an argument of `printf` after its format.
+/// The use of the word of an argument of `printf` after its format, by its place among the operands, where the format has 0.
 pub fn printed_word(place: usize) -> CheckedUse
     ensures { use_of result ≡ WordOf 7 place }
 {
     Word(VALUE, place)
 }
 
-/// The use of the string at an argument of `printf` after its format, if the argument is a pointer.
+/// The use of the string at an argument of `printf` after its format, by its place as there, if the argument is a pointer.
 pub fn printed_string(ty: &Ty, place: usize) -> Option<CheckedUse>
     ensures { option_map use_of result ≡ (if type_eq ty.now Ty.Ptr then Some (AskedOf place) else None) }
 {

@@ -1,6 +1,7 @@
 //! The code that hands over or takes over all arguments of a call, or a result, as lists of marked instructions.
 //!
-//! Numbers are those of inserted results. A word is given as its type, its mask and its origin.
+//! Numbers are those of inserted results. A word is given as its type, its mask and its origin. The first free one is below
+//! 2^31 where it grows, so that the next one has 32 bits.
 ghost use Rattle.std.specs.Prelude.{◌≡◌, ◌<◌, ◌≤◌, ◌+◌, ◌*◌, ◌^◌, length, IfOk, OnOk};
 ghost use Rattle.ms_pass_tasks.specs.{Tasks.{tasks_code}, SlotTasks.{result_mask_slot, result_origin_slot}};
 ghost use Rattle.ms_rules_builder.specs.Made.{with_tasks};

@@ -80,7 +80,8 @@ fn load_origin(builder: &mut Builder, place: WordSlot, number: u64) -> Result<()
     load(builder, name, ORIGIN_WIDTH, slot)
 }
 
-/// A mask of a type and an origin come out of their slots, as the inserted result with a number and the one after it.
+/// A mask of a type and an origin come out of their slots, as the inserted result with a number and the one after it, whose
+/// number has 64 bits too.
 pub fn load_word(
     builder: &mut Builder,
     place: WordSlot,

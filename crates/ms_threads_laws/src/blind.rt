@@ -15,8 +15,8 @@ pub fn thread_blind_followed()
         → (setup : Setup) → Fair setup → KnownModule (setting_of m setup) numbers m → (schedule : List ℕ) → plain_threads_blind (pass numbers m) setup schedule ≡ shadow_threads_blind m setup schedule }
 {}
 
-/// And its run ends in the calls in which the shadow run ends: those of the thread whose step ended it, with the call that made
-/// that thread.
+/// Where the pass takes a module, the run of its instrumented form ends in the calls in which the shadow run ends: those of the
+/// thread whose step ended it, with the call that made that thread.
 pub fn thread_ends_followed()
     ensures { (m : Module) → Formed m → Valid m → (numbers : ℕ → Numbering)
         → ((n : ℕ) (f : Func) → func_at m n ≡ Some f → (x : Name) → (numbers n).env.clean x ≡ true → IsClean m f x)

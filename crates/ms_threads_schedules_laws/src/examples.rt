@@ -1,5 +1,5 @@
-//! Small runs explored: laws about the definitions, computed by the check. The values are worked out by hand. A schedule is a list
-//! of numbers, each which of the fibers that can go on is picked; `[]` goes on with zeros.
+//! Small runs explored: laws about the definitions, computed by the prover. The values are worked out by hand. A schedule is a
+//! list of numbers, each which of the fibers that can go on is picked; `[]` goes on with zeros.
 ghost use Rattle.std.specs.Prelude.{◌≡◌, [], ◌∷◌};
 ghost use Rattle.ms_bits.specs.declared.traps.Trap.TheVariants as trap;
 ghost use Rattle.ms_runs.specs.declared.runs.End.TheVariants as «end»;

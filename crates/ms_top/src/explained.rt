@@ -58,12 +58,7 @@ impl<R: Threads + Sync, P: Pass, G: Gate + Sync, L: SiteLines> ModuleJob<'_, R, 
     }
 
     /// The output that explains what is told of a run with a setup.
-    fn explanation(
-        &self,
-        setup: &Setup,
-        told: &ToldRun,
-        calls: bool,
-    ) -> Result<Output, NoMemory>
+    fn explanation(&self, setup: &Setup, told: &ToldRun, calls: bool) -> Result<Output, NoMemory>
         requires plain { CanInstrument self.now.m.now }
         requires limits { WithinLimits setup.now }
         requires alone { is_threaded self.now.m.now ≡ false }
@@ -81,12 +76,7 @@ impl<R: Threads + Sync, P: Pass, G: Gate + Sync, L: SiteLines> ModuleJob<'_, R, 
     }
 
     /// The lines of the report of a run with a setup, and of the way to what its use read.
-    fn explained(
-        &self,
-        setup: &Setup,
-        told: &ToldRun,
-        calls: bool,
-    ) -> Result<Vec<u8>, NoMemory>
+    fn explained(&self, setup: &Setup, told: &ToldRun, calls: bool) -> Result<Vec<u8>, NoMemory>
         requires plain { CanInstrument self.now.m.now }
         requires limits { WithinLimits setup.now }
         requires alone { is_threaded self.now.m.now ≡ false }

@@ -62,7 +62,7 @@ pub fn differ<R: Eprint>(rt: &R, words: &str, first: &Desk, second: &Desk) -> bo
     false
 }
 
-/// Prints the pieces of the text that was wanted, and what came. The answer is `false`.
+/// Prints the pieces of the text that was wanted, and what came (`found`). The answer is `false`.
 pub fn is_other<R: Eprint>(rt: &R, pieces: &[&str], found: &[u8]) -> bool {
     let _wanted = eprintln!(rt; "wanted, in pieces:\n{pieces:?}");
     let _got = print_bytes(rt, "got", found);

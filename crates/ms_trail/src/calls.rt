@@ -1,4 +1,5 @@
-//! Calls and returns of a traced run: the masks that a callee is handed and hands back, and their moves.
+//! Calls and returns of a traced run: the masks that a callee is handed and hands back, and their moves. Moves are counted in
+//! 64 bits: `few` says that the count so far leaves room for those that are told.
 ghost use Rattle.std.specs.Prelude.{◌≡◌, ◌≤◌, ◌<◌, ◌+◌, ◌-◌, ◌^◌, ◌++◌, List, length, replicate, slice_get, Some, All, IfOk, OnOk};
 ghost use Rattle.ms_ir.specs.Instructions.{operands, count_undefs};
 ghost use Rattle.ms_runs.specs.declared.runs.Setup.{Setup};

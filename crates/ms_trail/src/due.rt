@@ -12,7 +12,7 @@ use ms_host::World;
 use ms_machine_code::{Code, Site};
 use ms_machine_frames::Fiber;
 
-/// The instruction with a number, as code.
+/// The instruction with number `at`, as code.
 pub(crate) fn code_at(code: &[Code], at: usize) -> &Code
     requires { at < length code.now }
     ensures { result.now ≡ get_or code.now at result.now }
@@ -20,7 +20,7 @@ pub(crate) fn code_at(code: &[Code], at: usize) -> &Code
     &code[at]
 }
 
-/// The site of the instruction with a number.
+/// The site of the instruction with number `at` in the code.
 fn site_at_number(sites: &[Site], at: usize) -> Site
     requires { at < length sites.now }
     ensures { result ≡ get_or sites.now at result }

@@ -1,4 +1,7 @@
-//! Calls of externals in a traced run: what they answer, and what they do to the shadow of memory.
+//! Calls of externals in a traced run: what they answer, and what they do to the shadow of memory. Moves are counted in 64
+//! bits: `few` says that the count so far leaves room for those that are told. A live range has at most 2^26 bytes, with at
+//! most a move for each: 2^27 moves are more than one range has, 2^28 more than the two of `realloc`. Likewise an external
+//! makes at most 2^26 uninitialised bytes (`made`).
 ghost use Rattle.std.specs.Prelude.{◌≡◌, ◌≤◌, ◌<◌, ◌+◌, ◌^◌, ◌++◌, ℕ, List, All, IfOk, OnOk, get_or, length, map, Some, true, false, unwrap_or};
 ghost use Rattle.ms_ir.specs.{Instructions.{operands, count_undefs}, Signatures.{is_thread_call}, declared.syntax.Ty.{Ty as TyOf}};
 ghost use Rattle.ms_runs.specs.{declared.runs.Setup.{Setup}, World.{World as Meant}, Memory.{heap_size, is_good}};

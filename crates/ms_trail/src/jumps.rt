@@ -1,4 +1,5 @@
-//! Jumps of a traced run: the moves of its phis.
+//! Jumps of a traced run: the moves of its phis. Moves are counted in 64 bits: `few` says that the count so far leaves room for
+//! those that are told.
 ghost use Rattle.std.specs.Prelude.{◌≡◌, ◌≤◌, ◌<◌, ◌+◌, ◌^◌, ◌++◌, ℕ, List, length, All, IfOk, OnOk};
 ghost use Rattle.ms_ir.specs.declared.syntax.Module.{Module};
 ghost use Rattle.ms_ir.specs.Instructions.{func_index, insts_at, root_at, site_at, count_roots, NoMarks};

@@ -1,4 +1,5 @@
-//! Stores and `alloca`s of a traced run: the shadow that they set, and the moves of its bytes.
+//! Stores and `alloca`s of a traced run: the shadow that they set, and the moves of its bytes. `to` is the number of the result
+//! in its frame.
 ghost use Rattle.std.specs.Prelude.{◌≡◌, ◌<◌, length, get_or, IfOk};
 ghost use Rattle.ms_runs.specs.declared.runs.Setup.{Setup};
 ghost use Rattle.ms_trail_moves.specs.Traces.{Traced};
@@ -15,7 +16,7 @@ use ms_trail_bytes::spans::Stamp;
 use ms_trail_uses::steps::step;
 use std::alloc::Global;
 
-/// The value with a number.
+/// The value of a frame with number `place`.
 fn value_at(values: &Vec<u64>, place: usize) -> u64
     requires { place < length values.now.items }
     ensures { result ≡ get_or values.now.items place 0 }

@@ -1,4 +1,5 @@
-//! Loads and operations of a traced run: the mask of the result, and the move that tells it.
+//! Loads and operations of a traced run: the mask of the result, and the move that tells it. `to` is the number of the result
+//! in its frame.
 ghost use Rattle.std.specs.Prelude.{◌≡◌, ◌≢◌, ◌<◌, length, IfOk, Some, set};
 ghost use Rattle.ms_runs.specs.declared.runs.Setup.{Setup};
 ghost use Rattle.ms_trail_moves.specs.Traces.{Traced};

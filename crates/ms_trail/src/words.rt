@@ -1,5 +1,5 @@
-//! Moves of words, each told to the log where the word is poisoned: its mask isn't 0. `frame` is the number of the call in which
-//! the word is set.
+//! Moves of words, each told to the log where the word is poisoned: its mask isn't 0. `frame` is the number of the call in
+//! which the word is set. Moves are counted in 64 bits: `few` says that the count so far leaves room for those that are told.
 ghost use Rattle.std.specs.Prelude.{◌≡◌, ◌≤◌, ◌<◌, ◌+◌, ◌^◌, ◌++◌, [], ◌∷◌, List, OnOk, unwrap_or};
 ghost use Rattle.ms_ir.specs.{declared.syntax.Name.{Name as NameOf}, declared.syntax.Ty.{Ty as TyOf}};
 ghost use Rattle.ms_ir.specs.{declared.syntax.Operand.{Operand as OperandOf}, Instructions.{operands, count_undefs}};

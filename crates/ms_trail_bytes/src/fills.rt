@@ -1,5 +1,7 @@
 //! Shadow that is set or copied in memory, each with its moves in the log: for a store, an `alloca`, and what `sets.rt` and
 //! `unsets.rt` do for externals. A traced run keeps no origins in memory: cells get 0, and the moves tell where bits come from.
+//! Moves are counted in 64 bits: `few` says that the count so far leaves room for those that are told. `alloc` is for the names
+//! that moves copy; the log grows by its own allocator. `made` of a world counts the uninitialised bytes so far.
 ghost use Rattle.std.specs.Prelude.{◌≡◌, ◌≤◌, ◌<◌, ◌+◌, ◌^◌, ◌≢◌, ◌++◌, [], ◌∷◌, ℕ, List, true, IsTrue, OnOk, if◌then◌else◌};
 ghost use Rattle.ms_alloc.specs.Allocations.{is_good as is_live};
 ghost use Rattle.ms_bits.specs.Maps.{byte_of};
@@ -132,8 +134,8 @@ pub fn shade_copied(
     }
 }
 
-/// Logs the moves of `n` bytes that were copied with their shadow, where they are good: each one comes from the byte at its
-/// distance.
+/// Logs the moves of `n` bytes that were copied with their shadow, from address `from` to address `to`, where they are good: each
+/// one comes from the byte at its distance.
 pub fn tell_copied(
     alloc: Global,
     world: &World,

@@ -10,10 +10,12 @@ use std::alloc::Global;
 /// How many moves are kept.
 pub const MOVE_LIMIT: u64 = 4_194_304;
 
-/// The moves so far, of which the first are kept, and their number, which counts the others too.
+/// The moves so far, of which the first are kept.
 #[derive(Drop)]
 pub struct Log {
+    /// Those that are kept. The list grows by its own allocator.
     pub moves: Vec<Move>,
+    /// How many were told, with those that aren't kept.
     pub count: u64,
 }
 

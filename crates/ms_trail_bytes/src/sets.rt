@@ -1,4 +1,7 @@
-//! `memset` followed: bytes whose shadow gets the mask of one byte, with their moves.
+//! `memset` followed: bytes whose shadow gets the mask of one byte, with their moves. Moves are counted in 64 bits: `few` says
+//! that the count so far leaves room for those that are told. A live range has at most 2^26 bytes, with at most a move for
+//! each, so fewer than 2^27. `alloc` is for the names that moves copy; the log grows by its own allocator. `made` of a world
+//! counts the uninitialised bytes so far.
 ghost use Rattle.std.specs.Prelude.{◌≡◌, ◌≤◌, ◌<◌, ◌+◌, ◌^◌, ◌++◌, ◌||◌, ℕ, List, true, eqb, OnOk};
 ghost use Rattle.ms_runs.specs.{World.{World as Meant}, Memory.{is_good}};
 ghost use Rattle.ms_runs_good_laws.specs.GoodWorlds.{GoodWorld, FitsCell};

@@ -1,6 +1,7 @@
-//! Moves of bytes: one for each stretch of poisoned bytes, called a run here, among `n` live bytes from `addr` on. `k` and `first`
-//! are numbers of bytes among these. Where bytes were `copied`, each run comes from the bytes at its own distance in the source;
-//! else all come from the source itself.
+//! Moves of bytes: one for each stretch of poisoned bytes, called a run here, among `n` live bytes from `addr` on. `k` and
+//! `first` are numbers of bytes among these. Where bytes were `copied`, each run comes from the bytes at its own distance in
+//! the source; else all come from the source itself. Moves are counted in 64 bits: `few` says that the count so far leaves room
+//! for those that are told. `alloc` is for the names that moves copy; the log grows by its own allocator.
 ghost use Rattle.std.specs.Prelude.{◌≡◌, ◌≢◌, ◌≤◌, ◌<◌, ◌+◌, ◌^◌, ◌++◌, ℕ, List, IsTrue, IfOk, OnOk};
 ghost use Rattle.ms_alloc.specs.Allocations.{is_good as is_live};
 ghost use Rattle.ms_runs.specs.World.{World as Meant};

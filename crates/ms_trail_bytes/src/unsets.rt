@@ -1,5 +1,8 @@
 //! Externals that make uninitialised bytes or copy bytes, followed: `malloc`, `realloc`, lifetimes, `memcpy`, with the moves. A
-//! traced run keeps no origins in memory: cells get 0.
+//! traced run keeps no origins in memory: cells get 0. Moves are counted in 64 bits: `few` says that the count so far leaves
+//! room for those that are told. A live range has at most 2^26 bytes, with at most a move for each: 2^27 moves are more than
+//! one range has, 2^28 more than the two of `realloc`. `alloc` is for the names that moves copy; the log grows by its own
+//! allocator. `made` of a world counts the uninitialised bytes so far.
 ghost use Rattle.std.specs.Prelude.{◌≡◌, ◌≤◌, ◌<◌, ◌+◌, ◌^◌, ◌++◌, [], ◌∷◌, ℕ, List, Some, min, true, unwrap_or, IsTrue, OnOk, if◌then◌else◌};
 ghost use Rattle.ms_alloc.specs.Allocations.{heap_size as block_size, is_good as is_live};
 ghost use Rattle.ms_ir.specs.Areas.{Heap};

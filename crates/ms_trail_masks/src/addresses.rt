@@ -1,4 +1,4 @@
-//! Masks of addresses that `getelementptr` computes.
+//! Masks of addresses that `getelementptr` computes. For traced runs of `explain`.
 ghost use Rattle.std.specs.Prelude.{◌≡◌, ◌≤◌, ◌<◌, ◌^◌, length, drop, get_or, All, bit_or};
 ghost use Rattle.ms_bits.specs.Formulas.{carry_mask as carry_mask_of};
 ghost use Rattle.ms_machine_code.specs.{Words.{extended_by}, Fits.{IsSource, IsStride}};

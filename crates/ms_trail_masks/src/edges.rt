@@ -1,4 +1,4 @@
-//! The edge that a jump takes, and the masks of its phis.
+//! The edge that a jump takes, and the masks of its phis. For traced runs of `explain`.
 ghost use Rattle.std.specs.Prelude.{◌≡◌, ◌≤◌, ◌<◌, ℕ, List, length, take, All, OnOk};
 ghost use Rattle.ms_machine_code.specs.Fits.{IsMove};
 ghost use Rattle.ms_trail_masks.specs.{Views.{IsView}, Shades.{masks_read}};

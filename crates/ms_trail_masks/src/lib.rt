@@ -1,5 +1,6 @@
-//! The masks of the words that code reads and makes, as code computes them: the formulas on numbers, and the masks that are kept
-//! by number beside the values of a frame. The code is that by which the plain run goes: what it reads decides its masks.
+//! The masks of the words that code reads and makes, as code computes them: the formulas on numbers, and the masks that are
+//! kept by number beside the values of a frame. The code is that by which the plain run goes: what it reads decides its masks.
+//! For the traced run that `explain` makes.
 #![tactic(auto)]
 
 mod addresses;

@@ -1,5 +1,5 @@
 //! Masks of results, by the formulas, as numbers (after Stepanov and Serebryany, CGO 2015). `v` and `u` are the words of the
-//! operands, `m` and `k` their masks; `t` is a condition and `n` its mask.
+//! operands, `m` and `k` their masks; `t` is a condition and `n` its mask. For traced runs of `explain`.
 ghost use Rattle.std.specs.Prelude.{◌≡◌, ◌≤◌, ◌<◌, ◌+◌, ◌-◌, ◌%◌, ◌^◌, ltb, leb};
 ghost use Rattle.ms_bits.specs.{Arithmetic.{binary_of}, Conversions.{Allows, cast_of, select_of}, NoFlags.{no_flags}};
 ghost use Rattle.ms_bits.specs.Formulas.{and_mask as and_mask_of, or_mask as or_mask_of, eq_mask as eq_mask_of, order_mask as order_mask_of, turned_sign as turned_sign_of, compare_mask as compare_mask_of, select_mask as select_mask_of, carry_mask as carry_mask_of};

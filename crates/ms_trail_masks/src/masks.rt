@@ -1,4 +1,4 @@
-//! The mask of a binary operation and of a cast: which formula of `mask_formulas.rt` it takes.
+//! The mask of a binary operation and of a cast: which formula of `mask_formulas.rt` it takes. For traced runs of `explain`.
 ghost use Rattle.std.specs.Prelude.{◌≡◌, ◌≤◌, ◌<◌, ◌^◌};
 ghost use Rattle.ms_bits.specs.{Conversions.{Allows, cast_of}, NoFlags.{no_flags}};
 ghost use Rattle.ms_runs.specs.Masks.{by_formulas, binary_mask as binary_mask_of, shift_mask as shift_mask_of, value_or_zero as or_zero_of};
@@ -33,7 +33,7 @@ fn shift_mask(op: BinOp, width: u8, a: Seen, b: Seen) -> u64
     }
 }
 
-/// The mask of an operation's result.
+/// The mask of an operation's result. That of a quotient or a remainder is the dividend's: divisors are checked before.
 #[tactic(auto, unfolding(ms_bits::specs::Formulas::union_mask))]
 pub fn binary_mask(op: BinOp, width: u8, a: Seen, b: Seen) -> u64
     requires some { 1 ≤ width }

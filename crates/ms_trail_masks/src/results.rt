@@ -1,4 +1,4 @@
-//! The mask of the result of code that looks at words alone, whichever code it is.
+//! The mask of the result of code that looks at words alone, whichever code it is. For traced runs of `explain`.
 ghost use Rattle.std.specs.Prelude.{length};
 ghost use Rattle.ms_trail_masks.specs.{Views.{IsView}, Results.{IsComputed, IsMask}};
 

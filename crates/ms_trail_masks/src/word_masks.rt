@@ -1,4 +1,5 @@
-//! Masks of functions of whole words. `v`, `u` and `t` are the arguments' words, `m`, `k` and `n` their masks.
+//! Masks of functions of whole words. `v`, `u` and `t` are the arguments' words, `m`, `k` and `n` their masks. For traced runs
+//! of `explain`.
 ghost use Rattle.std.specs.Prelude.{◌≡◌, ◌≤◌, ◌<◌, ◌-◌, ◌^◌, IfOk, eqb, if◌then◌else◌};
 ghost use Rattle.ms_bits.specs.Formulas.{greatest as greatest_of, least as least_of};
 ghost use Rattle.ms_bits.specs.WordFunctions.{bits_of, word_answer, places as places_of, count_mask as count_mask_of, ctpop_mask as ctpop_mask_of, ctlz_mask as ctlz_mask_of, cttz_mask as cttz_mask_of, abs_mask as abs_mask_of, greater_mask as greater_mask_of, smaller_mask as smaller_mask_of, whole_mask as whole_mask_of, word_mask as word_mask_of};

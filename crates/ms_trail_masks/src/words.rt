@@ -1,4 +1,5 @@
-//! The words that code reads in a run that is followed, with their masks. In what `IsView` each value has a mask.
+//! The words that code reads in a run that is followed, with their masks. In what `IsView` each value has a mask. For traced
+//! runs of `explain`.
 ghost use Rattle.std.specs.Prelude.{◌≡◌, ◌<◌, ◌^◌, length};
 ghost use Rattle.ms_machine_code.specs.{Words.{word_of}, Fits.{IsSource}};
 ghost use Rattle.ms_trail_masks.specs.{Shades.{mask_of as mask_read}, Views.{IsView}};
@@ -11,6 +12,7 @@ use ms_machine_code::WordSource;
 #[derive(Clone, Copy, Debug, PartialEq, Eq)]
 pub struct Seen {
     pub value: u64,
+    /// Of poisoned bits.
     pub mask: u64,
 }
 

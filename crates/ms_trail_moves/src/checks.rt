@@ -1,6 +1,6 @@
-//! Whether hops are a way over moves, told from what a way is: nothing but the types is shared with how one is found. The way is
-//! gone back from its end. What is read is a source and a distance: where the source is a byte, the byte so far after it. `event`
-//! is the step that reads it; none at the report's use.
+//! Whether hops are a way over moves, told from what a way is: nothing but the types is shared with how one is found. The way
+//! is gone back from its end. What is read is a source and a distance: where the source is a byte, the byte so far after it.
+//! `event` is the step that reads it; none at the report's use. `check_trail` is for tests; `explain` doesn't call it.
 ghost use Rattle.std.specs.Prelude.{◌≡◌, ◌≤◌, ◌&&◌, MatchBool, eqb, length, slice_get, Some as Held};
 ghost use Rattle.ms_ir.specs.Names.{name_eq};
 ghost use Rattle.ms_trail_moves.specs.{Leads.{Leads}, Scanned.{is_before}};

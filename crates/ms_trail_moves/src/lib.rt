@@ -1,5 +1,5 @@
-//! Moves of poisoned bits in a run, and the way over them on which the bits of a use came: what they are, and how the way is
-//! found and checked. `explain` prints the hops of such a way.
+//! Moves of poisoned bits in a run, and the way over them on which the bits of a use came: what they are, how the way is found,
+//! and, for tests, checked. `explain` prints the hops of such a way.
 #![tactic(auto)]
 
 pub mod back;

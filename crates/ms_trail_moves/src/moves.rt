@@ -40,5 +40,6 @@ pub struct Move {
 pub struct Hop {
     /// The place of the move, counted from 0.
     pub index: u32,
+    /// The byte of the target, counted from 0.
     pub byte: u64,
 }

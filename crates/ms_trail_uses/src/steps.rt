@@ -1,4 +1,5 @@
-//! Has the interpreter take one step of a traced run, where the instruction calls nothing outside the module.
+//! Has the interpreter take one step of a traced run, where the instruction calls nothing outside the module. `made` of a world
+//! counts the uninitialised bytes so far.
 ghost use Rattle.std.specs.Prelude.{◌≡◌, ◌≤◌, ◌<◌, ◌+◌, ◌^◌, IfOk};
 ghost use Rattle.ms_ir.specs.Instructions.{NoMarks};
 ghost use Rattle.ms_runs.specs.{declared.runs.Setup.{Setup}, Plain.{PlainState}};

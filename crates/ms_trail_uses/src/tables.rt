@@ -145,7 +145,7 @@ impl<'m> InstRows<'m> {
         Ok(InstRows { rows })
     }
 
-    /// The row of the instruction with a number.
+    /// The row of the instruction with number `at` in the code.
     pub fn row(&self, at: usize) -> InstRow<'m>
         requires { at < length self.now.rows.items }
         ensures { slice_get self.now.rows.items at ≡ Some result }
