@@ -289,8 +289,8 @@ module _ (m : Module) (u : Setup) (schedule : List ℕ) where
     abbrev within : PlainState
     within = record { frames = p.frames; slots = p.shared.slots; world = p.shared.world }
 
-    turn_is : p.shared.world.turn ≡ t.table.turn
-    turn_is = ap (λ f. f.turn) p.between.shows.fibers ∙ p.between.shares.turn
+    turn_stood : p.shared.world.turn ≡ t.table.turn
+    turn_stood = ap (λ f. f.turn) p.between.shows.fibers ∙ p.between.shares.turn
 
     stands_there : IsRunning m u p.beside t.running.fiber t.running.world within
     stands_there = record {
@@ -300,7 +300,7 @@ module _ (m : Module) (u : Setup) (schedule : List ℕ) where
       slots = p.between.slots;
       fill = p.between.fill;
       sound = record { frames = p.stood.good; slots = p.between.held; world = p.between.good };
-      owns = record { spawned = p.stood.spawned ∙ ap (λ (n : ℕ). not (eqb n 0)) (sym turn_is); blocks = p.stood.blocks };
+      owns = record { spawned = p.stood.spawned ∙ ap (λ (n : ℕ). not (eqb n 0)) (sym turn_stood); blocks = p.stood.blocks };
     }
 
     left_there : t'.running.budget.left ≡ suc p.left
@@ -328,11 +328,11 @@ module _ (m : Module) (u : Setup) (schedule : List ℕ) where
     stops_call (asked.Runtime g) is e last s = absurd is
 
     -- what is told with the call
-    abbrev told_then : Told
-    told_then = record p.said { starts = starts_of t'.table }
+    abbrev told_call : Told
+    told_call = record p.said { starts = starts_of t'.table }
 
-    telling_then : Telling t' told_then
-    telling_then = record {
+    telling_call : Telling t' told_call
+    telling_call = record {
       starts = refl;
       counted = subst (λ r. length r.reports ≤ length p.said.calls) (sym told) p.telling.counted;
       kept = λ wanted. ap (λ v. v.items) calls.1 ∙ p.telling.kept (sym calls.0 ∙ wanted);
@@ -366,7 +366,7 @@ module _ (m : Module) (u : Setup) (schedule : List ℕ) where
     stood_there : calls_there m t'.table p.frames ≡ calls_by m u schedule (acts t.table.turn (Some p.frames)) p.said
     stood_there = λ i. record { sites = call_sites m p.frames; started = started_same i }
 
-    goes_telling_call : (of : Asked) → IsThreadCall of → (next : PlainState) → Resumes m u of within next → CameTo m t' within next → tells_from m u schedule told_then (suc p.left) (goes_at next p.others) ≡ all_told m u schedule
+    goes_telling_call : (of : Asked) → IsThreadCall of → (next : PlainState) → Resumes m u of within next → CameTo m t' within next → tells_from m u schedule told_call (suc p.left) (goes_at next p.others) ≡ all_told m u schedule
     goes_telling_call (asked.External e) is next r came =
         sym (performed_tells m u schedule t.table.turn p.frames next p.others p.said (starts_of t'.table) p.left (came.turn ∙ kept.same.turn) came.calls there (made_there next came))
         ∙ sym (ap (λ (x : Stepped PlainState). tells_after m u schedule (acts t.table.turn (Some p.frames)) p.said p.left (goes_on (plain_going x) (moves (fiber_of m u) p.others))) r.0)
@@ -424,9 +424,9 @@ module _ (m : Module) (u : Setup) (schedule : List ℕ) where
       recorded = subst (λ r. Records r p.made) (sym kept.same.recorder) p.recorded;
       goes = λ next r. ap (λ n. ends_from m u schedule p.made n (goes_at next p.others)) left_there ∙ goes_call call.asked p.stood.call next r;
       stops = λ e last st. stops_call call.asked p.stood.call e last st;
-      said = told_then;
-      telling = telling_then;
-      goes_telling = λ next r came. ap (λ n. tells_from m u schedule told_then n (goes_at next p.others)) left_there ∙ goes_telling_call call.asked p.stood.call next r came;
+      said = told_call;
+      telling = telling_call;
+      goes_telling = λ next r came. ap (λ n. tells_from m u schedule told_call n (goes_at next p.others)) left_there ∙ goes_telling_call call.asked p.stood.call next r came;
       stops_telling = λ e last st reports. stops_telling_call call.asked p.stood.call e last st reports;
       sites = p.sites;
       placed = (sited_kept t t' p.sites p.sited told calls).placed;

@@ -279,11 +279,11 @@ module _ (m : Module) (u : Setup) (schedule : List ℕ) where
           telling_kept t' t'' g.said still_telling (starts_changed t'.table.turn (ended_guest value (result_mask h.within.slots) (result_origin h.within.slots)) (λ t. refl) t'.table t''.table changed)
           (ap (λ (r : Running). r.told) running) calls'
 
-      now_shared : Shares t''.table beside'.fibers
-      now_shared = shares_ended value (result_mask h.within.slots) (result_origin h.within.slots) t'.table t''.table g.beside.fibers shares turn_few changed
-
       turn_few : t'.table.turn ≤ length t'.table.threads.items
       turn_few = omega (arith, standings.turn, standings.counted)
+
+      now_shared : Shares t''.table beside'.fibers
+      now_shared = shares_ended value (result_mask h.within.slots) (result_origin h.within.slots) t'.table t''.table g.beside.fibers shares turn_few changed
 
       shown : Shows t'.running.world beside' shared'.world
       shown =

@@ -25,8 +25,8 @@ pick-requires-clause-place c =
     let p = c.requires.picking.1 in
     subst (λ n. n < length c.args.schedule.now) (sym p.between.stands.place) (mod_below p.others.picks (length c.args.schedule.now) c.requires.scheduled)
 
-pub main_site-requires : goal.main_site-requires
-main_site-requires c =
+pub main_site-site-requires : goal.main_site-site-requires
+main_site-site-requires c =
     let h = none_so c.args.schedule.now c.args.self.now.table c.pick.new.self _ c.if-not-branch.true c.in_ok-pick.ensures in
     subst (λ (g : ThreadTable). 0 < length g.parked.items) (sym h.1) (omega (arith, c.requires.picking.1.between.stands.counted))
 
