@@ -15,7 +15,6 @@ pub fn undisturbed()
 
 /// Checks don't disturb where a run stands either: the calls that stand where a shadow run of a module without marks ends without
 /// a report, or its steps are spent, stand there in its plain run. This holds for every choice of masks.
-#[tactic(auto, using(crate::proofs::EndCalls::end_calls_alike))]
 pub fn end_calls_are_the_same()
     ensures { (d : Rules) (m : Module) → NoMarks m → (setup : Setup) → (shadow_by d m setup).«end» ≢ Reported → plain_end_calls m setup ≡ shadow_end_calls_by d m setup }
 {}
