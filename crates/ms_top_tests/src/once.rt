@@ -5,7 +5,8 @@ use ms_top_rows::told::{all_run_alike, all_told};
 use std::test::Fail;
 
 /// Calls of `check`, of which `run` says the same where the module is first written with inserted code.
-static CHECKED: &[u8] = br#"# A use in a loop is reported in its first round alone; another one after the loop is reported too.
+static CHECKED: &[u8] =
+    br#"# A use in a loop is reported in its first round alone; another one after the loop is reported too.
 check --once --reports 9 f~
 define i32 @main() {
   br label %loop
@@ -403,7 +404,8 @@ schedule: 00
 ====
 "#;
 
-static SECTIONS: &[u8] = br#"# Each run has its own reports: what one of them reported is no earlier report of another.
+static SECTIONS: &[u8] =
+    br#"# Each run has its own reports: what one of them reported is no earlier report of another.
 corpus --once --reports 9 f a b~
 define i32 @main() {
   br label %loop
