@@ -2,14 +2,14 @@
 ghost use Rattle.std.specs.Prelude.{◌≡◌, ℕ, ◌<◌, ◌≤◌, false, All, length, map, IfOk};
 ghost use Rattle.ms_ir.specs.ThreadCalls.{is_threaded};
 ghost use Rattle.ms_runs.specs.Limits.{WithinLimits};
-ghost use Rattle.ms_runtime.specs.ToldRuns.{plain_told};
-ghost use Rattle.ms_corpus.specs.Jobs.{with_input, input_of};
+ghost use Rattle.ms_corpus.specs.{Jobs.{with_input, input_of}, Wanted.{plain_wanted}};
 
+use crate::wanted::{Wanted, run_wanted};
 use ms_bits::{Bytes, Duplicate, List, NoMemory};
 use ms_check::CheckedModule;
 use ms_fork::{Gate, Split, Work, parallel_map};
 use ms_runs::Setup;
-use ms_runtime::{ToldRun, run_told};
+use ms_runtime::ToldRun;
 use std::alloc::Global;
 use std::thread::Threads;
 
@@ -19,8 +19,7 @@ struct InputRuns<'a> {
     module: &'a CheckedModule,
     inputs: &'a [Bytes],
     setup: &'a Setup,
-    /// Whether the calls at reports are wanted.
-    calls: bool,
+    wanted: Wanted,
 }
 
 impl<'a> InputRuns<'a> {
@@ -43,17 +42,16 @@ impl<'a> Work for InputRuns<'a> {
 
     ghost can = { λ work k. (k < length work.inputs.now) × (is_threaded work.module.now ≡ false) × WithinLimits (with_input work.setup.now (input_of work.inputs.now k)) };
 
-    ghost answer = { λ work k. plain_told work.calls work.module.now (with_input work.setup.now (input_of work.inputs.now k)) };
+    ghost answer = { λ work k. plain_wanted work.wanted work.module.now (with_input work.setup.now (input_of work.inputs.now k)) };
 
     fn make(&self, alloc: Global, index: usize) -> Result<ToldRun, NoMemory> {
         let setup = self.setup_of(alloc, &self.inputs[index])?;
-        run_told(alloc, self.module, &setup, self.calls)
+        run_wanted(alloc, self.module, &setup, self.wanted)
     }
 }
 
 /// Runs a module without thread calls on each of the inputs, with the fill, the bound of steps and the limit of reports of `setup`:
-/// the list of what each run alone tells, in the order of the inputs, for every number of workers and every gate. With `calls` that
-/// has the calls at each report.
+/// the list of what each run alone tells of what is wanted, in the order of the inputs, for every number of workers and every gate.
 ///
 /// Each job enters the gate with its number, counted from 0, before it does anything else. The list is cut in halves, and at
 /// most `workers` threads are at work at once; where no thread can be made, jobs run one after another.
@@ -63,20 +61,20 @@ pub fn run_all<R: Threads + Sync, G: Gate + Sync>(
     j: &CheckedModule,
     inputs: &[Bytes],
     setup: &Setup,
-    calls: bool,
+    wanted: Wanted,
     workers: u8,
     gate: &G,
 ) -> Result<List<ToldRun>, NoMemory>
     requires workers { (1 ≤ workers) × (workers ≤ 8) }
     requires limits { All (λ input. WithinLimits (with_input setup.now input)) inputs.now }
     requires alone { is_threaded j.now ≡ false }
-    ensures { IfOk result (λ all. all ≡ map (λ input. plain_told calls j.now (with_input setup.now input)) inputs.now) }
+    ensures { IfOk result (λ all. all ≡ map (λ input. plain_wanted wanted j.now (with_input setup.now input)) inputs.now) }
 {
     let work = InputRuns {
         module: j,
         inputs,
         setup,
-        calls,
+        wanted,
     };
     let split = Split {
         most: 1,

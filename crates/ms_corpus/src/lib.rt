@@ -2,6 +2,8 @@
 #![tactic(auto)]
 
 mod jobs;
+mod wanted;
 
 pub use jobs::run_all;
 pub use ms_fork::{Gate, OpenGate};
+pub use wanted::{Wanted, run_wanted};

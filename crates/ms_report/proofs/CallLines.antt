@@ -101,7 +101,7 @@ module _ (under : Lines) (all : (site : ℕ) → IsIndented (under site)) where
       subst (Leaves (first ++ under_line under (end_site r.«end»))) (sym (ap (λ (t : List ℕ). first ++ t) (none_under (end_site r.«end»)) ∙ append-nil first))
       (without (end_stays under all m r) (goes_under under (end_site r.«end») all))
 
-  closing_leave : (m : Module) (r : RunResult) (calls : Option Calls) (verdict : Bool) → Leaves (closing_calling under m r calls verdict) (closing_calling no_lines m r calls verdict)
+  pub closing_leave : (m : Module) (r : RunResult) (calls : Option Calls) (verdict : Bool) → Leaves (closing_calling under m r calls verdict) (closing_calling no_lines m r calls verdict)
   closing_leave m r calls verdict =
       both (both (both (both (end_leaves m r) (ended_leaves m r.«end» calls)) (reports_stay under all (length r.reports))) (blind_stays under all r.blind)) (verdict_leaves under all verdict r)
 

@@ -79,6 +79,10 @@ kept line rest is plain = first_line line rest is ∙ ap (λ (t : Bool). (if t t
 pub stays : (line : List ℕ) → IsLine line → starts_with nat_eq line (codes "    ") ≡ false → Leaves line line
 stays line is plain = record { with = λ rest. kept line rest is plain }
 
+-- one that does goes
+pub goes_alone : (line : List ℕ) → IsLine line → starts_with nat_eq line (codes "    ") ≡ true → Leaves line []
+goes_alone line is begins = record { with = λ rest. first_line line rest is ∙ ap (λ (t : Bool). (if t then [] else line) ++ unindented rest) begins }
+
 -- indented lines
 indented_line : (line : List ℕ) → Single line → IsLine (indented line)
 indented_line line single = line_after (joined (literal (codes "    ") refl) single) newline

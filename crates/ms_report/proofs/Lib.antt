@@ -7,4 +7,5 @@ pub mod TrailLines
 mod SiteCounts
 pub mod FewCalls
 pub mod CallLines
+pub mod BlindLines
 pub mod Uncalled

@@ -29,13 +29,13 @@ use Rattle.ms_report.proofs.TrailLines.{of_move, of_way, of_source}
 pub record Lacks (text left : List ℕ) : Type 0 where
   pub with : (rest : List ℕ) → uncalled (text ++ rest) ≡ left ++ uncalled rest
 
-nothing : Lacks [] []
+pub nothing : Lacks [] []
 nothing = record { with = λ rest. refl }
 
 pub whole : (text left : List ℕ) → Lacks text left → uncalled text ≡ left
 whole text left lacks = ap uncalled (sym (append-nil text)) ∙ lacks.with [] ∙ append-nil left
 
-both : {a b x y : List ℕ} → Lacks a x → Lacks b y → Lacks (a ++ b) (x ++ y)
+pub both : {a b x y : List ℕ} → Lacks a x → Lacks b y → Lacks (a ++ b) (x ++ y)
 both {a = a} {b = b} {x = x} {y = y} first second = record {
   with = λ rest. ap uncalled (append_assoc a b rest) ∙ first.with (b ++ rest) ∙ ap (λ t. x ++ t) (second.with rest) ∙ sym (append_assoc x y (uncalled rest));
 }
@@ -44,7 +44,7 @@ first_line : (line rest : List ℕ) → IsLine line → uncalled (line ++ rest) 
 first_line line rest is = ap (flat_map unless_call) (first_cut line rest is.ends)
 
 -- another line stays, one of these goes
-stays : (line : List ℕ) → IsLine line → tells_call line ≡ false → Lacks line line
+pub stays : (line : List ℕ) → IsLine line → tells_call line ≡ false → Lacks line line
 stays line is other = record { with = λ rest. first_line line rest is ∙ ap (λ (t : Bool). (if t then [] else line) ++ uncalled rest) other }
 
 goes : (line : List ℕ) → IsLine line → tells_call line ≡ true → Lacks line []
@@ -128,7 +128,7 @@ ended_go m ends.Spent calls = nothing
 gone : {a b x : List ℕ} → Lacks a x → Lacks b [] → Lacks (a ++ b) x
 gone {a = a} {b = b} {x = x} first second = record { with = λ rest. ap uncalled (append_assoc a b rest) ∙ first.with (b ++ rest) ∙ ap (λ t. x ++ t) (second.with rest) }
 
-closing_lacks : (m : Module) (r : RunResult) (calls : Option Calls) (verdict : Bool) → Lacks (closing_calling no_lines m r calls verdict) (closing_text_with no_lines m r verdict)
+pub closing_lacks : (m : Module) (r : RunResult) (calls : Option Calls) (verdict : Bool) → Lacks (closing_calling no_lines m r calls verdict) (closing_text_with no_lines m r verdict)
 closing_lacks m r calls verdict =
     both
     (both
@@ -146,7 +146,7 @@ schedule_stays : (shown : Bool) (schedule : List ℕ) → Lacks (schedule_line s
 schedule_stays false schedule = nothing
 schedule_stays true schedule = stays (schedule_line true schedule) (value_line (codes "schedule") _ (literal _ refl) (of_hex schedule)) refl
 
-schedules_stay : (tried : ℕ) (all_tried : Bool) (outcomes : ℕ) (shown : Bool) (schedule : List ℕ)
+pub schedules_stay : (tried : ℕ) (all_tried : Bool) (outcomes : ℕ) (shown : Bool) (schedule : List ℕ)
     → Lacks (schedules_text tried all_tried outcomes shown schedule) (schedules_text tried all_tried outcomes shown schedule)
 schedules_stay tried all_tried outcomes shown schedule =
     both

@@ -5,6 +5,7 @@ pub mod RefusalTexts
 pub mod WordsTexts
 pub mod WithLines
 pub mod CallTexts
+pub mod BlindTexts
 pub mod Uncalled
 pub mod BriefTexts
 pub mod TrailTexts

@@ -8,6 +8,7 @@ mod faults;
 mod laws;
 mod lines;
 mod names;
+mod places;
 mod refusals;
 mod reports;
 mod schedules;
@@ -19,6 +20,7 @@ mod words;
 
 pub use endings::{closing, closing_calling, closing_with};
 pub use laws::{law_functions_are_named, law_lines_are_added};
+pub use places::places_text;
 pub use refusals::{Refusal, refusal_line, refusal_line_with, threads_line};
 pub use reports::{report_text, report_text_calling, report_text_with};
 pub use schedules::schedules_text;

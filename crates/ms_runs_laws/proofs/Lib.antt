@@ -17,3 +17,4 @@ pub mod FollowedFrames
 pub mod FollowedPlanes
 pub mod FollowedSteps
 pub mod BlindPlaces
+pub mod EndCalls

@@ -48,12 +48,11 @@ with_running r running = record r { running = running }
 
 module _ (m : Module) (u : Setup) where
   -- a run at its start has recorded nothing
-  pub told_begun : is_threaded m ≡ false → (r : Recorded) → Begins m u r.running → r.calls.items ≡ [] → r.ended ≡ None → Placed [] r.places → GoingTold m u r
-  told_begun calm r b none unended unplaced = record {
+  pub told_begun : is_threaded m ≡ false → (r : Recorded) → Begins m u r.running → r.calls.items ≡ [] → Placed [] r.places → GoingTold m u r
+  told_begun calm r b none unplaced = record {
     going = going_begun m u calm r.running b;
     counted = λ wanted. ap length none ∙ ap length b.told.reports;
     same = λ wanted. begun_tells reports_made (λ (p : PlainState). main_calls m p.frames) m u calm r.running b r.calls.items none;
-    none = unended;
     ends = begun_ends m u calm r.running b;
     sites = [];
     sited = record { blind = sym b.told.blind; placed = λ wanted. unplaced };
@@ -109,7 +108,6 @@ module _ (m : Module) (u : Setup) where
       paused = going_asks m u r.running g.going r' depot told call h made;
       counted = λ wanted. g.counted wanted ∙ ap (λ (t : RunResult). length t.reports) (sym told);
       same = λ wanted. sym (going_tells m u r.running g.going r' depot told call h made reports_made (λ (p : PlainState). main_calls m p.frames) made_reports (of_reports m u) r.calls.items (g.counted wanted)) ∙ g.same wanted;
-      none = g.none;
       ends = sym (going_ends m u r.running g.going r' depot told call h made) ∙ g.ends;
       sites = g.sites;
       sited = record { blind = g.sited.blind ∙ ap (λ (t : RunResult). t.blind) (sym told); placed = g.sited.placed };
@@ -180,13 +178,13 @@ module _ (m : Module) (u : Setup) where
           (places_then (answer.Ended e) x w after.places (counted w)),
     )
 
-    pub answer_goes : (value : Option ℕ) → AnsweredFor m u call b.paused.asking.within (answer.Resumed value) r.running r' → (after : Recorded) → after.wanted ≡ r.wanted → after.ended ≡ r.ended
+    pub answer_goes : (value : Option ℕ) → AnsweredFor m u call b.paused.asking.within (answer.Resumed value) r.running r' → (after : Recorded) → after.wanted ≡ r.wanted
         → (r.wanted ≡ true → Noted m r'.fiber 0 (length r'.told.reports) r.calls.items after.calls.items)
         → (r.wanted ≡ true → (places : List BlindPlace) → Placed places r.places → Placed (if ltb r.running.told.blind r'.told.blind then counted_at call.site places else places) after.places)
         → after.running.world ≡ r'.world → after.running.depot ≡ r'.depot → after.running.told ≡ r'.told → after.running.budget ≡ r'.budget → after.running.fiber.frame.at ≡ r'.fiber.frame.at + 1 → KeepsOwn r'.fiber after.running.fiber
         → ((frame : Frame ℕ) (below : List (Frame ℕ)) → AllStandFor m (frames_of r'.fiber) (frame ∷ below) → Waits m u frame call → AllStandFor m (frames_of after.running.fiber) (answered m value frame ∷ below))
         → TurnedTold m u (ahead m r.running) None after
-    answer_goes value x after same unended noted counted world depot told budget at own frames =
+    answer_goes value x after same noted counted world depot told budget at own frames =
         let q = asked_goes_on m u p compiled formed valid r.running call b.paused r' value x after.running world depot told budget at own frames in
         let is : r.wanted ≡ true → after.calls.items ≡ tell (main_calls m b.paused.asking.within.frames) after.running.told.reports r.calls.items =
         (λ w. noted_there (answer.Resumed value) x after.calls.items (noted w) ∙ ap (λ (t : RunResult). tell (main_calls m b.paused.asking.within.frames) t.reports r.calls.items) (sym told)) in (
@@ -199,7 +197,6 @@ module _ (m : Module) (u : Setup) where
             same = λ wanted.
                 let w : r.wanted ≡ true = sym same ∙ wanted in
                 goes_tell m u p compiled formed valid r.running call b.paused r' reports_made (λ (p : PlainState). main_calls m p.frames) made_reports (of_reports m u) after.running q.0 q.1.1 q.1.2 after.calls.items r.calls.items (plain_calls m u) (is w) (b.same w);
-            none = unended ∙ b.none;
             ends = goes_ends m u p compiled formed valid r.running call b.paused r' after.running q.0 q.1.1 q.1.2 b.ends;
             sites = sites_then;
             sited = record {

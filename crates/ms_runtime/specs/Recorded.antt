@@ -62,7 +62,6 @@ pub record GoingTold (m : Module) (u : Setup) (r : Recorded) : Type 0 where
   pub going : Going m u r.running
   pub counted : r.wanted ≡ true → length r.calls.items ≡ length r.running.told.reports
   pub same : r.wanted ≡ true → RecordsFrom m u r.running.budget.left going.state r.calls.items
-  pub none : r.ended ≡ None
   pub ends : EndsFrom m u r.running.budget.left going.state
   pub sites : List ℕ
   pub sited : Sited r sites
@@ -73,7 +72,6 @@ pub record PausedTold (m : Module) (u : Setup) (call : HostCall) (r : Recorded) 
   pub paused : Paused m u call r.running
   pub counted : r.wanted ≡ true → length r.calls.items ≡ length r.running.told.reports
   pub same : r.wanted ≡ true → RecordsAfter m u paused.rest paused.asking.within r.calls.items
-  pub none : r.ended ≡ None
   pub ends : EndsAfter m u paused.rest paused.asking.within
   pub sites : List ℕ
   pub sited : Sited r sites

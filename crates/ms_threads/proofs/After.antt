@@ -1,11 +1,12 @@
 -- After the answer to a call a run of threads goes on, or has ended, as its definition does.
-use Rattle.std.proofs.Common.{◌≡◌, ◌<◌, ◌≤◌, ◌+◌, ◌-◌, ◌*◌, ◌++◌, ℕ, suc, Bool, true, false, not, eqb, List, ◌∷◌, length, replicate, slice_get, refl, sym, ap, subst, ◌∙◌, arith, Option, Some, None, inl}
+use Rattle.std.proofs.Common.{◌≡◌, ◌<◌, ◌≤◌, ◌+◌, ◌-◌, ◌*◌, ◌^◌, ◌++◌, ℕ, suc, Bool, true, false, not, eqb, ltb, if◌then◌else◌, List, ◌∷◌, length, replicate, slice_get, refl, sym, ap, subst, ◌∙◌, arith, Option, Some, None, inl}
 use Rattle.ms_ir.specs.declared.syntax.Module.{Module}
 use Rattle.ms_ir.specs.declared.calls.External.{External}
 use Rattle.ms_ir.specs.Instructions.{over_funcs}
 use Rattle.ms_ir.specs.Signatures.{is_thread_call}
 use Rattle.ms_check_valid.specs.Formed.{Formed}
 use Rattle.ms_check_valid.specs.Valid.{Valid}
+use Rattle.ms_runs.specs.declared.runs.BlindPlace.{BlindPlace}
 use Rattle.ms_runs.specs.declared.runs.Calls.{Calls}
 use Rattle.ms_runs.specs.declared.runs.End.{End}
 use Rattle.ms_runs.specs.declared.runs.Report.{Report}
@@ -13,13 +14,15 @@ use Rattle.ms_runs.specs.declared.runs.Setup.{Setup}
 use Rattle.ms_runs.specs.World.{World}
 use Rattle.ms_runs.specs.Control.{Frame}
 use Rattle.ms_runs.specs.Plain.{PlainState, Stepped, Stop, setting_of}
-use Rattle.ms_runs.specs.Calls.{call_sites, tell}
-use Rattle.ms_runs.proofs.Telling.{tell_none}
+use Rattle.ms_runs.specs.Calls.{call_sites, innermost_site, tell_to, tell, places_of, counted_at}
+use Rattle.ms_runs.proofs.Telling.{told_count, told_enough, tell_none}
 use Rattle.ms_runs.specs.Threads.{Fibers}
 use Rattle.ms_runs_good_laws.specs.GoodStates.{IsStart}
+use Rattle.ms_runs_good_laws.proofs.ReportsGrow.{stepped_world, step_blind_grows}
 use Rattle.ms_runs_threads.specs.Fibers.{goes_on, moves, fibers_step}
 use Rattle.ms_runs_threads.specs.PlainFibers.{plain_going, frames_site}
 use Rattle.ms_runs_threads.specs.Calls.{Told, start_of}
+use Rattle.ms_runs_threads.specs.Blind.{plain_threads_blind}
 use Rattle.ms_machine_code.specs.declared.code.Program.{Program}
 use Rattle.ms_machine_code.specs.Compiled.{Compiled}
 use Rattle.ms_host.specs.State.{WorldState}
@@ -39,7 +42,9 @@ use Rattle.ms_machine_steps.proofs.Answered.{waiter, below_it, waits, waiter_sta
 use Rattle.ms_machine.specs.Running.{AllStandFor, IsRunning}
 use Rattle.ms_machine.specs.Standing.{RunsSomewhere}
 use Rattle.ms_machine.proofs.Programs.{frames_to, frames_from, state_to, state_from}
+use Rattle.ms_runtime.specs.declared.places.BlindPlaces.{BlindPlaces}
 use Rattle.ms_runtime.specs.declared.runs.Running.{Running}
+use Rattle.ms_runtime.specs.Places.{Placed, CountsBelow}
 use Rattle.ms_runtime.specs.Served.{IsBeside}
 use Rattle.ms_runtime.specs.Answering.{HasRoom, AnsweredFor}
 use Rattle.ms_runtime.specs.Going.{ahead, LeftAfter}
@@ -51,12 +56,13 @@ use Rattle.ms_threads.specs.declared.thread_table.ThreadTable.{ThreadTable}
 use Rattle.ms_threads.specs.ThreadTables.{standing_of, IsThreadCall, asked_starts, threads_of, starts_of, Shares, KeepsStands, SharesOn, Did}
 use Rattle.ms_threads_schedules_laws.specs.Picks.{Pick}
 use Rattle.ms_threads.specs.Recording.{Records}
-use Rattle.ms_threads.specs.Going.{Standings, IsOver, ended_so, fiber_of, goes_at, ends_from, ends_after, last_of, told_so, tells_from, tells_after, all_told, calls_there, acts, Telling, KeepsCalls, Noted, CameTo, Going, Asking, After, Performing, Turned, most_ahead, far_of}
+use Rattle.ms_threads.specs.Going.{Standings, IsOver, ended_so, fiber_of, goes_at, ends_from, ends_after, last_of, told_so, tells_from, tells_after, all_told, calls_there, acts, blind_from, blind_after, site_after, Telling, KeepsCalls, Noted, CameTo, Going, Asking, After, Performing, Turned, most_ahead, far_of}
 use Rattle.ms_threads.proofs.Threading.{made_in, count_starts, count_threads}
 use Rattle.ms_threads.proofs.Kept.{standings_kept}
 use Rattle.ms_machine_steps.specs.Callers.{CallersOf}
 use Rattle.ms_machine.proofs.CallSites.{callers_run}
 use Rattle.ms_threads.proofs.Telling.{tell_covers, start_more, telling_kept, all_started, waits_site, calls_by, going, early_tells, performed_tells}
+use Rattle.ms_threads.proofs.BlindUses.{same_site, blind_so, sited_kept, places_before, places_then, stands_at, early_blind}
 use Rattle.ms_threads.proofs.FiberSteps.{same_step, own_step, step_ends}
 use Rattle.ms_threads.proofs.Turns.{ends_so}
 
@@ -82,7 +88,8 @@ module _ (m : Module) (u : Setup) (schedule : List ℕ) where
 
   module _ (t t' : ThreadedRun) (call : HostCall) (a : Asking m u schedule call t) (other : IsThreadCall call.asked → ⊥) (x : Answer) (f : AnsweredFor m u call a.within x t.running t'.running) (guests : t'.table ≡ t.table)
       (wanted : t'.wanted ≡ t.wanted) (noted : t.wanted ≡ true → t'.calls.items ≡ tell (calls_from m (start_of t.table.turn (starts_of t.table)) a.within.frames) t'.running.told.reports t.calls.items)
-      (unended : t'.ended ≡ t.ended) where
+      (unended : t'.ended ≡ t.ended)
+      (counted : t.wanted ≡ true → (places : List BlindPlace) → Placed places t.places → Placed (if ltb t.running.told.blind t'.running.told.blind then counted_at call.site places else places) t'.places) where
     -- whose turn it is
     turn_is : a.within.world.turn ≡ t.table.turn
     turn_is = ap (λ (k : Fibers). k.turn) a.stands.shows.fibers ∙ a.shares.turn
@@ -104,6 +111,45 @@ module _ (m : Module) (u : Setup) (schedule : List ℕ) where
           ∙ ap (tell (calls_by m u schedule (going m u schedule a.within) a.said) t'.running.told.reports) (a.telling.kept w);
       none = unended ∙ a.telling.none;
     }
+
+    -- the sites of blind uses with it
+    abbrev sites_then : List ℕ
+    sites_then = tell_to (innermost_site m a.within.frames) t'.running.told.blind a.sites
+
+    placed_then : t'.wanted ≡ true → Placed (places_of sites_then) t'.places
+    placed_then wants =
+        let w : t.wanted ≡ true = sym wanted ∙ wants in
+        subst (λ (site : ℕ). Placed (places_of (tell_to site t'.running.told.blind a.sites)) t'.places) (sym (waits_site m u a.within.frames call a.waits) ∙ same_site m u a.within.frames)
+        (places_then t a.sites a.sited w call.site t'.running.told.blind f.blind t'.places (counted w))
+
+    -- the world has counted what the run had before
+    counted_within : a.within.world.blind ≡ t.running.told.blind
+    counted_within = blind_so a.beside t.running.world a.within.world t.running a.stands.shows a.told (omega (arith, a.keeping.blind))
+
+    -- and no less then
+    counted_more : (of : Asked) → (next : PlainState) → Resumes m u of a.within next → a.within.world.blind ≤ next.world.blind
+    counted_more (asked.External e) next r = subst (λ (x : Stepped PlainState). a.within.world.blind ≤ (stepped_world x).blind) r.0 (step_blind_grows (setting_of m u) m a.within)
+    counted_more (asked.Runtime g) next r = r.blind
+
+    goes_sited_by : (of : Asked) → (next : PlainState) → Resumes m u of a.within next → CameTo m t' a.within next → length sites_then ≡ t'.running.told.blind
+    goes_sited_by of next r came =
+        let more = counted_more of next r in
+        let before = counted_within in
+        let after = came.blind in
+        told_count (innermost_site m a.within.frames) t'.running.told.blind a.sites (omega (arith, more, before, after, a.sited.blind))
+
+    goes_lost_by : (of : Asked) → (IsThreadCall of → ⊥) → LeftAfter of a.rest t.running.budget.left → (next : PlainState) → Resumes m u of a.within next → CameTo m t' a.within next
+        → blind_from m u schedule sites_then t.running.budget.left (goes_at next a.others) ≡ plain_threads_blind m u schedule
+    goes_lost_by (asked.External e) none c next r came =
+        ap (λ n. blind_from m u schedule sites_then n (goes_at next a.others)) (sym c)
+        ∙ ap (λ (n : ℕ). blind_from m u schedule (tell_to (innermost_site m a.within.frames) n a.sites) a.rest (goes_at next a.others)) (sym came.blind)
+        ∙ ap (λ (site : ℕ). blind_from m u schedule (tell_to site next.world.blind a.sites) a.rest (goes_at next a.others)) (sym (same_site m u a.within.frames))
+        ∙ sym (ap (blind_after m u schedule (stands_at m u schedule a.within) a.sites a.rest) (own_step m u schedule a.within next a.others (r.1 (not_thread e none)) r.0))
+        ∙ a.lost
+    goes_lost_by (asked.Runtime g) none c next r came =
+        ap (λ n. blind_from m u schedule sites_then n (goes_at next a.others)) (sym c)
+        ∙ sym (early_blind m u schedule a.within next a.others a.sites a.rest t'.running.told.blind r came.blind)
+        ∙ a.lost
 
     -- as many threads are there as sites are told of
     came_started : (next : PlainState) → CameTo m t' a.within next → length next.world.threads ≡ length a.said.starts
@@ -134,6 +180,12 @@ module _ (m : Module) (u : Setup) (schedule : List ℕ) where
         ap (λ (rs : List Report). told_so (tell (calls_by m u schedule (going m u schedule a.within) a.said) rs a.said.calls) (Some (calls_there m t'.table a.within.frames))) (sym reports)
         ∙ ap (λ (c : Calls). told_so (tell (calls_by m u schedule (going m u schedule a.within) a.said) last.reports a.said.calls) (Some c)) (ap (λ (g : ThreadTable). calls_there m g a.within.frames) guests ∙ same_calls)
         ∙ sym (ap (tells_after m u schedule (going m u schedule a.within) a.said a.rest) (stops_so of none e last s)) ∙ a.tells
+
+    stops_lost_by : (of : Asked) → (IsThreadCall of → ⊥) → (e : End) (last : World) → Stops m u of a.within e last → last.blind ≡ t'.running.told.blind → sites_then ≡ plain_threads_blind m u schedule
+    stops_lost_by of none e last s blind =
+        ap (λ (n : ℕ). tell_to (innermost_site m a.within.frames) n a.sites) (sym blind)
+        ∙ ap (λ (site : ℕ). tell_to site last.blind a.sites) (sym (same_site m u a.within.frames))
+        ∙ sym (ap (blind_after m u schedule (stands_at m u schedule a.within) a.sites a.rest) (stops_so of none e last s)) ∙ a.lost
 
     left_is : t'.running.budget.left ≡ t.running.budget.left
     left_is = ap (λ b. b.left) f.budget
@@ -183,6 +235,11 @@ module _ (m : Module) (u : Setup) (schedule : List ℕ) where
       telling = telling_then;
       goes_telling = λ next r came. ap (λ n. tells_from m u schedule told_then n (goes_at next a.others)) left_is ∙ goes_telling_by call.asked other a.counted next r came;
       stops_telling = λ e last s reports. stops_telling_by call.asked other e last s reports;
+      sites = sites_then;
+      placed = placed_then;
+      goes_sited = λ next r came. goes_sited_by call.asked next r came;
+      goes_lost = λ next r came. ap (λ n. blind_from m u schedule sites_then n (goes_at next a.others)) left_is ∙ goes_lost_by call.asked other a.counted next r came;
+      stops_lost = λ e last s blind. stops_lost_by call.asked other e last s blind;
     }
 
     -- it is no further to the end
@@ -193,11 +250,22 @@ module _ (m : Module) (u : Setup) (schedule : List ℕ) where
   pub somewhere : (t : ThreadedRun) (call : HostCall) → Asking m u schedule call t → (fiber : Fiber) → fiber ≡ t.running.fiber → RunsSomewhere m fiber
   somewhere t call a fiber is = (t.running.world, (u, a.beside, a.within, subst (λ (g : Fiber). IsRunning m u a.beside g t.running.world a.within) (sym is) a.stands))
 
-  -- and its calls were recorded
+  -- and its places count fewer blind uses than may be
+  pub few_places : (t n : ThreadedRun) (call : HostCall) → Asking m u schedule call t → n.wanted ≡ t.wanted → n.places ≡ t.places → n.wanted ≡ true → (places : List BlindPlace) × (Placed places n.places × CountsBelow (2 ^ 63) places)
+  few_places t n call a same kept wants =
+      subst (λ (p : BlindPlaces). (places : List BlindPlace) × (Placed places p × CountsBelow (2 ^ 63) places)) (sym kept) (places_before t a.sites a.sited (omega (arith, a.keeping.blind)) (sym same ∙ wants))
+
+  -- and its calls were recorded, and the place of a blind use
   module _ (t t' n : ThreadedRun) (call : HostCall) (a : Asking m u schedule call t) (other : IsThreadCall call.asked → ⊥) (x : Answer) (f : AnsweredFor m u call a.within x t.running t'.running) (guests : t'.table ≡ t.table)
-      (keeps : KeepsCalls t t') (same : n ≡ record t' { calls = n.calls }) (noted : t'.wanted ≡ true → Noted m t' n) where
+      (keeps : KeepsCalls t t') (same : n ≡ record t' { calls = n.calls }) (noted : t'.wanted ≡ true → Noted m t' n)
+      (kept : BlindPlaces) (placed : n.wanted ≡ true → (places : List BlindPlace) → Placed places n.places → Placed (if ltb t.running.told.blind n.running.told.blind then counted_at call.site places else places) kept) where
     abbrev noting : ThreadedRun
-    noting = record t' { calls = n.calls }
+    noting = record t' { calls = n.calls; places = kept }
+
+    placed_there : t.wanted ≡ true → (places : List BlindPlace) → Placed places t.places → Placed (if ltb t.running.told.blind t'.running.told.blind then counted_at call.site places else places) kept
+    placed_there wanted places held =
+        subst (λ (y : ThreadedRun). y.wanted ≡ true → Placed places y.places → Placed (if ltb t.running.told.blind y.running.told.blind then counted_at call.site places else places) kept) same (λ w. placed w places) (keeps.0 ∙ wanted)
+        (subst (Placed places) (sym keeps.3) held)
 
     noted_there : t.wanted ≡ true → n.calls.items ≡ tell (calls_from m (start_of t.table.turn (starts_of t.table)) a.within.frames) t'.running.told.reports t.calls.items
     noted_there wanted =
@@ -205,11 +273,11 @@ module _ (m : Module) (u : Setup) (schedule : List ℕ) where
         ∙ ap (λ (g : ThreadTable). tell (calls_from m (start_of g.turn (starts_of g)) a.within.frames) t'.running.told.reports t'.calls.items) guests
         ∙ ap (λ v. tell (calls_from m (start_of t.table.turn (starts_of t.table)) a.within.frames) t'.running.told.reports v.items) keeps.1
 
-    pub noted_after : After m u schedule call x n
-    noted_after = subst (λ (y : ThreadedRun). After m u schedule call x y) (sym same) (answered_after t noting call a other x f guests keeps.0 noted_there keeps.2)
+    pub noted_after : After m u schedule call x (record n { places = kept })
+    noted_after = subst (λ (y : ThreadedRun). After m u schedule call x (record y { places = kept })) (sym same) (answered_after t noting call a other x f guests keeps.0 noted_there keeps.2 placed_there)
 
     pub noted_far : ahead m n.running ≤ ahead m t.running
-    noted_far = subst (λ (y : ThreadedRun). ahead m y.running ≤ ahead m t.running) (sym same) (answered_far t noting call a other x f guests keeps.0 noted_there keeps.2)
+    noted_far = subst (λ (y : ThreadedRun). ahead m y.running ≤ ahead m t.running) (sym same) (answered_far t noting call a other x f guests keeps.0 noted_there keeps.2 placed_there)
 
   -- ---- a thread call was answered
 
@@ -314,6 +382,19 @@ module _ (m : Module) (u : Setup) (schedule : List ℕ) where
         ∙ p.tells
     stops_telling_call (asked.Runtime g) is e last s reports = absurd is
 
+    -- nothing is said of blind uses with it
+    goes_lost_call : (of : Asked) → IsThreadCall of → (next : PlainState) → Resumes m u of within next → blind_from m u schedule p.sites (suc p.left) (goes_at next p.others) ≡ plain_threads_blind m u schedule
+    goes_lost_call (asked.External e) is next r =
+        sym (ap (λ (x : Stepped PlainState). blind_after m u schedule (site_after m u p.frames (plain_going x)) p.sites p.left (goes_on (plain_going x) (moves (fiber_of m u) p.others))) r.0) ∙ p.lost
+    goes_lost_call (asked.Runtime g) is next r = absurd is
+
+    stops_lost_call : (of : Asked) → IsThreadCall of → (e : End) (last : World) → Stops m u of within e last → last.blind ≡ t'.running.told.blind → p.sites ≡ plain_threads_blind m u schedule
+    stops_lost_call (asked.External g) is e last s blind =
+        let same = same_blind in
+        sym (told_enough (frames_site (setting_of m u) m p.frames) last.blind p.sites (omega (arith, same, blind, p.sited.blind)))
+        ∙ sym (ap (λ (x : Stepped PlainState). blind_after m u schedule (site_after m u p.frames (plain_going x)) p.sites p.left (goes_on (plain_going x) (moves (fiber_of m u) p.others))) s.0) ∙ p.lost
+    stops_lost_call (asked.Runtime g) is e last s blind = absurd is
+
     shares_by : (a : Answer) → SharesOn a t'.table d.0 → (v : Option ℕ) → a ≡ answer.Resumed v → Shares t'.table d.0
     shares_by (answer.Resumed w) h v e = h
     shares_by (answer.Ended e) h v is = absurd (cc)
@@ -347,6 +428,11 @@ module _ (m : Module) (u : Setup) (schedule : List ℕ) where
       telling = telling_then;
       goes_telling = λ next r came. ap (λ n. tells_from m u schedule told_then n (goes_at next p.others)) left_there ∙ goes_telling_call call.asked p.stood.call next r came;
       stops_telling = λ e last st reports. stops_telling_call call.asked p.stood.call e last st reports;
+      sites = p.sites;
+      placed = (sited_kept t t' p.sites p.sited told calls).placed;
+      goes_sited = λ next r came. (sited_kept t t' p.sites p.sited told calls).blind;
+      goes_lost = λ next r came. ap (λ n. blind_from m u schedule p.sites n (goes_at next p.others)) left_there ∙ goes_lost_call call.asked p.stood.call next r;
+      stops_lost = λ e last st blind. stops_lost_call call.asked p.stood.call e last st blind;
     }
 
   -- ---- after it
@@ -374,7 +460,8 @@ module _ (m : Module) (u : Setup) (schedule : List ℕ) where
         let low = some_ahead in
         subst (IsOver m u schedule e) (sym same)
         (ends_so m u schedule b.made e stopped.last b.beside (record t { ended = t'.ended }) b.recorded (b.stops e stopped.last stopped.ends) stopped.shows b.told (omega (arith, b.blind, low)) b.said.calls
-        (Some (calls_there m t.table b.within.frames)) b.telling.kept ended (b.stops_telling e stopped.last stopped.ends (stopped.shows.reports ∙ b.told.reports)))
+        (Some (calls_there m t.table b.within.frames)) b.telling.kept ended (b.stops_telling e stopped.last stopped.ends (stopped.shows.reports ∙ b.told.reports))
+        b.sites b.placed (b.stops_lost e stopped.last stopped.ends (blind_so b.beside t.running.world stopped.last t.running stopped.shows b.told (omega (arith, b.blind, low)))))
 
     -- or it goes on
     module _ (value : Option ℕ) (is : a ≡ answer.Resumed value) (t' : ThreadedRun) (world : t'.running.world ≡ t.running.world) (depot : t'.running.depot ≡ t.running.depot) (told : t'.running.told ≡ t.running.told)
@@ -408,11 +495,13 @@ module _ (m : Module) (u : Setup) (schedule : List ℕ) where
       came_to : CameTo m t b.within on.next
       came_to =
           let shares = b.shares value is in
+          let low = some_ahead in
           record {
             calls = on.calls;
             turn = ap (λ (k : Fibers). k.turn) on.stands.shows.fibers ∙ shares.turn;
             reports = on.stands.shows.reports ∙ b.told.reports;
             threads = made_in t.running.world b.beside on.next.world t.table on.stands.shows shares;
+            blind = blind_so b.beside t.running.world on.next.world t.running on.stands.shows b.told (omega (arith, b.blind, low));
           }
 
       pub after_goes : Going m u schedule t'
@@ -436,6 +525,9 @@ module _ (m : Module) (u : Setup) (schedule : List ℕ) where
         said = b.said;
         telling = telling_kept t t' b.said b.telling (ap starts_of guests) told calls;
         tells = ap (λ n. tells_from m u schedule b.said n (goes_at on.next b.others)) left_on ∙ b.goes_telling on.next on.goes came_to;
+        sites = b.sites;
+        sited = sited_kept t t' b.sites (record { blind = b.goes_sited on.next on.goes came_to; placed = b.placed }) told calls;
+        lost = ap (λ n. blind_from m u schedule b.sites n (goes_at on.next b.others)) left_on ∙ b.goes_lost on.next on.goes came_to;
       }
 
 -- a run that is nearer to its end than so far is nearer than any number that isn't less

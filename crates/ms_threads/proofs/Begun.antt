@@ -29,6 +29,7 @@ use Rattle.ms_machine_frames.specs.declared.fibers.Fiber.{Fiber}
 use Rattle.ms_machine_frames.specs.Owning.{is_spawned}
 use Rattle.ms_machine.specs.Running.{AllStandFor}
 use Rattle.ms_machine.specs.Spawning.{SpawnedFor}
+use Rattle.ms_runtime.specs.Places.{Placed}
 use Rattle.ms_runtime.specs.Served.{IsBeside}
 use Rattle.ms_runtime.specs.Going.{ahead, Begins}
 use Rattle.ms_threads.specs.declared.thread_table.Thread.{Thread as Guest}
@@ -37,8 +38,9 @@ use Rattle.ms_threads.specs.ThreadTables.{starts_of, stand_at, thread_of, guest_
 use Rattle.ms_threads.specs.Recording.{Records}
 use Rattle.ms_threads.specs.declared.thread_table.ThreadTable.{ThreadTable}
 use Rattle.ms_runs_threads.specs.Calls.{none_told}
-use Rattle.ms_threads.specs.Going.{StandsAt, Standings, goes_at, ends_from, tells_from, KeepsCalls, Beginning, Going, most_ahead}
+use Rattle.ms_threads.specs.Going.{StandsAt, Standings, goes_at, ends_from, tells_from, blind_from, KeepsCalls, Beginning, Going, most_ahead}
 use Rattle.ms_threads.proofs.Telling.{telling_kept, all_started, begun_tells}
+use Rattle.ms_threads.proofs.BlindUses.{sited_kept}
 use Rattle.ms_threads.proofs.Places.{same_frames, none_more, no_call}
 
 -- ---- the function of a thread
@@ -128,12 +130,15 @@ module _ (m : Module) (u : Setup) (schedule : List ℕ) where
               ap (λ n. tells_from m u schedule b.said n (goes_at state b.others)) (left_is ∙ b.some)
               ∙ sym (begun_tells m u schedule t.table.turn (entered plain_reading m b.guest.func (b.guest.argument ∷ []) b.shared.world) state b.others b.said b.left refl turn_is (omega (arith, all)))
               ∙ b.tells;
+          sites = b.sites;
+          sited = sited_kept t t' b.sites b.sited told keeps;
+          lost = ap (λ n. blind_from m u schedule b.sites n (goes_at state b.others)) (left_is ∙ b.some) ∙ b.lost;
         }
 
   -- ---- the start
 
-  pub going_begun : 0 < length schedule → (t : ThreadedRun) → Begins m u t.running → IsNew t.table → t.calls.items ≡ [] → t.ended ≡ None → Going m u schedule t
-  going_begun some t b new none_yet unended = record {
+  pub going_begun : 0 < length schedule → (t : ThreadedRun) → Begins m u t.running → IsNew t.table → t.calls.items ≡ [] → t.ended ≡ None → Placed [] t.places → Going m u schedule t
+  going_begun some t b new none_yet unended unplaced = record {
     beside = nothing_beside;
     state = plain_start m u;
     others = no_others;
@@ -166,6 +171,9 @@ module _ (m : Module) (u : Setup) (schedule : List ℕ) where
       none = unended;
     };
     tells = ap (λ n. tells_from m u schedule none_told n (goes_at (plain_start m u) no_others)) b.budget;
+    sites = [];
+    sited = record { blind = sym b.told.blind; placed = λ wanted. unplaced };
+    lost = ap (λ n. blind_from m u schedule [] n (goes_at (plain_start m u) no_others)) b.budget;
   }
     where
       none : (k f : ℕ) → slice_get [] k ≡ Some f → ⊥

@@ -22,9 +22,9 @@ use Rattle.ms_pass_form_laws.proofs.Elided.{known, formed_valid}
 use Rattle.ms_runs_threads.specs.PlainFibers.{plain_threads}
 use Rattle.ms_runs_threads.specs.ShadowFibers.{shadow_threads}
 use Rattle.ms_runs_threads.specs.Calls.{plain_threads_calls, shadow_threads_calls}
-use Rattle.ms_runs_threads.specs.Blind.{plain_threads_end_calls, shadow_threads_end_calls}
+use Rattle.ms_runs_threads.specs.Blind.{plain_threads_blind, shadow_threads_blind, plain_threads_end_calls, shadow_threads_end_calls}
 use Rattle.ms_threads_laws.proofs.SameShown.{threads_undisturbed}
-use Rattle.ms_threads_laws.proofs.KeptRuns.{threads_followed, calls_followed, end_followed}
+use Rattle.ms_threads_laws.proofs.KeptRuns.{threads_followed, calls_followed, blind_followed, end_followed}
 use Rattle.ms_threads_schedules_laws.specs.Picks.{plain_picks, shadow_picks}
 use Rattle.ms_threads_schedules_laws.proofs.PicksFollowed.{picks_followed}
 use Rattle.ms_threads_laws.proofs.UnderFills.{first_threads, alone_threads, first_same, same_threads, same_threads_calls, shown_threads}
@@ -107,6 +107,11 @@ module _ (m : Module) (formed : Formed m) (valid : Valid m) (can : CanInstrument
       ap (λ (k : Module). plain_threads_end_calls k setup schedule) elided.is_pass
       ∙ end_followed m formed valid (eliding elided.clean m) elided.exact.sound setup fair (known m formed valid can elided.clean setup) schedule
 
+  j_blind : (setup : Setup) → Fair setup → (schedule : List ℕ) → plain_threads_blind j setup schedule ≡ shadow_threads_blind m setup schedule
+  j_blind setup fair schedule =
+      ap (λ (k : Module). plain_threads_blind k setup schedule) elided.is_pass
+      ∙ blind_followed m formed valid (eliding elided.clean m) elided.exact.sound setup fair (known m formed valid can elided.clean setup) schedule
+
   j_valid : Valid j
   j_valid = subst Valid (sym elided.is_pass) (formed_valid m formed valid can elided.clean).1
 
@@ -119,6 +124,7 @@ module _ (m : Module) (formed : Formed m) (valid : Valid m) (can : CanInstrument
     runs = λ setup fair schedule some. j_runs setup fair schedule;
     calls = λ setup fair schedule some. j_calls setup fair schedule;
     ends = λ setup fair schedule some. j_ends setup fair schedule;
+    blind = λ setup fair schedule some. j_blind setup fair schedule;
     picks = λ setup fair schedule some. j_picks setup fair schedule;
     undisturbed = λ setup fair schedule some.
         subst (λ (r : RunResult). Undisturbed r (plain_threads m setup schedule)) (sym (j_runs setup fair schedule)) (threads_undisturbed by_completions m can.plain.unmarked setup schedule);

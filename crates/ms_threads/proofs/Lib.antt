@@ -9,6 +9,7 @@ pub mod Threading
 pub mod Kept
 pub mod FiberSteps
 pub mod Telling
+pub mod BlindUses
 pub mod Turns
 pub mod Starting
 pub mod Picks

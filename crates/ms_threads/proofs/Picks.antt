@@ -18,10 +18,11 @@ use Rattle.ms_runs.specs.Control.{Frame, here, read_all}
 use Rattle.ms_runs.specs.Act.{plain_reading}
 use Rattle.ms_runs.specs.Plain.{setting_of}
 use Rattle.ms_runs.specs.Calls.{call_sites}
-use Rattle.ms_runs.proofs.Telling.{tell_none}
+use Rattle.ms_runs.proofs.Telling.{told_enough, tell_none}
 use Rattle.ms_runs.specs.Threads.{Fibers, fibers_of, thread_at, has_ended}
-use Rattle.ms_runs_threads.specs.Fibers.{Others, Waits, waits, may_go, is_runnable, numbers_from, runnable, standing, turned, resumed, resumes, picked, site_at, fibers_step, ends_in}
+use Rattle.ms_runs_threads.specs.Fibers.{Others, Waits, waits, may_go, is_runnable, numbers_from, runnable, standing, turned, with_world, resumed, resumes, picked, site_at, fibers_step, ends_in}
 use Rattle.ms_runs_threads.specs.Calls.{acting_of}
+use Rattle.ms_runs_threads.specs.Blind.{going_on, going_of, plain_threads_blind}
 use Rattle.ms_runs_threads.specs.PlainFibers.{Shared, due_inst, joins_of, op_joins, inst_joins, frames_joins, frames_site, words_due}
 use Rattle.ms_host.specs.State.{WorldState, Beside}
 use Rattle.ms_host.specs.Shows.{Shows}
@@ -39,12 +40,13 @@ use Rattle.ms_threads.specs.declared.runs.ThreadedRun.{ThreadedRun}
 use Rattle.ms_threads.specs.ThreadTables.{Standing, standing_of, stand_at, thread_of, guest_at, threads_of, stands_of, site_of, asked_joins, call_joins, standing_joins, runnable_in, IsThreadCall, Stands, picked_of, Picked}
 use Rattle.ms_threads_schedules_laws.specs.Picks.{Pick, number_at, pick_by, picked_on, picks_in}
 use Rattle.ms_threads.specs.Recording.{Records}
-use Rattle.ms_threads.specs.Going.{StandsFor, StandsAt, IsOver, ended_so, fiber_of, shared_in, goes_at, ends_from, ends_after, last_of, told_so, tells_from, tells_after, all_told, acts, Telling, KeepsCalls, Between, most_ahead, far_of, Asking, Picking, Performing, Beginning}
+use Rattle.ms_threads.specs.Going.{StandsFor, StandsAt, IsOver, ended_so, fiber_of, shared_in, goes_at, ends_from, ends_after, last_of, told_so, tells_from, tells_after, all_told, acts, blind_from, blind_after, Telling, Sited, KeepsCalls, Between, most_ahead, far_of, Asking, Picking, Performing, Beginning}
 use Rattle.ms_threads.proofs.Numbered.{test_of, picked_goes}
 use Rattle.ms_threads.proofs.Threading.{same_thread, shows_fibers, shares_turned, shares_same}
 use Rattle.ms_threads.proofs.Kept.{standings_stood, standings_picked}
 use Rattle.ms_threads.proofs.FiberSteps.{first_due, unmarked_of, dropped, step_asks}
 use Rattle.ms_threads.proofs.Telling.{telling_kept, all_started, calls_by, going, more_after}
+use Rattle.ms_threads.proofs.BlindUses.{blind_said, sited_kept, stands_at, more_blind}
 use Rattle.ms_threads.proofs.Turns.{ends_so}
 
 -- what a pick says, where one may go on and where none may
@@ -110,6 +112,15 @@ module _ (m : Module) (u : Setup) (schedule : List ℕ) where
         ∙ sym (more_after m u schedule (going m u schedule a.within) a.said a.rest (fibers_step (fiber_of m u) schedule (goes_at a.within a.others))
         (Waits (shared_in a.within) (record a.others { stands = standing a.within.world.turn (Some a.within.frames) a.others.stands })) (step_asks m u schedule a.within call a.others is a.waits) (omega (arith, all)) (omega (arith, reports, a.telling.counted)))
         ∙ a.tells;
+    sites = a.sites;
+    sited = sited_kept t t' a.sites a.sited told calls;
+    lost =
+        ap (λ n. blind_from m u schedule a.sites n (Waits (shared_in a.within) (record a.others { stands = standing t.table.turn (Some a.within.frames) a.others.stands }))) (ap (λ b. b.left) budget ∙ sym (rest_of_call call.asked is a.rest t.running.budget.left a.counted))
+        ∙ ap (λ n. blind_from m u schedule a.sites a.rest (Waits (shared_in a.within) (record a.others { stands = standing n (Some a.within.frames) a.others.stands }))) (sym turn_is)
+        ∙ sym (more_blind m u schedule (stands_at m u schedule a.within) a.sites a.rest (fibers_step (fiber_of m u) schedule (goes_at a.within a.others))
+        (Waits (shared_in a.within) (record a.others { stands = standing a.within.world.turn (Some a.within.frames) a.others.stands })) (step_asks m u schedule a.within call a.others is a.waits)
+        (blind_said a.beside t.running.world a.within.world t.running a.sites a.stands.shows a.told (omega (arith, a.keeping.blind)) a.sited.blind))
+        ∙ a.lost;
   }
     where
       turn_is : a.within.world.turn ≡ t.table.turn
@@ -191,6 +202,7 @@ module _ (m : Module) (u : Setup) (schedule : List ℕ) where
     pick_spent none =
         ends_so m u schedule p.made «end».Spent p.shared.world p.beside t p.recorded (sym (ap (λ n. ends_from m u schedule p.made n (Waits p.shared p.others)) none) ∙ p.same) p.between.shows p.between.told few p.said.calls None p.telling.kept (λ wanted. p.telling.none)
         (sym (ap (λ n. tells_from m u schedule p.said n (Waits p.shared p.others)) none) ∙ p.tells)
+        p.sites p.sited.placed (sym (ap (λ n. blind_from m u schedule p.sites n (Waits p.shared p.others)) none) ∙ p.lost)
 
     -- the steps after a pick
     abbrev pub left_of : ℕ
@@ -222,6 +234,16 @@ module _ (m : Module) (u : Setup) (schedule : List ℕ) where
     told_after_pick : t.running.budget.left ≢ 0 → told_by_pick (runnable_in t.table) ≡ all_told m u schedule
     told_after_pick some = ap told_by_pick (sym same_runnable) ∙ sym (ap (λ n. tells_from m u schedule p.said n (Waits p.shared p.others)) (one_left some)) ∙ p.tells
 
+    -- and what is said of blind uses, by where it is taken
+    abbrev lost_by_pick : List ℕ → List ℕ
+    lost_by_pick ks = blind_after m u schedule (site_at (fiber_of m u) (going_of (fiber_of m u) schedule p.shared p.others ks)) p.sites left_of (picked (fiber_of m u) schedule p.shared p.others ks)
+
+    lost_after_pick : t.running.budget.left ≢ 0 → lost_by_pick (runnable_in t.table) ≡ plain_threads_blind m u schedule
+    lost_after_pick some = ap lost_by_pick (sym same_runnable) ∙ sym (ap (λ n. blind_from m u schedule p.sites n (Waits p.shared p.others)) (one_left some)) ∙ p.lost
+
+    lost_few : p.shared.world.blind ≤ length p.sites
+    lost_few = blind_said p.beside t.running.world p.shared.world t.running p.sites p.between.shows p.between.told few p.sited.blind
+
     append_nil : (l : List Pick) → l ++ [] ≡ l
     append_nil [] = refl
     append_nil (x ∷ l) = ap (λ ps. x ∷ ps) (append_nil l)
@@ -236,6 +258,7 @@ module _ (m : Module) (u : Setup) (schedule : List ℕ) where
         p.between.shows p.between.told few p.said.calls (Some (calls_by m u schedule (acts 0 None) p.said)) p.telling.kept ended
         (sym (ap (λ (l : List Calls). told_so l (Some (calls_by m u schedule (acts 0 None) p.said))) (tell_none (calls_by m u schedule (acts 0 None) p.said) p.shared.world.reports p.said.calls told_few))
         ∙ sym (ap told_by_pick none) ∙ told_after_pick some)
+        p.sites p.sited.placed (sym (told_enough 0 p.shared.world.blind p.sites lost_few) ∙ sym (ap lost_by_pick none) ∙ lost_after_pick some)
 
     -- ---- one was picked
 
@@ -255,6 +278,14 @@ module _ (m : Module) (u : Setup) (schedule : List ℕ) where
     who [] some = absurd (omega (arith, some))
     who (k ∷ ks) some =
         ap (λ (n : ℕ). acts n (p.others.stands n)) (get_any (k ∷ ks) (get_or schedule (p.others.picks % length schedule) 0 % length (k ∷ ks)) k 0 (mod_below (get_or schedule (p.others.picks % length schedule) 0) (length (k ∷ ks)) some))
+
+    -- and where it goes on
+    abbrev on_at : ℕ → Option (List (Frame ℕ))
+    on_at n = going_on (fiber_of m u) (with_world (fiber_of m u) (turned n) p.shared) (p.others.stands n) (thread_at n p.shared.world.threads)
+
+    where_on : (ks : List ℕ) → 0 < length ks → going_of (fiber_of m u) schedule p.shared p.others ks ≡ on_at (get_or ks (get_or schedule (p.others.picks % length schedule) 0 % length ks) 0)
+    where_on [] some = absurd (omega (arith, some))
+    where_on (k ∷ ks) some = ap on_at (get_any (k ∷ ks) (get_or schedule (p.others.picks % length schedule) 0 % length (k ∷ ks)) k 0 (mod_below (get_or schedule (p.others.picks % length schedule) 0) (length (k ∷ ks)) some))
 
     module _ (some : t.running.budget.left ≢ 0) (scheduled : 0 < length schedule) (h : ThreadTable) (pk : Picked schedule t.table h) where
       turn_is : h.turn ≡ get_or (runnable_in t.table) (get_or schedule (p.others.picks % length schedule) 0 % length (runnable_in t.table)) 0
@@ -295,6 +326,13 @@ module _ (m : Module) (u : Setup) (schedule : List ℕ) where
           ∙ sym (ap (λ a. tells_after m u schedule a p.said left_of (resumes (fiber_of m u) p.shared p.others (get_or (runnable_in t.table) (get_or schedule (p.others.picks % length schedule) 0 % length (runnable_in t.table)) 0))) (who (runnable_in t.table) pk.some))
           ∙ sym (ap (tells_after m u schedule (acting_of (fiber_of m u) (call_sites m) schedule p.others (runnable_in t.table)) p.said left_of) (picks (runnable_in t.table) pk.some))
           ∙ told_after_pick some
+
+      lost_so : blind_after m u schedule (site_at (fiber_of m u) (on_at h.turn)) p.sites left_of (resumes (fiber_of m u) p.shared p.others h.turn) ≡ plain_threads_blind m u schedule
+      lost_so =
+          ap (λ n. blind_after m u schedule (site_at (fiber_of m u) (on_at n)) p.sites left_of (resumes (fiber_of m u) p.shared p.others n)) turn_is
+          ∙ sym (ap (λ o. blind_after m u schedule (site_at (fiber_of m u) o) p.sites left_of (resumes (fiber_of m u) p.shared p.others (get_or (runnable_in t.table) (get_or schedule (p.others.picks % length schedule) 0 % length (runnable_in t.table)) 0))) (where_on (runnable_in t.table) pk.some))
+          ∙ sym (ap (blind_after m u schedule (site_at (fiber_of m u) (going_of (fiber_of m u) schedule p.shared p.others (runnable_in t.table))) p.sites left_of) (picks (runnable_in t.table) pk.some))
+          ∙ lost_after_pick some
 
       -- the world and the fibers then
       abbrev shared' : Shared
@@ -340,6 +378,13 @@ module _ (m : Module) (u : Setup) (schedule : List ℕ) where
         telling' : Telling t' p.said
         telling' = telling_kept t t' p.said p.telling (ap (λ v. map (λ (x : Guest). x.start) v.items) threads') (ap (λ (r : Running). r.told) running) calls
 
+        sited' : Sited t' p.sites
+        sited' = sited_kept t t' p.sites p.sited (ap (λ (r : Running). r.told) running) calls
+
+        -- what is said from there on, by where the fiber stood
+        abbrev lost_on : Option (List (Frame ℕ)) → Option Thread → List ℕ
+        lost_on o thread = blind_after m u schedule (site_at (fiber_of m u) (going_on (fiber_of m u) shared' o thread)) p.sites left_of (resumed (fiber_of m u) shared' others' h.turn o thread)
+
         left' : t'.running.budget.left ≡ suc left_of
         left' = ap (λ (r : Running). r.budget.left) running ∙ one_left some
 
@@ -380,6 +425,9 @@ module _ (m : Module) (u : Setup) (schedule : List ℕ) where
               tells =
                   ap (λ n. tells_after m u schedule (acts n (Some frames)) p.said left_of (resumed (fiber_of m u) shared' others' h.turn (Some frames) (thread_at h.turn p.shared.world.threads))) turn'
                   ∙ sym (ap (λ o. tells_after m u schedule (acts h.turn o) p.said left_of (resumed (fiber_of m u) shared' others' h.turn o (thread_at h.turn p.shared.world.threads))) e) ∙ tells_so;
+              sites = p.sites;
+              sited = sited';
+              lost = sym (ap (λ o. lost_on o (thread_at h.turn p.shared.world.threads)) e) ∙ lost_so;
             }
 
         -- it begins
@@ -418,6 +466,10 @@ module _ (m : Module) (u : Setup) (schedule : List ℕ) where
                   ∙ sym (ap (λ o. tells_after m u schedule (acts h.turn o) p.said left_of (resumed (fiber_of m u) shared' others' h.turn o (thread_at h.turn p.shared.world.threads))) e
                   ∙ ap (λ o. tells_after m u schedule (acts h.turn None) p.said left_of (resumed (fiber_of m u) shared' others' h.turn None o)) (ap (thread_at h.turn) threads_are ∙ sym (same_thread h.turn t.table.threads.items) ∙ ap (option_map thread_of) is))
                   ∙ tells_so;
+              sites = p.sites;
+              sited = sited';
+              lost =
+                  sym (ap (λ o. lost_on o (thread_at h.turn p.shared.world.threads)) e ∙ ap (lost_on None) (ap (thread_at h.turn) threads_are ∙ sym (same_thread h.turn t.table.threads.items) ∙ ap (option_map thread_of) is)) ∙ lost_so;
             }
 
             by_fiber : (f : Option (List (Frame ℕ))) → p.others.stands h.turn ≡ f → StandsAt m u h.turn None f → Beginning m u schedule t'

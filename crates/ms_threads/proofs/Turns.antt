@@ -18,22 +18,25 @@ use Rattle.ms_runs_good_laws.proofs.WorldChanges.{given_back_good}
 use Rattle.ms_runs_threads.specs.Fibers.{Waits, fibers_step}
 use Rattle.ms_runs_threads.specs.PlainFibers.{Shared, plain_threads}
 use Rattle.ms_runs_threads.specs.Calls.{Told, start_of}
+use Rattle.ms_runs_threads.specs.Blind.{plain_threads_blind}
 use Rattle.ms_runs.specs.declared.runs.Calls.{Calls}
-use Rattle.ms_host.specs.State.{Beside}
+use Rattle.ms_runs.specs.Calls.{places_of}
+use Rattle.ms_host.specs.State.{WorldState, Beside}
 use Rattle.ms_host.specs.Shows.{Shows}
 use Rattle.ms_host.specs.SlotBytes.{ShowsSlots}
 use Rattle.ms_host.specs.declared.calls.Asked.{Asked}
 use Rattle.ms_host.specs.declared.calls.Asked.TheVariants as asked
 use Rattle.ms_host.specs.declared.calls.HostCall.{HostCall}
 use Rattle.ms_machine_frames.specs.declared.fibers.Fiber.{Fiber}
-use Rattle.ms_runs.specs.Plain.{PlainState, Stepped, More, steps}
-use Rattle.ms_runs_good_laws.proofs.ReportsGrow.{stepped_world}
+use Rattle.ms_runs.specs.Plain.{PlainState, Stepped, More, steps, setting_of}
+use Rattle.ms_runs_good_laws.proofs.ReportsGrow.{stepped_world, step_blind_grows}
 use Rattle.ms_runtime.proofs.Countings.{of_reports}
 use Rattle.ms_runs_fills_laws.proofs.Kept.{given_back_kept}
 use Rattle.ms_threads_laws.proofs.OwnSteps.{back_keeps}
 use Rattle.ms_runtime.specs.declared.runs.Running.{Running}
 use Rattle.ms_machine_steps.specs.Advances.{step_of, AllOwn, Within, Counts, IsSpent, HasEnded as HasStopped, HasAsked, HasFinished}
 use Rattle.ms_machine.specs.Running.{IsRunning}
+use Rattle.ms_runtime.specs.Places.{Placed}
 use Rattle.ms_runtime.specs.Served.{IsBeside}
 use Rattle.ms_runtime.specs.Going.{ahead, LeftAfter}
 use Rattle.ms_runtime.proofs.Goings.{answers_so, fewer, not_further, slack_is, after}
@@ -42,10 +45,11 @@ use Rattle.ms_threads.specs.ThreadTables.{Shares, Changed, KeepsStands, ended_gu
 use Rattle.ms_threads_schedules_laws.specs.Picks.{Pick}
 use Rattle.ms_threads.specs.declared.thread_table.ThreadTable.{ThreadTable}
 use Rattle.ms_threads.specs.Recording.{Records}
-use Rattle.ms_threads.specs.Going.{Standings, Recorded, IsOver, ended_so, ends_after, last_of, fiber_of, goes_at, told_so, tells_from, all_told, calls_there, Telling, KeepsCalls, most_ahead, far_of, Going, Asking, Picking, HasEnded}
+use Rattle.ms_threads.specs.Going.{Standings, Recorded, IsOver, ended_so, ends_after, last_of, fiber_of, goes_at, told_so, tells_from, all_told, calls_there, blind_from, Telling, Sited, KeepsCalls, most_ahead, far_of, Going, Asking, Picking, HasEnded}
 use Rattle.ms_threads.proofs.Threading.{shows_fibers, ended_fiber, shares_ended, starts_changed, keeps_changed}
 use Rattle.ms_threads.proofs.Kept.{standings_kept}
 use Rattle.ms_threads.proofs.Telling.{telling_kept, all_started, calls_by, going, spent_tells, due_tells, within_tells, more_after, over_after, own_fibers}
+use Rattle.ms_threads.proofs.BlindUses.{blind_said, sited_kept, stands_at, more_blind, over_blind, spent_blind, due_blind, within_blind}
 use Rattle.ms_threads.proofs.FiberSteps.{same_step, step_ends, step_returns, run_spent, run_due, answered_word, after_return}
 
 -- ---- numbers
@@ -84,12 +88,14 @@ ended_good mask value origin w g = record {
 module _ (m : Module) (u : Setup) (schedule : List ℕ) where
   -- a run that ends so answers what the whole run does
   pub ends_so : (made : List Pick) (e : End) (last : World) (beside : Beside) (t : ThreadedRun) → Recorded t made → ended_so made e last ≡ last_of m u schedule → Shows t.running.world beside last → IsBeside t.running.depot t.running.told beside
-      → t.running.told.blind ≤ 2 ^ 62 → (calls : List Calls) (one : Option Calls) → (t.wanted ≡ true → t.calls.items ≡ calls) → (t.wanted ≡ true → t.ended ≡ one) → told_so calls one ≡ all_told m u schedule → IsOver m u schedule e t
-  ends_so made e last beside t recorded is shows told few calls one kept ended tells = (
+      → t.running.told.blind ≤ 2 ^ 62 → (calls : List Calls) (one : Option Calls) → (t.wanted ≡ true → t.calls.items ≡ calls) → (t.wanted ≡ true → t.ended ≡ one) → told_so calls one ≡ all_told m u schedule
+      → (sites : List ℕ) → (t.wanted ≡ true → Placed (places_of sites) t.places) → sites ≡ plain_threads_blind m u schedule → IsOver m u schedule e t
+  ends_so made e last beside t recorded is shows told few calls one kept ended tells sites placed lost = (
     answers_so (plain_threads m u schedule) e last beside t.running (ap (λ (at : (End × World) × List Pick). result at.0.0 at.0.1) (sym is)) shows told few,
     subst (Records t.table.recorder) (sym (append_nil made) ∙ ap (λ (at : (End × World) × List Pick). at.1) is) recorded,
     λ wanted. kept wanted ∙ ap (λ (p : List Calls × Option Calls). p.0) tells,
     λ wanted. ended wanted ∙ ap (λ (p : List Calls × Option Calls). p.1) tells,
+    λ wanted. subst (λ (l : List ℕ). Placed (places_of l) t.places) lost (placed wanted),
   )
     where
       append_nil : (l : List Pick) → l ++ [] ≡ l
@@ -116,6 +122,13 @@ module _ (m : Module) (u : Setup) (schedule : List ℕ) where
     same_blind : t'.running.told.blind ≡ t.running.told.blind
     same_blind = ap (λ r. r.blind) told
 
+    still_sited : Sited t' g.sites
+    still_sited = sited_kept t t' g.sites g.sited told calls
+
+    -- nor are blind uses
+    lost_few : (w : WorldState) (last : World) → Shows w g.beside last → last.blind ≤ length g.sites
+    lost_few w last shows = blind_said g.beside w last t.running g.sites shows g.told (omega (arith, g.keeping.blind)) g.sited.blind
+
     still_few : t'.running.told.blind ≤ 2 ^ 62
     still_few = let e = same_blind in omega (arith, e, g.keeping.blind)
 
@@ -127,6 +140,7 @@ module _ (m : Module) (u : Setup) (schedule : List ℕ) where
     turn_spent h =
         ends_so g.made «end».Spent h.last.world g.beside t' still_recorded (sym (run_spent m u schedule g.made t.running.budget.left g.state h.last g.others h.own h.came) ∙ g.same) h.stands.shows still_beside still_few g.said.calls None still_telling.kept (λ wanted. still_telling.none)
         (sym (spent_tells m u schedule t.running.budget.left g.state h.last g.others g.said h.own h.came started_few (told_few h.last.world h.stands.shows.reports)) ∙ g.tells)
+        g.sites still_sited.placed (sym (spent_blind m u schedule t.running.budget.left g.state h.last g.others g.sites h.own h.came (lost_few t'.running.world h.last.world h.stands.shows)) ∙ g.lost)
 
     -- a step ended it
     pub turn_ended : (e : End) (h : HasStopped m u g.beside g.state t.running.budget.left e t'.running.fiber t'.running.world) (t'' : ThreadedRun) → t'' ≡ record t' { ended = t''.ended }
@@ -139,13 +153,20 @@ module _ (m : Module) (u : Setup) (schedule : List ℕ) where
         let all = told_few h.last h.shows.reports in
         let up = (of_reports m u).grows h.before in
         let same : length (stepped_world (step_of m u h.before)).reports ≡ length h.last.reports = ap (λ (y : Stepped PlainState). length (stepped_world y).reports) h.ends.step in
+        let few = lost_few t'.running.world h.last h.shows in
+        let more = step_blind_grows (setting_of m u) m h.before in
+        let most : (stepped_world (step_of m u h.before)).blind ≡ h.last.blind = ap (λ (y : Stepped PlainState). (stepped_world y).blind) h.ends.step in
         subst (IsOver m u schedule e) (sym is)
         (ends_so g.made e h.last g.beside (record t' { ended = t''.ended }) still_recorded
         (sym (run_due m u schedule g.made t.running.budget.left rest h.done g.state h.before g.others sum h.own h.came ∙ ap (ends_after m u schedule g.made rest) (step_ends m u schedule h.before g.others e h.last h.ends)) ∙ g.same)
         h.shows still_beside still_few g.said.calls (Some (calls_by m u schedule (going m u schedule h.before) g.said)) still_telling.kept (λ wanted. ended wanted ∙ ap (λ (c : Calls). Some c) there)
         (sym (due_tells m u schedule t.running.budget.left rest h.done g.state h.before g.others g.said sum h.own h.came started_few (omega (arith, all, up, same))
         ∙ over_after m u schedule (going m u schedule h.before) g.said rest (fibers_step (fiber_of m u) schedule (goes_at h.before g.others)) e h.last (step_ends m u schedule h.before g.others e h.last h.ends) all)
-        ∙ g.tells))
+        ∙ g.tells)
+        g.sites still_sited.placed
+        (sym (due_blind m u schedule t.running.budget.left rest h.done g.state h.before g.others g.sites sum h.own h.came (omega (arith, few, more, most))
+        ∙ over_blind m u schedule (stands_at m u schedule h.before) g.sites rest (fibers_step (fiber_of m u) schedule (goes_at h.before g.others)) e h.last (step_ends m u schedule h.before g.others e h.last h.ends) few)
+        ∙ g.lost))
 
     -- a step that was begun tells what it does from a state within it on
     module _ (rest done : ℕ) (before within : PlainState) (sum : rest + done + 1 ≡ t.running.budget.left) (came : steps (step_of m u) done g.state ≡ More before) (own : AllOwn m u done g.state) (same : Within m u before within)
@@ -163,6 +184,13 @@ module _ (m : Module) (u : Setup) (schedule : List ℕ) where
           sym (due_tells m u schedule t.running.budget.left rest done g.state before g.others g.said sum own came started_few (omega (arith, all, up))
           ∙ within_tells m u schedule before within g.others g.said rest same turn_within started_within)
           ∙ g.tells
+
+    -- and says what it does from there on
+    lost_within : (rest done : ℕ) (before within : PlainState) → rest + done + 1 ≡ t.running.budget.left → steps (step_of m u) done g.state ≡ More before → AllOwn m u done g.state → Within m u before within → within.world.blind ≤ length g.sites
+        → blind_from m u schedule g.sites (suc rest) (goes_at within g.others) ≡ plain_threads_blind m u schedule
+    lost_within rest done before within sum came own same few =
+        let up = same.blind in
+        sym (due_blind m u schedule t.running.budget.left rest done g.state before g.others g.sites sum own came (omega (arith, few, up)) ∙ within_blind m u schedule before within g.others g.sites rest same) ∙ g.lost
 
     -- ---- a call is asked for
 
@@ -212,6 +240,9 @@ module _ (m : Module) (u : Setup) (schedule : List ℕ) where
             said = g.said;
             telling = still_telling;
             tells = tells_within b.0 h.done h.before h.within b.1.1 h.came h.own h.same h.stands.shows.reports h.stands.shows.fibers;
+            sites = g.sites;
+            sited = still_sited;
+            lost = lost_within b.0 h.done h.before h.within b.1.1 h.came h.own h.same (lost_few t'.running.world h.within.world h.stands.shows);
           }
 
     -- ---- the thread has ended
@@ -309,6 +340,15 @@ module _ (m : Module) (u : Setup) (schedule : List ℕ) where
             (step_returns m u schedule g.beside h.within value t'.running.world h.finishes g.others) (omega (arith, all)) (told_few shared'.world shown.reports))
             ∙ tells_within t''.running.budget.left h.done h.before h.within sum h.came h.own h.same
             (sym (given_back_kept h.finishes.frame h.within.world).reports ∙ h.finishes.shows.reports) (sym (back_keeps h.finishes.frame h.within.world) ∙ h.finishes.shows.fibers);
+        sites = g.sites;
+        sited = sited_kept t' t'' g.sites still_sited (ap (λ (r : Running). r.told) running) calls';
+        lost =
+            let sum : t''.running.budget.left + h.done + 1 ≡ t.running.budget.left = ap (λ r. r.budget.left + h.done + 1) running ∙ h.counted in
+            let few : back.blind ≤ length g.sites = lost_few t'.running.world back h.finishes.shows in
+            let same : back.blind ≡ h.within.world.blind = (given_back_kept h.finishes.frame h.within.world).blind in
+            sym (more_blind m u schedule (stands_at m u schedule h.within) g.sites t''.running.budget.left (fibers_step (fiber_of m u) schedule (goes_at h.within g.others)) (Waits shared' g.others)
+            (step_returns m u schedule g.beside h.within value t'.running.world h.finishes g.others) few)
+            ∙ lost_within t''.running.budget.left h.done h.before h.within sum h.came h.own h.same (omega (arith, few, same));
       }
         where
           none_there : (k f : ℕ) → slice_get [] k ≡ Some f → ⊥

@@ -9,13 +9,13 @@ use Rattle.ms_runs.specs.World.{World}
 use Rattle.ms_runs.specs.Control.{Frame}
 use Rattle.ms_runs.specs.Threads.{fiber_limit, result_mask, result_origin}
 use Rattle.ms_runs.specs.Plain.{PlainState, Stepped, setting_of}
-use Rattle.ms_runs.specs.Calls.{call_sites}
+use Rattle.ms_runs.specs.Calls.{call_sites, said_in, said_after, places_of}
 use Rattle.ms_runs_good_laws.specs.GoodStates.{GoodFrames, IsBelow, IsStart}
 use Rattle.ms_runs_good_laws.specs.GoodWorlds.{GoodWorld, GivesBytes, FitsCell}
-use Rattle.ms_runs_threads.specs.Fibers.{Meaning, Others, Fibers, Goes, Waits, waits as must_wait, goes_on, moves, finish, fibers_step, ends_in}
+use Rattle.ms_runs_threads.specs.Fibers.{Meaning, Going as FiberGoing, Others, Fibers, Goes, Waits, waits as must_wait, goes_on, moves, finish, site_at, fibers_step, world_of, ends_in}
 use Rattle.ms_runs_threads.specs.PlainFibers.{Shared, plain_fiber, plain_threads, plain_threads_start}
 use Rattle.ms_runs_threads.specs.Calls.{Acting, Told, none_told, start_of, told_after, fibers_told, plain_threads_calls}
-use Rattle.ms_runs_threads.specs.Blind.{fibers_end, fibers_end_after, plain_threads_end_calls}
+use Rattle.ms_runs_threads.specs.Blind.{after_call, going, fibers_blind, fibers_end, fibers_end_after, plain_threads_blind, plain_threads_end_calls}
 use Rattle.ms_threads_schedules_laws.specs.Picks.{Pick, picked_on, picks_in, plain_picks}
 use Rattle.ms_host.specs.State.{WorldState, Beside}
 use Rattle.ms_host.specs.Shows.{Shows}
@@ -35,6 +35,7 @@ use Rattle.ms_runtime.specs.declared.reports.ReportLimit.{ReportLimit}
 use Rattle.ms_runtime.specs.Served.{limit_of, IsBeside}
 use Rattle.ms_runtime.specs.Answering.{HasRoom}
 use Rattle.ms_runtime.specs.Going.{ahead, Keeping, Answers, LeftAfter, HasSlack}
+use Rattle.ms_runtime.specs.Places.{Placed}
 use Rattle.ms_runtime.specs.Recorded.{calls_from, Noted as NotedAt}
 use Rattle.ms_threads.specs.declared.thread_table.Thread.{Thread as Guest}
 use Rattle.ms_threads.specs.declared.thread_table.ThreadTable.{ThreadTable}
@@ -136,11 +137,31 @@ pub record Telling (t : ThreadedRun) (said : Told) : Type 0 where
 
 -- what is recorded stays
 abbrev pub KeepsCalls : ThreadedRun → ThreadedRun → Type 0
-KeepsCalls old new = (new.wanted ≡ old.wanted) × (new.calls ≡ old.calls) × (new.ended ≡ old.ended)
+KeepsCalls old new = (new.wanted ≡ old.wanted) × (new.calls ≡ old.calls) × (new.ended ≡ old.ended) × (new.places ≡ old.places)
 
 -- the calls at which the thread stands that goes on are recorded for each new report
 abbrev pub Noted : Module → ThreadedRun → ThreadedRun → Type 0
 Noted m old new = NotedAt m old.running.fiber (start_of old.table.turn (starts_of old.table)) (length old.running.told.reports) old.calls.items new.calls.items
+
+-- ---- what is said of blind uses
+
+-- from a state of fibers on, with so many steps, after these sites, and from a step on that is taken at a site
+abbrev pub blind_from : Module → Setup → List ℕ → (sites : List ℕ) → ℕ → Fibers (List (Frame ℕ)) Shared → List ℕ
+blind_from m u schedule sites left c = fibers_blind (fiber_of m u) schedule left c sites
+
+abbrev pub blind_after : Module → Setup → List ℕ → (site : ℕ) → (sites : List ℕ) → ℕ → Stepped (Fibers (List (Frame ℕ)) Shared) → List ℕ
+blind_after m u schedule site sites left step =
+    said_after (λ (w : World). w.blind) (world_of (fiber_of m u)) site
+    (said_in (λ (w : World). w.blind) (world_of (fiber_of m u)) (λ c. site_at (fiber_of m u) (going (fiber_of m u) schedule c)) (fibers_step (fiber_of m u) schedule) left) sites step
+
+-- the site at which a thread goes on that stood at a call, once that is done
+abbrev pub site_after : Module → Setup → List (Frame ℕ) → Stepped (FiberGoing (List (Frame ℕ)) Shared) → ℕ
+site_after m u frames done = site_at (fiber_of m u) (after_call (fiber_of m u) frames done)
+
+-- these are the sites of the blind uses so far, whose places are recorded
+pub record Sited (t : ThreadedRun) (sites : List ℕ) : Type 0 where
+  pub blind : length sites ≡ t.running.told.blind
+  pub placed : t.wanted ≡ true → Placed (places_of sites) t.places
 
 -- ---- a run
 
@@ -179,6 +200,9 @@ pub record Going (m : Module) (u : Setup) (schedule : List ℕ) (t : ThreadedRun
   pub said : Told
   pub telling : Telling t said
   pub tells : tells_from m u schedule said t.running.budget.left (goes_at state others) ≡ all_told m u schedule
+  pub sites : List ℕ
+  pub sited : Sited t sites
+  pub lost : blind_from m u schedule sites t.running.budget.left (goes_at state others) ≡ plain_threads_blind m u schedule
 
 -- the same of a thread that waits for the answer of a call: after an external another one may go on
 abbrev pub far_of : Module → Asked → Running → ℕ
@@ -206,6 +230,9 @@ pub record Asking (m : Module) (u : Setup) (schedule : List ℕ) (call : HostCal
   pub said : Told
   pub telling : Telling t said
   pub tells : tells_from m u schedule said (suc rest) (goes_at within others) ≡ all_told m u schedule
+  pub sites : List ℕ
+  pub sited : Sited t sites
+  pub lost : blind_from m u schedule sites (suc rest) (goes_at within others) ≡ plain_threads_blind m u schedule
 
 -- a thread has come from one state to another by an answered call: it stands at the same calls, and the world is that of the run
 pub record CameTo (m : Module) (t : ThreadedRun) (within next : PlainState) : Type 0 where
@@ -213,6 +240,7 @@ pub record CameTo (m : Module) (t : ThreadedRun) (within next : PlainState) : Ty
   pub turn : next.world.turn ≡ t.table.turn
   pub reports : next.world.reports ≡ t.running.told.reports
   pub threads : length next.world.threads ≡ length t.table.threads.items
+  pub blind : next.world.blind ≡ t.running.told.blind
 
 -- a call at which a thread stands was answered: what is left is to go on after it
 pub record After (m : Module) (u : Setup) (schedule : List ℕ) (call : HostCall) (a : Answer) (t : ThreadedRun) : Type 0 where
@@ -241,6 +269,11 @@ pub record After (m : Module) (u : Setup) (schedule : List ℕ) (call : HostCall
   pub telling : Telling t said
   pub goes_telling : (next : PlainState) → Resumes m u call.asked within next → CameTo m t within next → tells_from m u schedule said t.running.budget.left (goes_at next others) ≡ all_told m u schedule
   pub stops_telling : (e : End) (last : World) → Stops m u call.asked within e last → last.reports ≡ t.running.told.reports → told_so said.calls (Some (calls_there m t.table within.frames)) ≡ all_told m u schedule
+  pub sites : List ℕ
+  pub placed : t.wanted ≡ true → Placed (places_of sites) t.places
+  pub goes_sited : (next : PlainState) → Resumes m u call.asked within next → CameTo m t within next → length sites ≡ t.running.told.blind
+  pub goes_lost : (next : PlainState) → Resumes m u call.asked within next → CameTo m t within next → blind_from m u schedule sites t.running.budget.left (goes_at next others) ≡ plain_threads_blind m u schedule
+  pub stops_lost : (e : End) (last : World) → Stops m u call.asked within e last → last.blind ≡ t.running.told.blind → sites ≡ plain_threads_blind m u schedule
 
 -- a pick is due
 pub record Picking (m : Module) (u : Setup) (schedule : List ℕ) (t : ThreadedRun) : Type 0 where
@@ -255,6 +288,9 @@ pub record Picking (m : Module) (u : Setup) (schedule : List ℕ) (t : ThreadedR
   pub said : Told
   pub telling : Telling t said
   pub tells : tells_from m u schedule said t.running.budget.left (Waits shared others) ≡ all_told m u schedule
+  pub sites : List ℕ
+  pub sited : Sited t sites
+  pub lost : blind_from m u schedule sites t.running.budget.left (Waits shared others) ≡ plain_threads_blind m u schedule
 
 -- a thread was picked that does the call at which it stood, and needn't wait
 pub record Performing (m : Module) (u : Setup) (schedule : List ℕ) (s : Standing) (t : ThreadedRun) : Type 0 where
@@ -274,6 +310,9 @@ pub record Performing (m : Module) (u : Setup) (schedule : List ℕ) (s : Standi
   pub said : Told
   pub telling : Telling t said
   pub tells : tells_after m u schedule (acts t.table.turn (Some frames)) said left (goes_on ((fiber_of m u).perform frames shared) (moves (fiber_of m u) others)) ≡ all_told m u schedule
+  pub sites : List ℕ
+  pub sited : Sited t sites
+  pub lost : blind_after m u schedule (site_after m u frames ((fiber_of m u).perform frames shared)) sites left (goes_on ((fiber_of m u).perform frames shared) (moves (fiber_of m u) others)) ≡ plain_threads_blind m u schedule
 
 -- a thread was picked that begins
 pub record Beginning (m : Module) (u : Setup) (schedule : List ℕ) (t : ThreadedRun) : Type 0 where
@@ -292,17 +331,21 @@ pub record Beginning (m : Module) (u : Setup) (schedule : List ℕ) (t : Threade
   pub said : Told
   pub telling : Telling t said
   pub tells : tells_after m u schedule (acts t.table.turn None) said left (moves (fiber_of m u) others ((fiber_of m u).begun guest.func guest.argument shared)) ≡ all_told m u schedule
+  pub sites : List ℕ
+  pub sited : Sited t sites
+  pub lost : blind_after m u schedule ((fiber_of m u).site ((fiber_of m u).begun guest.func guest.argument shared).fiber) sites left (moves (fiber_of m u) others ((fiber_of m u).begun guest.func guest.argument shared)) ≡ plain_threads_blind m u schedule
 
 -- the thread that has the turn has ended with a word, whose mask and origin the slots hold
 abbrev pub HasEnded : (value : ℕ) → ThreadedRun → ThreadedRun → Type 0
 HasEnded value old new = (cells : ℕ → ℕ) → ShowsSlots old.running.world.slots cells → Changed old.table.turn (ended_guest value (result_mask cells) (result_origin cells)) old.table new.table
 
 -- a run has ended: it answers what the whole run does, and its picks are recorded, and where they are wanted the calls at its reports
--- and where it ended
+-- and where it ended, and the places of its blind uses
 abbrev pub IsOver : Module → Setup → List ℕ → End → ThreadedRun → Type 0
 IsOver m u schedule e t =
     Answers (plain_threads m u schedule) e t.running × Recorded t (plain_picks m u schedule) × (t.wanted ≡ true → t.calls.items ≡ plain_threads_calls m u schedule)
     × (t.wanted ≡ true → t.ended ≡ plain_threads_end_calls m u schedule)
+    × (t.wanted ≡ true → Placed (places_of (plain_threads_blind m u schedule)) t.places)
 
 -- a run goes on, and is nearer to its end, or it has ended
 abbrev pub Turned : Module → Setup → List ℕ → ℕ → Option End → ThreadedRun → Type 0

@@ -17,8 +17,8 @@ use std::alloc::Global;
 use std::thread::Threads;
 
 /// Inserts shadow code into a module that can be instrumented, as `instrument` does: under each schedule the plain run of the
-/// answer is the shadow run of the module, with the same calls at each report, and without what is inserted it is the module
-/// itself. The output of a run is a beginning of the module's own. Where the run up to the first report counts no blind use, it
+/// answer is the shadow run of the module, with the same calls at each report and where it ends, and blind uses at the same sites;
+/// without what is inserted it is the module itself. The output of a run is a beginning of the module's own. Where the run up to the first report counts no blind use, it
 /// is the same under every fill.
 /// Linear in the module.
 pub fn instrument_threads<R: Threads + Sync, G: Gate + Sync>(

@@ -4,7 +4,8 @@ ghost use Rattle.std.specs.Prelude.{◌≡◌, ◌<◌, ◌≤◌, ◌^◌, ℕ,
 ghost use Rattle.ms_ir.specs.declared.syntax.Module.{Module as ModuleOf};
 ghost use Rattle.ms_ir.specs.declared.calls.RuntimeFn.TheVariants.{ThreadResult as ResultOf};
 ghost use Rattle.ms_runs.specs.{declared.runs.Setup.{Setup as SetupOf}, Control.{Frame as FrameOf}, Limits.{WithinLimits}};
-ghost use Rattle.ms_runs_threads.specs.{PlainFibers.{plain_threads}, Calls.{plain_threads_calls}, Blind.{plain_threads_end_calls}};
+ghost use Rattle.ms_runs.specs.Calls.{places_of};
+ghost use Rattle.ms_runs_threads.specs.{PlainFibers.{plain_threads}, Calls.{plain_threads_calls}, Blind.{plain_threads_blind, plain_threads_end_calls}};
 ghost use Rattle.ms_host.specs.declared.calls.Answer.TheVariants.{Resumed as ResumedOf};
 ghost use Rattle.ms_machine_steps.specs.Callers.{CallersOf};
 ghost use Rattle.ms_machine.specs.Standing.{RunsSomewhere};
@@ -21,9 +22,10 @@ use ms_host::{Answer, Asked, HostCall};
 use ms_ir::RuntimeFn;
 use ms_machine::{advance, calls_below, resume, spawn};
 use ms_machine_frames::{Pause, no_fiber};
-use ms_runs::{Calls, End, RunResult, Setup};
+use ms_runs::{BlindPlace, Calls, End, RunResult, Setup};
 use ms_runtime::{
-    ReportLimit, Running, ToldRun, note_calls, start_run, thread_result, told_calls, told_end,
+    BlindPlaces, ReportLimit, Running, ToldRun, note_calls, start_run, thread_result, told_calls,
+    told_end,
 };
 use std::alloc::Global;
 
@@ -33,12 +35,14 @@ pub struct ThreadedRun {
     /// The thread that runs, with what all share.
     pub running: Running,
     pub table: ThreadTable,
-    /// Whether the calls at its reports are wanted.
+    /// Whether the calls at its reports, and the places of its blind uses, are wanted.
     pub wanted: bool,
     /// Where they are wanted, the calls that stood at each report so far, in order; else none.
     pub calls: Vec<Calls>,
     /// The calls that stood where the run ended, where they are wanted, and it has ended before its steps were spent.
     pub ended: Option<Calls>,
+    /// The blind uses so far, where they are wanted; else none.
+    pub places: BlindPlaces,
 }
 
 /// Whether a call is a thread call.
@@ -309,8 +313,11 @@ impl ThreadedRun {
             self.park(call);
             return self.pick(alloc, m, schedule);
         }
+        let before = self.running.told.blind;
         let answer = self.answer_of(alloc, m, &call, limit)?;
         self.note_calls(alloc, m)?;
+        let blind = self.running.told.blind;
+        self.places.note(call.site, before, blind, self.wanted)?;
         self.after_answer(alloc, m, call, answer)
     }
 
@@ -358,21 +365,33 @@ pub struct RecordedRun {
     pub recorder: Recorder,
 }
 
+/// A run with the picks that it made, and what is recorded beside it.
+#[derive(Drop)]
+struct WholeRun {
+    recorded: RecordedRun,
+    /// The calls that stood at each of its reports, in order, and where it ended; none where they aren't wanted.
+    calls: List<Calls>,
+    end_calls: Option<Calls>,
+    /// The places of its blind uses; none where they aren't wanted.
+    places: List<BlindPlace>,
+}
+
 /// Runs a checked module with threads to its end. Ok is what its plain run answers and its first 2048 picks, and where they are wanted
-/// the calls that stood at each of its reports, in order, and where it ended.
+/// the calls that stood at each of its reports, in order, and where it ended, and the places of its blind uses.
 fn run_to_end(
     alloc: Global,
     m: &CheckedModule,
     setup: &Setup,
     schedule: &[u8],
     wanted: bool,
-) -> Result<(RecordedRun, List<Calls>, Option<Calls>), NoMemory>
+) -> Result<WholeRun, NoMemory>
     requires limits { WithinLimits setup.now }
     requires scheduled { IsSchedule schedule.now }
-    ensures result { IfOk result (λ r. r.0.result ≡ plain_threads m.now setup.now schedule.now) }
-    ensures picks { IfOk result (λ r. Records r.0.recorder (plain_picks m.now setup.now schedule.now)) }
-    ensures calls { IfOk result (λ r. r.1 ≡ (if wanted then plain_threads_calls m.now setup.now schedule.now else [])) }
-    ensures end_calls { IfOk result (λ r. r.2 ≡ (if wanted then plain_threads_end_calls m.now setup.now schedule.now else None)) }
+    ensures result { IfOk result (λ r. r.recorded.result ≡ plain_threads m.now setup.now schedule.now) }
+    ensures picks { IfOk result (λ r. Records r.recorded.recorder (plain_picks m.now setup.now schedule.now)) }
+    ensures calls { IfOk result (λ r. r.calls ≡ (if wanted then plain_threads_calls m.now setup.now schedule.now else [])) }
+    ensures end_calls { IfOk result (λ r. r.end_calls ≡ (if wanted then plain_threads_end_calls m.now setup.now schedule.now else None)) }
+    ensures places { IfOk result (λ r. r.places ≡ (if wanted then places_of (plain_threads_blind m.now setup.now schedule.now) else [])) }
 {
     let limit = ReportLimit {
         count: setup.reports,
@@ -386,6 +405,7 @@ fn run_to_end(
         wanted,
         calls: Vec::new(alloc),
         ended: None,
+        places: BlindPlaces::new(alloc),
     };
     loop {
         if let Some(end) = threads.run_to_pause(alloc, m, limit, schedule)? {
@@ -394,14 +414,19 @@ fn run_to_end(
                 table,
                 calls,
                 ended,
+                places,
                 ..
             } = threads;
             let recorded = RecordedRun {
                 result: running.into_result(end),
                 recorder: table.recorder,
             };
-            let calls = told_calls(alloc, calls, wanted);
-            return Ok((recorded, calls, told_end(ended, wanted)));
+            return Ok(WholeRun {
+                recorded,
+                calls: told_calls(alloc, calls, wanted),
+                end_calls: told_end(ended, wanted),
+                places: places.into_places(alloc, wanted),
+            });
         }
     }
 }
@@ -418,8 +443,8 @@ pub fn record_threads(
     ensures result { IfOk result (λ r. r.result ≡ plain_threads m.now setup.now schedule.now) }
     ensures picks { IfOk result (λ r. Records r.recorder (plain_picks m.now setup.now schedule.now)) }
 {
-    let (recorded, _, _) = run_to_end(alloc, m, setup, schedule, false)?;
-    Ok(recorded)
+    let whole = run_to_end(alloc, m, setup, schedule, false)?;
+    Ok(whole.recorded)
 }
 
 /// Runs a checked module with threads, under a schedule that isn't empty: the k-th pick of the run, counted from 0, takes of
@@ -441,9 +466,11 @@ pub fn run_threads(
     Ok(recorded.result)
 }
 
-/// The same, and the calls that stood at each of its reports, in order, and where it ended, where they are wanted.
+/// The same, and the calls that stood at each of its reports, in order, and where it ended, and the places of its blind uses, where
+/// they are wanted.
 ///
-/// A report takes as long as calls stand there; nothing else takes longer than in `run_threads`.
+/// A report takes as long as calls stand there; nothing else takes longer than in `run_threads`, but a blind use by one look-up of
+/// its site.
 pub fn run_threads_told(
     alloc: Global,
     m: &CheckedModule,
@@ -455,10 +482,11 @@ pub fn run_threads_told(
     requires scheduled { IsSchedule schedule.now }
     ensures { IfOk result (λ r. r ≡ plain_threads_told wanted m.now setup.now schedule.now) }
 {
-    let (recorded, calls, end_calls) = run_to_end(alloc, m, setup, schedule, wanted)?;
+    let whole = run_to_end(alloc, m, setup, schedule, wanted)?;
     Ok(ToldRun {
-        result: recorded.result,
-        calls,
-        end_calls,
+        result: whole.recorded.result,
+        calls: whole.calls,
+        end_calls: whole.end_calls,
+        places: whole.places,
     })
 }

@@ -23,7 +23,7 @@ use Rattle.ms_words.specs.declared.commands.Options.{Options}
 use Rattle.ms_words.specs.Words.{command_of}
 use Rattle.ms_top.specs.declared.output.Output.{Output}
 use Rattle.ms_top.specs.Answered.{AreHeld, IsTaken, IsDoneStatus, Begins}
-use Rattle.ms_top.specs.Command.{form_of, files_of, only_input, setup_of}
+use Rattle.ms_top.specs.Command.{form_of, files_of, only_input, setup_of, wanted_of}
 use Rattle.ms_top.specs.Files.{Counted, Whole, CanRead}
 use Rattle.ms_top.specs.Instrumented.{IsInstrumented}
 use Rattle.ms_top.specs.Lines.{AreLines}
@@ -119,7 +119,7 @@ valid_done under (Run file o) inputs m a taken is = done a _ _ _ is (run_done _ 
 valid_done under (Check file o) inputs m a taken (j, gives, is) = done a _ _ _ is (run_done _ _)
 valid_done under (CheckSchedules file o runs workers) inputs m a taken (j, gives, e, explored, is) = done a _ _ _ is (run_done _ _)
 valid_done under (Explain file o) inputs m a alone is =
-    taken_done (is_threaded m) a (IsExplanation IsInstrumented under o.calls (setup_of o (only_input inputs)) m a) alone (λ h. done a _ _ _ h.2 (run_done _ _)) is
+    taken_done (is_threaded m) a (IsExplanation IsInstrumented under (wanted_of o) (setup_of o (only_input inputs)) m a) alone (λ h. done a _ _ _ h.2 (run_done _ _)) is
 valid_done under (Corpus file names o workers) inputs m a alone is =
     taken_done (is_threaded m) a (AreSections IsInstrumented under names o inputs m a) alone (λ h. done a _ _ _ h.2 (all_done _ _ _)) is
 valid_done under (Gen seed functions run) inputs m a taken is = gen_done run m a is
@@ -129,7 +129,7 @@ valid_done under Version inputs m a taken is = done a 0 _ _ is (inl refl)
 -- a module with threads is refused by the others
 pub explain_refused : (under : Lines) (file : List ℕ) (o : Options) (inputs : List (List ℕ)) (m : Module) (a : Output) → is_threaded m ≡ true
     → IsAnswerToValid IsInstrumented under (Explain file o) inputs m a → a ≡ says 5 threads_text
-explain_refused under file o inputs m a threads is = subst (λ t. UnlessThreaded t a (IsExplanation IsInstrumented under o.calls (setup_of o (only_input inputs)) m a)) threads is
+explain_refused under file o inputs m a threads is = subst (λ t. UnlessThreaded t a (IsExplanation IsInstrumented under (wanted_of o) (setup_of o (only_input inputs)) m a)) threads is
 
 pub corpus_refused : (under : Lines) (file : List ℕ) (names : List (List ℕ)) (o : Options) (workers : ℕ) (inputs : List (List ℕ)) (m : Module) (a : Output) → is_threaded m ≡ true
     → IsAnswerToValid IsInstrumented under (Corpus file names o workers) inputs m a → a ≡ says 5 threads_text
@@ -143,8 +143,8 @@ valid_begins under below file name inputs o m a b fair some (j, made, is) same =
     let s = setup_of o (only_input inputs) in
     let undisturbed = made.undisturbed s fair o.schedule some in
     record {
-      checked = plain_told_under o.calls (is_threaded m) j s o.schedule;
-      plainly = plain_told_under o.calls (is_threaded m) m s o.schedule;
+      checked = plain_told_under (wanted_of o) (is_threaded m) j s o.schedule;
+      plainly = plain_told_under (wanted_of o) (is_threaded m) m s o.schedule;
       under = under;
       below = below;
       check = is;

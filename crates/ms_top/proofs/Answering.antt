@@ -1,6 +1,6 @@
 -- From what the parts of an answer are to what the answer is.
 use Rattle.std.proofs.Common.{◌≡◌, ◌≢◌, ℕ, Bool, suc, ◌^◌, ◌<◌, ◌≤◌, true, false, List, [], ◌∷◌, ◌++◌, length, append-nil, Option, Some, None, Result, Ok, Err, refl, ap, ap₂, sym, ◌∙◌, subst, inl, inr, arith}
-use Rattle.std.specs.Prelude.{get_or, map, if◌then◌else◌, slice_index_or, nat_lt, is_none, IfSome, IsTrue}
+use Rattle.std.specs.Prelude.{get_or, map, slice_index_or, nat_lt, is_none, IfSome, IsTrue}
 use Rattle.std.proofs.lemmas.Bool.{true≢false, and_from, lt-ltb}
 use Rattle.ms_lex.specs.declared.errors.LexError.{LexError}
 use Rattle.ms_lex.specs.declared.errors.LexError.TheVariants as lexing
@@ -8,9 +8,9 @@ use Rattle.ms_lex.specs.declared.kinds.Token.{Token}
 use Rattle.ms_lex.specs.Tokens.{tokens_of}
 use Rattle.ms_ir.specs.declared.syntax.Module.{Module}
 use Rattle.ms_ir.specs.ThreadCalls.{is_threaded}
-use Rattle.ms_runs.specs.declared.runs.Calls.{Calls}
 use Rattle.ms_runtime.specs.declared.runs.ToldRun.{ToldRun}
-use Rattle.ms_runtime.specs.ToldRuns.{plain_told}
+use Rattle.ms_corpus.specs.declared.wanted.Wanted.{Wanted}
+use Rattle.ms_corpus.specs.Wanted.{plain_wanted}
 use Rattle.ms_runs.specs.declared.runs.Setup.{Setup}
 use Rattle.ms_runs.specs.Limits.{WithinLimits as RunFits}
 use Rattle.ms_ir.specs.declared.forms.Form.{Form}
@@ -33,6 +33,7 @@ use Rattle.ms_check_valid.specs.Uninstrumented.{CanInstrument}
 use Rattle.ms_text_laws.proofs.FormedModules.{read_formed}
 use Rattle.ms_text_laws.proofs.SmallLimits.{can_instrument}
 use Rattle.ms_top.specs.declared.output.Output.{Output}
+use Rattle.ms_top.specs.declared.schedules.ToldBeside.{ToldBeside}
 use Rattle.ms_words.specs.declared.commands.Command.{Command}
 use Rattle.ms_words.specs.declared.commands.Command.TheVariants.{Instrument, Run, Check, CheckSchedules, Explain, Corpus, Gen, Help, Version}
 use Rattle.ms_words.specs.declared.commands.Options.{Options}
@@ -41,20 +42,20 @@ use Rattle.ms_words.specs.Limits.{RunsWithinLimits}
 use Rattle.ms_where_places.specs.declared.marks.Mark.{Mark}
 use Rattle.ms_where_places.specs.Marks.{AreMarks}
 use Rattle.ms_where.specs.Lines.{lines_of_site}
-use Rattle.ms_top.specs.Command.{form_of, located_file, input_limit, only_input, setup_of}
+use Rattle.ms_top.specs.Command.{form_of, located_file, input_limit, only_input, setup_of, wanted_of}
 use Rattle.ms_top.specs.Lines.{AreLinesIn, AreLines}
 use Rattle.ms_corpus.specs.Jobs.{with_input}
 use Rattle.ms_threads_explore.specs.declared.explorer.Explored.{Explored}
 use Rattle.ms_threads_explore.specs.Explorations.{IsExplored}
-use Rattle.ms_top.specs.Parts.{AreShort, AreWithinLimits, IsExploredOfGiven, IsReady, IsRunOfGiven, AreRunsOfGiven}
+use Rattle.ms_top.specs.Parts.{beside_of, told_with, AreShort, AreWithinLimits, IsExploredOfGiven, IsReady, IsRunOfGiven, AreRunsOfGiven}
 use Rattle.ms_report.specs.FaultTexts.{fault_line}
 use Rattle.ms_report.specs.WithLines.{Lines, no_lines, under_line, fault_site, refusal_text_with}
 use Rattle.ms_report.specs.RefusalTexts.{IsNumbered, IsReadRefusal, refusal_text, threads_text, wants_memory}
 use Rattle.ms_words.specs.Words.{defaults}
 use Rattle.ms_threads.specs.Faithful.{IsSchedule}
-use Rattle.ms_top.specs.Runs.{plain_under, plain_picks_under, plain_calls_under, plain_end_calls_under, plain_told_under}
+use Rattle.ms_top.specs.Runs.{plain_under, plain_picks_under, plain_told_under}
 use Rattle.ms_report.specs.SummaryTexts.{summary_of}
-use Rattle.ms_top.specs.Said.{says, answer_of, answer_of_explored, answer_of_result, answer_of_results, status_of, UnlessThreaded, IsAnswerOfCheck, IsAnswerOfSchedules, AreSections, IsAnswerOfGen, IsAnswerToValid, IsAnswerToModule, IsAnswerToReading, IsAnswerToText}
+use Rattle.ms_top.specs.Said.{says, answer_of, answer_of_explored, answer_of_result, answer_of_results, explored_told, status_of, UnlessThreaded, IsAnswerOfCheck, IsAnswerOfSchedules, AreSections, IsAnswerOfGen, IsAnswerToValid, IsAnswerToModule, IsAnswerToReading, IsAnswerToText}
 
 -- ---- runs
 
@@ -90,10 +91,10 @@ alone_answered m a Is alone is = subst (λ t. UnlessThreaded t a Is) (sym alone)
 -- ---- valid modules
 
 -- the run of the module as it is
-pub run_answer : (under : Lines) (m n : Module) (calls threads : Bool) (s t : Setup) (schedule picks : List ℕ) (r : ToldRun) (a : Output) → n ≡ m → threads ≡ is_threaded m → s ≡ t → schedule ≡ picks
-    → r ≡ plain_told_under calls threads m s schedule → a ≡ answer_of_result under false n r → a ≡ answer_of_result under false m (plain_told_under calls (is_threaded m) m t picks)
-run_answer under m n calls threads s t schedule picks r a same known given alike runs is =
-    let run : r ≡ plain_told_under calls (is_threaded m) m t picks = runs ∙ ap (λ b. plain_told_under calls b m s schedule) known ∙ ap₂ (plain_told_under calls (is_threaded m) m) given alike in
+pub run_answer : (under : Lines) (m n : Module) (wanted : Wanted) (threads : Bool) (s t : Setup) (schedule picks : List ℕ) (r : ToldRun) (a : Output) → n ≡ m → threads ≡ is_threaded m → s ≡ t → schedule ≡ picks
+    → r ≡ plain_told_under wanted threads m s schedule → a ≡ answer_of_result under false n r → a ≡ answer_of_result under false m (plain_told_under wanted (is_threaded m) m t picks)
+run_answer under m n wanted threads s t schedule picks r a same known given alike runs is =
+    let run : r ≡ plain_told_under wanted (is_threaded m) m t picks = runs ∙ ap (λ b. plain_told_under wanted b m s schedule) known ∙ ap₂ (plain_told_under wanted (is_threaded m) m) given alike in
     is ∙ ap (λ k. answer_of_result under false k r) same ∙ ap (answer_of_result under false m) run
 
 -- what is said of a module for a command is said for the same command
@@ -101,29 +102,28 @@ pub same_valid : (Gives : Module → Module → Type 0) (under : Lines) (command
     → IsAnswerToValid Gives under other inputs m a → IsAnswerToValid Gives under command inputs m a
 same_valid Gives under command other inputs m a is answers = subst (λ c. IsAnswerToValid Gives under c inputs m a) (sym is) answers
 
-pub check_answer : (Gives : Module → Module → Type 0) (under : Lines) (m n : Module) (calls : Bool) (s t : Setup) (schedule picks : List ℕ) (r : ToldRun) (a : Output) → n ≡ m → s ≡ t → schedule ≡ picks
-    → IsRunOfGiven Gives m s schedule calls r → a ≡ answer_of_result under true n r → IsAnswerOfCheck Gives under calls t picks m a
-check_answer Gives under m n calls s t schedule picks r a same given alike q is =
-    (q.0, q.1, is ∙ ap (λ k. answer_of_result under true k r) same ∙ ap (answer_of_result under true m) (q.2 ∙ ap₂ (plain_told_under calls (is_threaded m) q.0) given alike))
+pub check_answer : (Gives : Module → Module → Type 0) (under : Lines) (m n : Module) (wanted : Wanted) (s t : Setup) (schedule picks : List ℕ) (r : ToldRun) (a : Output) → n ≡ m → s ≡ t → schedule ≡ picks
+    → IsRunOfGiven Gives m s schedule wanted r → a ≡ answer_of_result under true n r → IsAnswerOfCheck Gives under wanted t picks m a
+check_answer Gives under m n wanted s t schedule picks r a same given alike q is =
+    (q.0, q.1, is ∙ ap (λ k. answer_of_result under true k r) same ∙ ap (answer_of_result under true m) (q.2 ∙ ap₂ (plain_told_under wanted (is_threaded m) q.0) given alike))
 
 -- what exploring tells
-pub schedules_answer : (Gives : Module → Module → Type 0) (under : Lines) (m n : Module) (calls : Bool) (s t : Setup) (runs : ℕ) (e : Explored) (told : List Calls) (last : Option Calls) (a : Output) → n ≡ m → s ≡ t
-    → IsExploredOfGiven Gives m s runs calls e told last → a ≡ answer_of_explored under n e told last → IsAnswerOfSchedules Gives under calls t runs m a
-schedules_answer Gives under m n calls s t runs e told last a same given q is = (
+pub schedules_answer : (Gives : Module → Module → Type 0) (under : Lines) (m n : Module) (wanted : Wanted) (s t : Setup) (runs : ℕ) (e : Explored) (beside : ToldBeside) (a : Output) → n ≡ m → s ≡ t
+    → IsExploredOfGiven Gives m s runs wanted e beside → a ≡ answer_of_explored under n e (told_with e beside) → IsAnswerOfSchedules Gives under wanted t runs m a
+schedules_answer Gives under m n wanted s t runs e beside a same given q is = (
   q.0,
   q.1,
   e,
   subst (λ (setup : Setup). IsExplored (plain_picks_under (is_threaded m) q.0 setup) (plain_under (is_threaded m) q.0 setup) runs e) given q.2,
-  is ∙ ap (λ (k : Module). answer_of_explored under k e told last) same
-      ∙ ap₂ (answer_of_explored under m e) (q.3 ∙ ap (λ (setup : Setup). if calls then plain_calls_under (is_threaded m) q.0 setup e.schedule else []) given)
-      (q.4 ∙ ap (λ (setup : Setup). if calls then plain_end_calls_under (is_threaded m) q.0 setup e.schedule else None) given),
+  is ∙ ap (λ (k : Module). answer_of_explored under k e (told_with e beside)) same
+      ∙ ap (λ (b : ToldBeside). answer_of_explored under m e (told_with e b)) (q.3 ∙ ap (λ (setup : Setup). beside_of (explored_told wanted (is_threaded m) q.0 setup e)) given),
 )
 
 -- the runs on many inputs
 pub corpus_answer : (Gives : Module → Module → Type 0) (under : Lines) (m n : Module) (names : List (List ℕ)) (o : Options) (s : Setup) (inputs : List (List ℕ)) (rs : List ToldRun) (a : Output) → n ≡ m → s ≡ setup_of o []
-    → AreRunsOfGiven Gives m s o.calls inputs rs → a ≡ answer_of_results under n names rs → AreSections Gives under names o inputs m a
+    → AreRunsOfGiven Gives m s (wanted_of o) inputs rs → a ≡ answer_of_results under n names rs → AreSections Gives under names o inputs m a
 corpus_answer Gives under m n names o s inputs rs a same given q is =
-    let runs : rs ≡ map (λ input. plain_told o.calls q.0 (setup_of o input)) inputs = q.2 ∙ ap (λ t. map (λ input. plain_told o.calls q.0 (with_input t input)) inputs) given in
+    let runs : rs ≡ map (λ input. plain_wanted (wanted_of o) q.0 (setup_of o input)) inputs = q.2 ∙ ap (λ t. map (λ input. plain_wanted (wanted_of o) q.0 (with_input t input)) inputs) given in
     (q.0, q.1, is ∙ ap (λ k. answer_of_results under k names rs) same ∙ ap (answer_of_results under m names) runs)
 
 -- with each of some short inputs options within the limits are within them
@@ -132,7 +132,7 @@ all_within o s inputs fit short is n d below = within o (get_or inputs n d) (wit
 
 -- the summary of that run
 pub summary_answer : (Gives : Module → Module → Type 0) (m n : Module) (s : Setup) (schedule : List ℕ) (told : ToldRun) (a : Output) → n ≡ m → s ≡ setup_of defaults [] → schedule ≡ defaults.schedule
-    → IsRunOfGiven Gives m s schedule false told → a ≡ answer_of (status_of told.result) (summary_of n told.result) [] → IsAnswerOfGen Gives true m a
+    → IsRunOfGiven Gives m s schedule (record { calls = false; places = false }) told → a ≡ answer_of (status_of told.result) (summary_of n told.result) [] → IsAnswerOfGen Gives true m a
 summary_answer Gives m n s schedule told a same given picks q is =
     let r = told.result in
     let run : r ≡ plain_under (is_threaded m) q.0 (setup_of defaults []) defaults.schedule = ap (λ (t : ToldRun). t.result) q.2 ∙ ap₂ (plain_under (is_threaded m) q.0) given picks in

@@ -35,25 +35,26 @@ use Rattle.ms_report.specs.WithLines.{Lines, reports_with}
 use Rattle.ms_words.specs.declared.commands.Command.TheVariants.{Explain}
 use Rattle.ms_words.specs.declared.commands.Options.{Options}
 use Rattle.ms_top.specs.declared.output.Output.{Output}
-use Rattle.ms_top.specs.Command.{only_input, setup_of}
+use Rattle.ms_top.specs.Command.{only_input, setup_of, wanted_of}
 use Rattle.ms_top.specs.Explained.{CanLead, explained_with, followed, no_report, shortened, trace_with, way_with}
 use Rattle.ms_top.specs.Instrumented.{IsInstrumented}
 use Rattle.ms_top.specs.Parts.{IsRunOfGiven}
 use Rattle.ms_top.specs.Promised.{told_reports, ShowsWay}
-use Rattle.ms_runs.specs.Calls.{SameCalls}
+use Rattle.ms_runs.specs.Calls.{places_of, SameCalls}
 use Rattle.ms_runtime.specs.declared.runs.ToldRun.{ToldRun}
-use Rattle.ms_runtime.specs.ToldRuns.{plain_told, shadow_told}
-use Rattle.ms_top.specs.Runs.{told_as, plain_told_under}
+use Rattle.ms_corpus.specs.declared.wanted.Wanted.{Wanted}
+use Rattle.ms_corpus.specs.Wanted.{told_as, plain_wanted, shadow_wanted}
+use Rattle.ms_top.specs.Runs.{plain_told_under}
 use Rattle.ms_top.specs.Said.{answer_of_explained, IsExplanation, IsAnswerToValid}
 use Rattle.ms_top.proofs.Faithful.{alone_says, told_alone}
 
 -- ---- answers
 
-pub explain_answer : (Gives : Module → Module → Type 0) (under : Lines) (m : Module) (calls : Bool) (s t : Setup) (schedule : List ℕ) (r : ToldRun) (a : Output) → is_threaded m ≡ false → s ≡ t
-    → IsRunOfGiven Gives m s schedule calls r → a ≡ answer_of_explained under calls m s r → IsExplanation Gives under calls t m a
-explain_answer Gives under m calls s t schedule r a alone given q is =
-    let run : r ≡ plain_told calls q.0 s = subst (λ b. r ≡ plain_told_under calls b q.0 s schedule) alone q.2 in
-    (q.0, q.1, is ∙ ap (λ u. answer_of_explained under calls m u r) given ∙ ap (answer_of_explained under calls m t) (run ∙ ap (plain_told calls q.0) given))
+pub explain_answer : (Gives : Module → Module → Type 0) (under : Lines) (m : Module) (wanted : Wanted) (s t : Setup) (schedule : List ℕ) (r : ToldRun) (a : Output) → is_threaded m ≡ false → s ≡ t
+    → IsRunOfGiven Gives m s schedule wanted r → a ≡ answer_of_explained under wanted.calls m s r → IsExplanation Gives under wanted t m a
+explain_answer Gives under m wanted s t schedule r a alone given q is =
+    let run : r ≡ plain_wanted wanted q.0 s = subst (λ b. r ≡ plain_told_under wanted b q.0 s schedule) alone q.2 in
+    (q.0, q.1, is ∙ ap (λ u. answer_of_explained under wanted.calls m u r) given ∙ ap (answer_of_explained under wanted.calls m t) (run ∙ ap (plain_wanted wanted q.0) given))
 
 -- ---- ways
 
@@ -125,7 +126,10 @@ WaysStay =
     (m : Module) → is_threaded m ≡ false → (setup : Setup) (moves : List Move) (at : Source) → moves_of.trace m setup ≡ moves_of.Found moves at
     → (hops : List Hop) → Leads moves at hops → ReadsToReport m (to_first_report setup) moves at hops
 
-module _ (stay : WaysStay) (under : Lines) (calls : Bool) (m : Module) (s : Setup) where
+module _ (stay : WaysStay) (under : Lines) (wanted : Wanted) (m : Module) (s : Setup) where
+  abbrev calls : Bool
+  calls = wanted.calls
+
   abbrev reports : List ℕ
   reports = told_reports under calls m s
 
@@ -138,7 +142,7 @@ module _ (stay : WaysStay) (under : Lines) (calls : Bool) (m : Module) (s : Setu
   text_shown alone moves at traced false many text is = record { moves = moves; at = at; traced = traced; shown = inl (many_moves moves many, is); stays = stay m alone s moves at traced }
 
   -- what is said of a run with a report shows the way of its bits
-  pub shows_way : is_threaded m ≡ false → (text : List ℕ) → text ≡ explained_with under calls m s (shadow_told calls m s) → (shadow m s).reports ≢ [] → ShowsWay under calls m s text
+  pub shows_way : is_threaded m ≡ false → (text : List ℕ) → text ≡ explained_with under wanted.calls m s (shadow_wanted wanted m s) → (shadow m s).reports ≢ [] → ShowsWay under calls m s text
   shows_way alone text is some =
       let found = where_reported m s (reported m s some) in
       text_shown alone found.0 found.1 found.2 (leb (length found.0) move_limit) refl text
@@ -146,34 +150,35 @@ module _ (stay : WaysStay) (under : Lines) (calls : Bool) (m : Module) (s : Setu
       ∙ ap (λ (t : Trace). reports ++ trace_with under calls m s t) (followed_is m s found.0 found.1 found.2))
 
 -- and of one without a report that there is none
-pub shows_none : (under : Lines) (calls : Bool) (m : Module) (s : Setup) (text : List ℕ) → text ≡ explained_with under calls m s (shadow_told calls m s) → (shadow m s).reports ≡ [] → text ≡ no_report
-shows_none under calls m s text is none =
-    is ∙ ap (λ (rs : List Report). if eqb (length rs) 0 then no_report else told_reports under calls m s ++ trace_with under calls m s (followed m s)) none
+pub shows_none : (under : Lines) (wanted : Wanted) (m : Module) (s : Setup) (text : List ℕ) → text ≡ explained_with under wanted.calls m s (shadow_wanted wanted m s) → (shadow m s).reports ≡ [] → text ≡ no_report
+shows_none under wanted m s text is none =
+    is ∙ ap (λ (rs : List Report). if eqb (length rs) 0 then no_report else told_reports under wanted.calls m s ++ trace_with under wanted.calls m s (followed m s)) none
 
 -- ---- where the pass gives faithful modules
 
 pub explains_shadow : (Gives : Module → Module → Type 0) (under : Lines) (file : List ℕ) (inputs : List (List ℕ)) (o : Options) (m : Module) (a : Output) → ((j : Module) → Gives m j → Faithful m j × SameCalls m j)
-    → is_threaded m ≡ false → let s = setup_of o (only_input inputs) in Fair s → IsAnswerToValid Gives under (Explain file o) inputs m a → a ≡ answer_of_explained under o.calls m s (shadow_told o.calls m s)
+    → is_threaded m ≡ false → let s = setup_of o (only_input inputs) in Fair s → IsAnswerToValid Gives under (Explain file o) inputs m a → a ≡ answer_of_explained under o.calls m s (shadow_wanted (wanted_of o) m s)
 explains_shadow Gives under file inputs o m a faithful alone fair is =
     let s = setup_of o (only_input inputs) in
-    let h = alone_says m a (IsExplanation Gives under o.calls s m a) alone is in
+    let h = alone_says m a (IsExplanation Gives under (wanted_of o) s m a) alone is in
     let known = faithful h.0 h.1 in
-    let told : plain_told o.calls h.0 s ≡ shadow_told o.calls m s = λ i. told_as o.calls (known.0.runs s fair i) (known.1.same s fair i) (known.1.ends s fair i) in
+    let told : plain_wanted (wanted_of o) h.0 s ≡ shadow_wanted (wanted_of o) m s =
+    λ i. told_as (wanted_of o) (known.0.runs s fair i) (known.1.same s fair i) (known.1.ends s fair i) (places_of (known.1.blind s fair i)) in
     h.2 ∙ ap (answer_of_explained under o.calls m s) told
 
 pub explained_shadow : (under : Lines) (file : List ℕ) (inputs : List (List ℕ)) (o : Options) (m : Module) (a : Output) → is_threaded m ≡ false → let s = setup_of o (only_input inputs) in Fair s
-    → IsAnswerToValid IsInstrumented under (Explain file o) inputs m a → a ≡ answer_of_explained under o.calls m s (shadow_told o.calls m s)
+    → IsAnswerToValid IsInstrumented under (Explain file o) inputs m a → a ≡ answer_of_explained under o.calls m s (shadow_wanted (wanted_of o) m s)
 explained_shadow under file inputs o m a alone fair is =
     let s = setup_of o (only_input inputs) in
-    let h = alone_says m a (IsExplanation IsInstrumented under o.calls s m a) alone is in
-    h.2 ∙ ap (answer_of_explained under o.calls m s) (told_alone m h.0 h.1 alone o.calls s fair)
+    let h = alone_says m a (IsExplanation IsInstrumented under (wanted_of o) s m a) alone is in
+    h.2 ∙ ap (answer_of_explained under o.calls m s) (told_alone m h.0 h.1 alone (wanted_of o) s fair)
 
 pub explained_way : WaysStay → (under : Lines) (file : List ℕ) (inputs : List (List ℕ)) (o : Options) (m : Module) (a : Output) → is_threaded m ≡ false → let s = setup_of o (only_input inputs) in Fair s
     → IsAnswerToValid IsInstrumented under (Explain file o) inputs m a → (shadow m s).reports ≢ [] → ShowsWay under o.calls m s a.out
 explained_way stay under file inputs o m a alone fair answers some =
-    shows_way stay under o.calls m (setup_of o (only_input inputs)) alone a.out (ap (λ x. x.out) (explained_shadow under file inputs o m a alone fair answers)) some
+    shows_way stay under (wanted_of o) m (setup_of o (only_input inputs)) alone a.out (ap (λ x. x.out) (explained_shadow under file inputs o m a alone fair answers)) some
 
 pub explained_none : (under : Lines) (file : List ℕ) (inputs : List (List ℕ)) (o : Options) (m : Module) (a : Output) → is_threaded m ≡ false → let s = setup_of o (only_input inputs) in Fair s
     → IsAnswerToValid IsInstrumented under (Explain file o) inputs m a → (shadow m s).reports ≡ [] → a.out ≡ no_report
 explained_none under file inputs o m a alone fair answers none =
-    shows_none under o.calls m (setup_of o (only_input inputs)) a.out (ap (λ x. x.out) (explained_shadow under file inputs o m a alone fair answers)) none
+    shows_none under (wanted_of o) m (setup_of o (only_input inputs)) a.out (ap (λ x. x.out) (explained_shadow under file inputs o m a alone fair answers)) none

@@ -1,9 +1,11 @@
 -- What exploring schedules tells is one thing; of a module without threads it is the only run; and of the instrumented form of a module it
 -- is what it is of the shadow runs of the module.
-use Rattle.std.proofs.Common.{◌≡◌, ◌∙◌, ◌≤◌, ◌&&◌, ℕ, zero, suc, Bool, true, false, List, [], ◌∷◌, if◌then◌else◌, length, map, take, refl, sym, ap, arith}
+use Rattle.std.proofs.Common.{◌≡◌, ◌∙◌, ◌≤◌, ◌&&◌, ◌||◌, ℕ, zero, suc, Bool, true, false, List, [], ◌∷◌, if◌then◌else◌, length, map, take, refl, sym, ap, arith, true≢false, Option, None}
 use Rattle.std.specs.List.{list_all}
 use Rattle.ms_ir.specs.declared.syntax.Module.{Module}
 use Rattle.ms_ir.specs.ThreadCalls.{is_threaded}
+use Rattle.ms_runs.specs.declared.runs.BlindPlace.{BlindPlace}
+use Rattle.ms_runs.specs.declared.runs.Calls.{Calls}
 use Rattle.ms_runs.specs.declared.runs.RunResult.{RunResult}
 use Rattle.ms_runs.specs.declared.runs.Setup.{Setup}
 use Rattle.ms_runs.specs.Faithful.{Fair}
@@ -17,8 +19,10 @@ use Rattle.ms_threads_explore.specs.Explorations.{IsExplored, is_empty, is_short
 use Rattle.ms_threads_explore.specs.Outcomes.{outcomes_of}
 use Rattle.ms_threads_explore.proofs.Alike.{explored_alike}
 use Rattle.ms_threads_explore.proofs.Holding.{told_repeats}
+use Rattle.ms_corpus.specs.declared.wanted.Wanted.{Wanted}
+use Rattle.ms_corpus.specs.Wanted.{is_any, told_as}
 use Rattle.ms_top.specs.Instrumented.{IsInstrumented}
-use Rattle.ms_top.specs.Parts.{only_run}
+use Rattle.ms_top.specs.Parts.{beside_of, only_run}
 use Rattle.ms_top.specs.Runs.{plain_under, plain_picks_under, shadow_under, shadow_picks_under}
 
 -- ---- one thing
@@ -84,3 +88,15 @@ pub repeats_under : (t : Bool) (j : Module) (s : Setup) (runs : ℕ) (e : Explor
     → plain_under t j s e.schedule ≡ e.result
 repeats_under true j s runs e some explored = told_repeats j s runs e some explored
 repeats_under false j s runs e some explored = sym explored.result
+
+-- ---- beside a result
+
+-- where nothing is wanted nothing is told
+module _ (r : RunResult) (calls : List Calls) (last : Option Calls) (places : List BlindPlace) where
+  none_by_flags : (c p : Bool) → (c || p) ≡ false → record { calls = []; end_calls = None; places = [] } ≡ beside_of (told_as (record { calls = c; places = p }) r calls last places)
+  none_by_flags true p any = absurd (true≢false any)
+  none_by_flags false true any = absurd (true≢false any)
+  none_by_flags false false any = refl
+
+  pub none_beside : (w : Wanted) → is_any w ≡ false → record { calls = []; end_calls = None; places = [] } ≡ beside_of (told_as w r calls last places)
+  none_beside w any = none_by_flags w.calls w.places any

@@ -1,5 +1,5 @@
 -- Where the pass gives faithful modules, what `check` runs is the shadow run of the module.
-use Rattle.std.proofs.Common.{◌≡◌, ℕ, Bool, true, false, ◌^◌, ◌<◌, ◌≤◌, List, [], length, refl, ap, ◌∙◌, subst, arith}
+use Rattle.std.proofs.Common.{◌≡◌, ℕ, Bool, true, false, ◌^◌, ◌<◌, ◌≤◌, List, [], length, take, refl, sym, ap, ◌∙◌, subst, arith}
 use Rattle.std.specs.Prelude.{All, map, suc, ◌∷◌}
 use Rattle.std.proofs.Math.Path.{ap₂}
 use Rattle.std.proofs.lemmas.List.Elements.{All-cons, All-nil}
@@ -8,21 +8,28 @@ use Rattle.ms_ir.specs.ThreadCalls.{is_threaded}
 use Rattle.ms_runs.specs.declared.runs.Setup.{Setup}
 use Rattle.ms_runs.specs.Plain.{plain}
 use Rattle.ms_runs.specs.Shadow.{shadow}
-use Rattle.ms_runs.specs.Calls.{shadow_calls}
+use Rattle.ms_runs.specs.Calls.{shadow_calls, shadow_blind, places_of}
 use Rattle.ms_runs.specs.Faithful.{Fair}
+use Rattle.ms_runs.specs.Once.{firsts}
+use Rattle.ms_runs_laws.specs.Places.{uses_at}
+use Rattle.ms_runs_laws.proofs.BlindPlaces.{all_counted}
 use Rattle.ms_runs_fills_laws.specs.CallsAlike.{CallsUnderFills}
 use Rattle.ms_runs_fills_laws.specs.Checked.{HoldsUnderFills}
+use Rattle.ms_runs_fills_laws.specs.Once.{each_time}
+use Rattle.ms_runs_fills_laws.proofs.OneEach.{blind_each}
+use Rattle.ms_runs_fills_laws.proofs.FirstOfEach.{first_of_each}
 use Rattle.ms_top.specs.declared.output.Output.{Output}
 use Rattle.ms_words.specs.declared.commands.Command.TheVariants.{Check, Corpus}
 use Rattle.ms_words.specs.declared.commands.Options.{Options}
 use Rattle.ms_words.specs.Limits.{RunsWithinLimits}
 use Rattle.ms_words.specs.Words.{defaults}
 use Rattle.ms_report.specs.WithLines.{Lines}
-use Rattle.ms_top.specs.Command.{input_limit, only_input, setup_of}
+use Rattle.ms_top.specs.Command.{input_limit, only_input, setup_of, wanted_of}
 use Rattle.ms_top.specs.Instrumented.{IsInstrumented}
 use Rattle.ms_threads.specs.Faithful.{IsSchedule}
-use Rattle.ms_runtime.specs.ToldRuns.{plain_told, shadow_told}
-use Rattle.ms_top.specs.Runs.{plain_under, shadow_under, told_as, plain_told_under, shadow_told_under, HoldsUnder, CallsHoldUnder}
+use Rattle.ms_corpus.specs.declared.wanted.Wanted.{Wanted}
+use Rattle.ms_corpus.specs.Wanted.{told_as, plain_wanted, shadow_wanted}
+use Rattle.ms_top.specs.Runs.{plain_under, shadow_under, shadow_places_under, plain_told_under, shadow_told_under, HoldsUnder, CallsHoldUnder}
 use Rattle.ms_report.specs.SummaryTexts.{summary_of}
 use Rattle.ms_top.specs.Said.{answer_of, answer_of_result, answer_of_results, status_of, UnlessThreaded, AreSections, IsAnswerOfGen, IsAnswerToValid}
 
@@ -68,19 +75,30 @@ pub calls_alone : (m j : Module) → IsInstrumented m j → is_threaded m ≡ fa
 calls_alone m j made alone s fair = subst (λ t. CallsHoldUnder t m s (0 ∷ [])) alone (made.calls_hold s fair (0 ∷ []) (omega arith))
 
 -- what is told of such a run
-pub told_same : (m j : Module) → IsInstrumented m j → (calls : Bool) (s : Setup) → Fair s → (schedule : List ℕ) → IsSchedule schedule
-    → plain_told_under calls (is_threaded m) j s schedule ≡ shadow_told_under calls (is_threaded m) m s schedule
-told_same m j made calls s fair schedule some = λ i. told_as calls (made.runs s fair schedule some i) (made.calls s fair schedule some i) (made.ends s fair schedule some i)
+pub told_same : (m j : Module) → IsInstrumented m j → (wanted : Wanted) (s : Setup) → Fair s → (schedule : List ℕ) → IsSchedule schedule
+    → plain_told_under wanted (is_threaded m) j s schedule ≡ shadow_told_under wanted (is_threaded m) m s schedule
+told_same m j made wanted s fair schedule some =
+    λ i. told_as wanted (made.runs s fair schedule some i) (made.calls s fair schedule some i) (made.ends s fair schedule some i) (places_of (made.blind s fair schedule some i))
 
-pub told_alone : (m j : Module) → IsInstrumented m j → is_threaded m ≡ false → (calls : Bool) (s : Setup) → Fair s → plain_told calls j s ≡ shadow_told calls m s
-told_alone m j made alone calls s fair =
-    subst (λ t. plain_told_under calls t j s (0 ∷ []) ≡ shadow_told_under calls t m s (0 ∷ [])) alone (told_same m j made calls s fair (0 ∷ []) (omega arith))
+pub told_alone : (m j : Module) → IsInstrumented m j → is_threaded m ≡ false → (wanted : Wanted) (s : Setup) → Fair s → plain_wanted wanted j s ≡ shadow_wanted wanted m s
+told_alone m j made alone wanted s fair =
+    subst (λ t. plain_told_under wanted t j s (0 ∷ []) ≡ shadow_told_under wanted t m s (0 ∷ [])) alone (told_same m j made wanted s fair (0 ∷ []) (omega arith))
+
+-- the places of its blind uses count them all
+pub places_count : (m : Module) (s : Setup) (schedule : List ℕ) → is_threaded m ≡ false → uses_at (shadow_places_under (is_threaded m) m s schedule) ≡ (shadow_under (is_threaded m) m s schedule).blind
+places_count m s schedule alone =
+    subst (λ t. uses_at (shadow_places_under t m s schedule) ≡ (shadow_under t m s schedule).blind) (sym alone) (all_counted (shadow_blind m s) ∙ blind_each m s)
+
+-- and a run that reports each use once has the first report of each
+pub once_each : (o : Options) (input : List ℕ) (m : Module) → is_threaded m ≡ false → o.once ≡ true → 1 ≤ o.reports → let s = setup_of o input in (n : ℕ) → length (shadow m (each_time s n)).reports < n
+    → (shadow m s).reports ≡ take o.reports (firsts (shadow m (each_time s n)).reports)
+once_each o input m alone once some n beyond = first_of_each m (setup_of o input) n once some beyond
 
 -- ---- checks
 
 pub shadow_answer : (under : Lines) (file : List ℕ) (inputs : List (List ℕ)) (o : Options) (m : Module) (a : Output) → let s = setup_of o (only_input inputs) in Fair s → IsSchedule o.schedule
-    → IsAnswerToValid IsInstrumented under (Check file o) inputs m a → a ≡ answer_of_result under true m (shadow_told_under o.calls (is_threaded m) m s o.schedule)
-shadow_answer under file inputs o m a fair some (j, made, is) = is ∙ ap (answer_of_result under true m) (told_same m j made o.calls (setup_of o (only_input inputs)) fair o.schedule some)
+    → IsAnswerToValid IsInstrumented under (Check file o) inputs m a → a ≡ answer_of_result under true m (shadow_told_under (wanted_of o) (is_threaded m) m s o.schedule)
+shadow_answer under file inputs o m a fair some (j, made, is) = is ∙ ap (answer_of_result under true m) (told_same m j made (wanted_of o) (setup_of o (only_input inputs)) fair o.schedule some)
 
 pub under_fills : (under : Lines) (file : List ℕ) (inputs : List (List ℕ)) (o : Options) (m : Module) (a : Output) → let s = setup_of o (only_input inputs) in Fair s → IsSchedule o.schedule
     → IsAnswerToValid IsInstrumented under (Check file o) inputs m a → HoldsUnder (is_threaded m) m s o.schedule (shadow_under (is_threaded m) m s o.schedule)
@@ -93,13 +111,13 @@ calls_under_fills under file inputs o m a fair some (j, made, is) = made.calls_h
 
 -- each section of a corpus is that of the shadow run on its input, and holds under every fill as that of a check does
 all_shadow : (m j : Module) (o : Options) (inputs : List (List ℕ)) → IsInstrumented m j → is_threaded m ≡ false → All (λ input. Fair (setup_of o input)) inputs
-    → map (λ input. plain_told o.calls j (setup_of o input)) inputs ≡ map (λ input. shadow_told o.calls m (setup_of o input)) inputs
+    → map (λ input. plain_wanted (wanted_of o) j (setup_of o input)) inputs ≡ map (λ input. shadow_wanted (wanted_of o) m (setup_of o input)) inputs
 all_shadow m j o [] made alone fair = refl
 all_shadow m j o (input ∷ rest) made alone fair =
-    ap₂ (λ r rs. r ∷ rs) (told_alone m j made alone o.calls (setup_of o input) (fair 0 [] (omega arith))) (all_shadow m j o rest made alone (λ n d below. fair (suc n) d (omega (arith, below))))
+    ap₂ (λ r rs. r ∷ rs) (told_alone m j made alone (wanted_of o) (setup_of o input) (fair 0 [] (omega arith))) (all_shadow m j o rest made alone (λ n d below. fair (suc n) d (omega (arith, below))))
 
 pub corpus_shown : (under : Lines) (file : List ℕ) (names inputs : List (List ℕ)) (o : Options) (workers : ℕ) (m : Module) (a : Output) → is_threaded m ≡ false → All (λ input. Fair (setup_of o input)) inputs
-    → IsAnswerToValid IsInstrumented under (Corpus file names o workers) inputs m a → a ≡ answer_of_results under m names (map (λ input. shadow_told o.calls m (setup_of o input)) inputs)
+    → IsAnswerToValid IsInstrumented under (Corpus file names o workers) inputs m a → a ≡ answer_of_results under m names (map (λ input. shadow_wanted (wanted_of o) m (setup_of o input)) inputs)
 corpus_shown under file names inputs o workers m a alone fair is =
     let h = alone_says m a (AreSections IsInstrumented under names o inputs m a) alone is in h.2 ∙ ap (answer_of_results under m names) (all_shadow m h.0 o inputs h.1 alone fair)
 

@@ -17,7 +17,7 @@ use Rattle.ms_pass.specs.Passed.{IsMadeOf}
 use Rattle.ms_threads.proofs.FaithfulRuns.{faithful_threads, shadow_calls_hold, threads_hold}
 use Rattle.ms_threads.proofs.Stripped.{same_threads as inserted_same}
 use Rattle.ms_top.specs.Instrumented.{IsInstrumented}
-use Rattle.ms_top.specs.Runs.{plain_under, plain_picks_under, plain_calls_under, shadow_under, shadow_picks_under, shadow_calls_under, plain_end_calls_under, shadow_end_calls_under, HoldsUnder, CallsHoldUnder}
+use Rattle.ms_top.specs.Runs.{plain_under, plain_picks_under, plain_calls_under, shadow_under, shadow_picks_under, shadow_calls_under, plain_end_calls_under, shadow_end_calls_under, plain_blind_under, shadow_blind_under, HoldsUnder, CallsHoldUnder}
 
 -- what the pass makes of m is j
 pub record IsMade (m j : Module) : Type 0 where
@@ -40,6 +40,7 @@ module _ (m : Module) (formed : Formed m) (valid : Valid m) (can : CanInstrument
     runs = λ s fair schedule some. subst (λ t. plain_under t j s schedule ≡ shadow_under t m s schedule) (sym none) (is.faithful.runs s fair);
     calls = λ s fair schedule some. subst (λ t. plain_calls_under t j s schedule ≡ shadow_calls_under t m s schedule) (sym none) (is.calls.same s fair);
     ends = λ s fair schedule some. subst (λ t. plain_end_calls_under t j s schedule ≡ shadow_end_calls_under t m s schedule) (sym none) (is.calls.ends s fair);
+    blind = λ s fair schedule some. subst (λ t. plain_blind_under t j s schedule ≡ shadow_blind_under t m s schedule) (sym none) (is.calls.blind s fair);
     picks = λ s fair schedule some. subst (λ t. plain_picks_under t j s schedule ≡ shadow_picks_under t m s schedule) (sym none) refl;
     holds = λ s fair schedule some.
         subst (λ t. HoldsUnder t m s schedule (plain_under t j s schedule)) (sym none) (checked_holds m formed valid none can.plain.unmarked j is.faithful s fair);
@@ -63,6 +64,7 @@ module _ (m : Module) (formed : Formed m) (valid : Valid m) (can : CanInstrument
         runs = λ s fair schedule some. subst (λ t. plain_under t j s schedule ≡ shadow_under t m s schedule) (sym some_are) (threads.runs s fair schedule some);
         calls = λ s fair schedule some. subst (λ t. plain_calls_under t j s schedule ≡ shadow_calls_under t m s schedule) (sym some_are) (threads.calls s fair schedule some);
         ends = λ s fair schedule some. subst (λ t. plain_end_calls_under t j s schedule ≡ shadow_end_calls_under t m s schedule) (sym some_are) (threads.ends s fair schedule some);
+        blind = λ s fair schedule some. subst (λ t. plain_blind_under t j s schedule ≡ shadow_blind_under t m s schedule) (sym some_are) (threads.blind s fair schedule some);
         picks = λ s fair schedule some. subst (λ t. plain_picks_under t j s schedule ≡ shadow_picks_under t m s schedule) (sym some_are) (threads.picks s fair schedule some);
         holds = λ s fair schedule some.
             subst (λ t. HoldsUnder t m s schedule (plain_under t j s schedule)) (sym some_are) (threads_hold m formed valid can j is.elided s fair schedule);

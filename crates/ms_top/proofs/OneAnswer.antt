@@ -1,12 +1,13 @@
 -- What is to be said is one answer, but for the path of a use.
-use Rattle.std.proofs.Common.{◌≡◌, ◌≢◌, ◌<◌, ◌≤◌, Bool, true, false, List, ℕ, [], ◌∷◌, length, map, Option, Some, None, Result, Ok, Err, refl, sym, ◌∙◌, ap, subst, ◌⊎◌, inl, inr, arith, if◌then◌else◌}
+use Rattle.std.proofs.Common.{◌≡◌, ◌≢◌, ◌<◌, ◌≤◌, Bool, true, false, List, ℕ, [], ◌∷◌, length, map, Option, Some, None, Result, Ok, Err, refl, sym, ◌∙◌, ap, subst, ◌⊎◌, inl, inr, arith}
 use Rattle.std.proofs.lemmas.Option.{same_Some, none-some}
 use Rattle.ms_io.specs.Counts.{Rose}
 use Rattle.ms_io.specs.Reading.{Holdings, IsWholeFile, IsAbsent, IsTooLong}
 use Rattle.ms_ir.specs.declared.syntax.Module.{Module}
 use Rattle.ms_ir.specs.ThreadCalls.{is_threaded}
 use Rattle.ms_runs.specs.declared.runs.Setup.{Setup}
-use Rattle.ms_runtime.specs.ToldRuns.{plain_told}
+use Rattle.ms_corpus.specs.declared.wanted.Wanted.{Wanted}
+use Rattle.ms_corpus.specs.Wanted.{plain_wanted}
 use Rattle.ms_threads_explore.specs.declared.explorer.Explored.{Explored}
 use Rattle.ms_ir.specs.declared.forms.Form.{Form}
 use Rattle.ms_read_body.specs.declared.errors.ReadError.{ReadError}
@@ -31,14 +32,14 @@ use Rattle.ms_words.specs.declared.commands.WordsError.{WordsError}
 use Rattle.ms_words.specs.declared.commands.Options.{Options}
 use Rattle.ms_words.specs.Words.{command_of, defaults}
 use Rattle.ms_gen.specs.Generator.{generated}
-use Rattle.ms_top.specs.Command.{form_of, files_of, located_file, only_input, setup_of}
+use Rattle.ms_top.specs.Command.{form_of, files_of, located_file, only_input, setup_of, wanted_of}
 use Rattle.ms_top.specs.Files.{Counted, FilesRead, Whole, Fault, Long, after, IsAtFault, IsLong, CanRead}
 use Rattle.ms_top.specs.Instrumented.{IsInstrumented}
 use Rattle.ms_top.specs.Lines.{AreLinesIn, AreLines, fault_text_with}
 use Rattle.ms_threads_explore.specs.Explorations.{IsExplored}
-use Rattle.ms_top.specs.Runs.{plain_under, plain_picks_under, plain_calls_under, plain_end_calls_under, plain_told_under}
+use Rattle.ms_top.specs.Runs.{plain_under, plain_picks_under, plain_told_under}
 use Rattle.ms_report.specs.SummaryTexts.{summary_of}
-use Rattle.ms_top.specs.Said.{answer_of, answer_of_result, answer_of_explained, answer_of_explored, answer_of_results, status_of, says, DifferInPath, UnlessThreaded, IsExplanation, AreSections, IsAnswerOfGen, IsAnswerOfSchedules, IsAnswerWithoutFile, IsAnswerToValid, IsAnswerToModule, IsAnswerToReading, IsAnswerToText, IsAnswerToTexts, IsAnswerToFiles, IsAnswerToCommand, IsAnswerFor, IsAnswer}
+use Rattle.ms_top.specs.Said.{answer_of, answer_of_result, answer_of_explained, answer_of_explored, answer_of_results, explored_told, status_of, says, DifferInPath, UnlessThreaded, IsExplanation, AreSections, IsAnswerOfGen, IsAnswerOfSchedules, IsAnswerWithoutFile, IsAnswerToValid, IsAnswerToModule, IsAnswerToReading, IsAnswerToText, IsAnswerToTexts, IsAnswerToFiles, IsAnswerToCommand, IsAnswerFor, IsAnswer}
 use Rattle.ms_top.proofs.Exploring.{explored_once}
 
 -- ---- texts
@@ -89,33 +90,33 @@ by_threads false a b P Q h p q = h p q
 of_sections : (under : Lines) (names : List (List ℕ)) (o : Options) (inputs : List (List ℕ)) (m : Module) (a b : Output) → AreSections IsInstrumented under names o inputs m a
     → AreSections IsInstrumented under names o inputs m b → a ≡ b
 of_sections under names o inputs m a b (j, p, is) (k, q, same) =
-    is ∙ ap (λ n. answer_of_results under m names (map (λ input. plain_told o.calls n (setup_of o input)) inputs)) (made_once m j k p q) ∙ sym same
+    is ∙ ap (λ n. answer_of_results under m names (map (λ input. plain_wanted (wanted_of o) n (setup_of o input)) inputs)) (made_once m j k p q) ∙ sym same
 
-of_explanation : (under : Lines) (calls : Bool) (s : Setup) (m : Module) (a b : Output) → IsExplanation IsInstrumented under calls s m a → IsExplanation IsInstrumented under calls s m b → a ≡ b
-of_explanation under calls s m a b (j, p, is) (k, q, same) = is ∙ ap (λ n. answer_of_explained under calls m s (plain_told calls n s)) (made_once m j k p q) ∙ sym same
+of_explanation : (under : Lines) (wanted : Wanted) (s : Setup) (m : Module) (a b : Output) → IsExplanation IsInstrumented under wanted s m a → IsExplanation IsInstrumented under wanted s m b → a ≡ b
+of_explanation under wanted s m a b (j, p, is) (k, q, same) = is ∙ ap (λ n. answer_of_explained under wanted.calls m s (plain_wanted wanted n s)) (made_once m j k p q) ∙ sym same
 
-of_schedules : (under : Lines) (calls : Bool) (s : Setup) (runs : ℕ) (m : Module) (a b : Output) → IsAnswerOfSchedules IsInstrumented under calls s runs m a
-    → IsAnswerOfSchedules IsInstrumented under calls s runs m b → a ≡ b
-of_schedules under calls s runs m a b (j, p, e, explored, is) (k, q, f, again, same) =
+of_schedules : (under : Lines) (wanted : Wanted) (s : Setup) (runs : ℕ) (m : Module) (a b : Output) → IsAnswerOfSchedules IsInstrumented under wanted s runs m a
+    → IsAnswerOfSchedules IsInstrumented under wanted s runs m b → a ≡ b
+of_schedules under wanted s runs m a b (j, p, e, explored, is) (k, q, f, again, same) =
     let t = is_threaded m in
     let back = subst (λ (n : Module). IsExplored (plain_picks_under t n s) (plain_under t n s) runs f) (made_once m k j q p) again in
     is
-    ∙ ap (λ (x : Explored). answer_of_explored under m x (if calls then plain_calls_under t j s x.schedule else []) (if calls then plain_end_calls_under t j s x.schedule else None)) (explored_once (plain_picks_under t j s) (plain_under t j s) runs e f explored back)
-    ∙ ap (λ (n : Module). answer_of_explored under m f (if calls then plain_calls_under t n s f.schedule else []) (if calls then plain_end_calls_under t n s f.schedule else None)) (made_once m j k p q)
+    ∙ ap (λ (x : Explored). answer_of_explored under m x (explored_told wanted t j s x)) (explored_once (plain_picks_under t j s) (plain_under t j s) runs e f explored back)
+    ∙ ap (λ (n : Module). answer_of_explored under m f (explored_told wanted t n s f)) (made_once m j k p q)
     ∙ sym same
 
 of_valid : (under : Lines) (command : Command) (inputs : List (List ℕ)) (m : Module) (a b : Output) → IsAnswerToValid IsInstrumented under command inputs m a
     → IsAnswerToValid IsInstrumented under command inputs m b → a ≡ b
 of_valid under (Instrument file) inputs m a b (j, p, is) (k, q, same) = is ∙ ap (λ n. answer_of 0 (written n) []) (made_once m j k p q) ∙ sym same
 of_valid under (Run file o) inputs m a b p q = p ∙ sym q
-of_valid under (CheckSchedules file o runs workers) inputs m a b p q = of_schedules under o.calls (setup_of o (only_input inputs)) runs m a b p q
+of_valid under (CheckSchedules file o runs workers) inputs m a b p q = of_schedules under (wanted_of o) (setup_of o (only_input inputs)) runs m a b p q
 of_valid under (Corpus file names o workers) inputs m a b p q = by_threads (is_threaded m) a b _ _ (of_sections under names o inputs m a b) p q
-of_valid under (Explain file o) inputs m a b p q = by_threads (is_threaded m) a b _ _ (of_explanation under o.calls (setup_of o (only_input inputs)) m a b) p q
+of_valid under (Explain file o) inputs m a b p q = by_threads (is_threaded m) a b _ _ (of_explanation under (wanted_of o) (setup_of o (only_input inputs)) m a b) p q
 of_valid under (Gen seed functions run) inputs m a b p q = of_gen run m a b p q
 of_valid under Help inputs m a b p q = p ∙ sym q
 of_valid under Version inputs m a b p q = p ∙ sym q
 of_valid under (Check file o) inputs m a b (j, p, is) (k, q, same) =
-    is ∙ ap (λ n. answer_of_result under true m (plain_told_under o.calls (is_threaded m) n (setup_of o (only_input inputs)) o.schedule)) (made_once m j k p q) ∙ sym same
+    is ∙ ap (λ n. answer_of_result under true m (plain_told_under (wanted_of o) (is_threaded m) n (setup_of o (only_input inputs)) o.schedule)) (made_once m j k p q) ∙ sym same
 
 module _ (command : Command) (inputs : List (List ℕ)) where
   of_module : (under : Lines) (m : Module) (a b : Output) → IsAnswerToModule IsInstrumented under command inputs m a → IsAnswerToModule IsInstrumented under command inputs m b → (a ≡ b) ⊎ DifferInPath a b

@@ -1,7 +1,6 @@
 -- What is read is bytes, so what `check` and `explain` say holds without a premise on their files.
-use Rattle.std.proofs.Common.{◌≡◌, ℕ, ◌^◌, ◌<◌, ◌≤◌, Bool, true, false, List, [], ◌∷◌, length, Option, Some, None, Result, Ok, Err, refl, sym, ap, ◌∙◌, subst, arith, ◌⊎◌, inl, inr, if◌then◌else◌}
+use Rattle.std.proofs.Common.{◌≡◌, ℕ, ◌^◌, ◌<◌, ◌≤◌, Bool, true, false, List, [], ◌∷◌, length, Option, Some, None, Result, Ok, Err, refl, sym, ap, ◌∙◌, subst, arith, ◌⊎◌, inl, inr}
 use Rattle.std.specs.Prelude.{All, nat_lt}
-use Rattle.std.proofs.Math.Path.{ap₂}
 use Rattle.std.proofs.lemmas.Bool.{and_from, lt-ltb}
 use Rattle.std.proofs.lemmas.List.Elements.{All-cons, All-nil, All-head, All-tail}
 use Rattle.ms_io.specs.Reading.{Holdings, IsWholeFile}
@@ -17,10 +16,11 @@ use Rattle.ms_words.specs.declared.commands.Command.TheVariants.{Check, CheckSch
 use Rattle.ms_words.specs.declared.commands.Command.{Command}
 use Rattle.ms_words.specs.declared.commands.Options.{Options}
 use Rattle.ms_top.specs.declared.output.Output.{Output}
-use Rattle.ms_top.specs.Command.{files_of, form_of, input_files, input_limit, only_input, setup_of}
+use Rattle.ms_top.specs.Command.{files_of, form_of, input_files, input_limit, only_input, setup_of, wanted_of}
 use Rattle.ms_top.specs.Files.{Counted, FilesRead, Whole, Fault, Long, CanRead}
 use Rattle.ms_top.specs.Instrumented.{IsInstrumented}
 use Rattle.ms_top.specs.Promised.{CorpusShown, HoldsUnderChanges, InputHolds, NothingRan, SchedulesShown, ShadowShown, ThreadsRefused, WayShown}
+use Rattle.ms_corpus.specs.Wanted.{told_as}
 use Rattle.ms_top.specs.Lines.{AreLines}
 use Rattle.ms_top.specs.Runs.{plain_told_under, shadow_under, shadow_picks_under, HoldsUnder}
 use Rattle.ms_top.specs.Said.{answer_of_explored, answer_of_result, says, IsExplanation, IsAnswerToValid, IsAnswerWithoutFile, IsAnswerToModule, IsAnswerToReading, IsAnswerToFiles, IsAnswerToCommand, IsAnswerFor, IsAnswer, AreSections}
@@ -32,7 +32,7 @@ use Rattle.ms_words.proofs.WithinLimits.{command_within}
 use Rattle.ms_text_grammar.specs.Texts.{Reads, max_bytes}
 use Rattle.ms_ir.specs.declared.forms.Form.TheVariants.{Plain}
 use Rattle.ms_text_laws.proofs.FormedModules.{read_formed}
-use Rattle.ms_runs.specs.declared.runs.Calls.{Calls}
+use Rattle.ms_runs.specs.Calls.{places_of}
 use Rattle.ms_runs.specs.declared.runs.Setup.{Setup}
 use Rattle.ms_ir.specs.Instructions.{NoMarks}
 use Rattle.ms_check_valid.specs.Formed.{Formed}
@@ -212,7 +212,7 @@ shadow_is_shown c file o a fit h =
       under = h.under;
       lines = h.lines;
       fair = fair;
-      shown = h.answer.2 ∙ ap (answer_of_result h.under true h.module_read) (told_same h.module_read j made o.calls s fair o.schedule some);
+      shown = h.answer.2 ∙ ap (answer_of_result h.under true h.module_read) (told_same h.module_read j made (wanted_of o) s fair o.schedule some);
       fills = subst (HoldsUnder (is_threaded h.module_read) h.module_read s o.schedule) (made.runs s fair o.schedule some) (made.holds s fair o.schedule some);
       calls_hold = made.calls_hold s fair o.schedule some;
       choices = λ alone. subst (HoldsUnderChoices h.module_read s) (runs_alone h.module_read j made alone s fair) (made.choices alone s fair);
@@ -261,7 +261,7 @@ schedules_are_shown c file o runs workers a fit h =
       explored = e;
       explores = of_shadow;
       shown = h.answer.4
-          ∙ ap₂ (λ (calls : List Calls) (last : Option Calls). answer_of_explored h.under m e (if o.calls then calls else []) (if o.calls then last else None)) (made.calls s fair e.schedule some) (made.ends s fair e.schedule some);
+          ∙ (λ i. answer_of_explored h.under m e (told_as (wanted_of o) e.result (made.calls s fair e.schedule some i) (made.ends s fair e.schedule some i) (places_of (made.blind s fair e.schedule some i))));
       repeats = sym (made.runs s fair e.schedule some) ∙ again;
       fills = subst (HoldsUnder t m s e.schedule) again (made.holds s fair e.schedule some);
       calls_hold = made.calls_hold s fair e.schedule some;
@@ -285,10 +285,10 @@ schedules_words_promise c words file o runs workers a is answer =
 
 -- what `check` says of the text of which this is what `explain` says
 abbrev check_of : (o : Options) (m j : Module) (under : Lines) (inputs : List (List ℕ)) → Output
-check_of o m j under inputs = answer_of_result under true m (plain_told_under o.calls (is_threaded m) j (setup_of o (only_input inputs)) o.schedule)
+check_of o m j under inputs = answer_of_result under true m (plain_told_under (wanted_of o) (is_threaded m) j (setup_of o (only_input inputs)) o.schedule)
 
 abbrev explanation_of : (c : Counted) (file : List ℕ) (o : Options) (a : Output) → Answered c (Explain file o) a → Type 0
-explanation_of c file o a h = IsExplanation IsInstrumented h.under o.calls (setup_of o (only_input h.inputs)) h.module_read a
+explanation_of c file o a h = IsExplanation IsInstrumented h.under (wanted_of o) (setup_of o (only_input h.inputs)) h.module_read a
 
 abbrev checked_too : (c : Counted) (file : List ℕ) (o : Options) (a : Output) → (h : Answered c (Explain file o) a) (x : explanation_of c file o a h)
     → Answered c (Check file o) (check_of o h.module_read x.0 h.under h.inputs)

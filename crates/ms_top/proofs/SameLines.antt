@@ -20,7 +20,9 @@ use Rattle.ms_runs_laws.proofs.Stripped.{blocks_kept, sites_skip}
 use Rattle.ms_report.specs.RunTexts.{trap_name, sites_of, function_after, function_of, function_text, site_text, end_text, line, verdict_line}
 use Rattle.ms_report.specs.ReportTexts.{kind_text, root_name, root_text, origin_text, origin_line, earlier, bits_text, report_line}
 use Rattle.ms_report.specs.WithLines.{Lines, under_line, origin_site, end_site, chain_with, origins_with}
-use Rattle.ms_top.specs.Said.{answer_of, answer_of_result, status_of}
+use Rattle.ms_runs.specs.declared.runs.BlindPlace.{BlindPlace}
+use Rattle.ms_report.specs.BlindTexts.{most_places, times_text, blind_with, further_places}
+use Rattle.ms_top.specs.Said.{answer_of, answer_of_result, closing_text, status_of}
 
 -- ---- places
 
@@ -111,11 +113,20 @@ module _ (under : Lines) where
       ∙ ap (λ t. report_line j (n + 1) r ++ under r.site ++ calls_if under j (slice_get calls n) ++ t ++ reports_calling under (strip j) calls (n + 1) rest) (origins_kept j r.origin r.chain)
       ∙ ap (λ t. report_line j (n + 1) r ++ under r.site ++ calls_if under j (slice_get calls n) ++ origins_with under j r.origin r.chain ++ t) (calling_kept j calls (n + 1) rest)
 
+  blind_kept : (j : Module) (ps : List BlindPlace) → blind_with under (strip j) ps ≡ blind_with under j ps
+  blind_kept j [] = refl
+  blind_kept j (p ∷ ps) =
+      ap₂ (λ (at more : List ℕ). (codes "    blind" ++ at ++ codes ", " ++ times_text p.count ++ codes "\n") ++ under p.site ++ more) (site_kept j p.site) (blind_kept j ps)
+
+  ending_kept : (j : Module) (verdict : Bool) (told : ToldRun) → closing_text under verdict (strip j) told ≡ closing_text under verdict j told
+  ending_kept j verdict told =
+      ap₂ (λ (closing blind : List ℕ). closing ++ blind ++ further_places (length told.places - most_places)) (closing_kept j verdict told.result told.end_calls) (blind_kept j (take most_places told.places))
+
   answer_kept : (j : Module) (verdict : Bool) (told : ToldRun) → answer_of_result under verdict (strip j) told ≡ answer_of_result under verdict j told
   answer_kept j verdict told =
       let r = told.result in
-      ap (λ t. answer_of (status_of r) r.output (t ++ closing_calling under (strip j) r told.end_calls verdict)) (calling_kept j told.calls 0 r.reports)
-      ∙ ap (λ t. answer_of (status_of r) r.output (reports_calling under j told.calls 0 r.reports ++ t)) (closing_kept j verdict r told.end_calls)
+      ap (λ t. answer_of (status_of r) r.output (t ++ closing_text under verdict (strip j) told)) (calling_kept j told.calls 0 r.reports)
+      ∙ ap (λ t. answer_of (status_of r) r.output (reports_calling under j told.calls 0 r.reports ++ t)) (ending_kept j verdict told)
 
   -- the answer for a result is that of the module without what was inserted
   pub same_answer : (m j : Module) → strip j ≡ m → (verdict : Bool) (r : ToldRun) → answer_of_result under verdict j r ≡ answer_of_result under verdict m r

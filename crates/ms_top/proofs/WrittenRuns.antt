@@ -21,7 +21,7 @@ use Rattle.ms_pass_form_laws.proofs.ElidedOnce.{elided_once}
 use Rattle.ms_top.specs.declared.output.Output.{Output}
 use Rattle.ms_words.specs.declared.commands.Command.TheVariants.{Instrument, Run}
 use Rattle.ms_words.specs.declared.commands.Options.{Options}
-use Rattle.ms_top.specs.Command.{only_input, setup_of}
+use Rattle.ms_top.specs.Command.{only_input, setup_of, wanted_of}
 use Rattle.ms_report.specs.WithLines.{Lines}
 use Rattle.ms_top.specs.Instrumented.{IsInstrumented}
 use Rattle.ms_top.specs.Said.{answer_of_result, IsAnswerOfInstrument, IsAnswerOfCheck, IsAnswerToValid, IsAnswerToReading, IsAnswerToText}
@@ -38,7 +38,7 @@ pub named : (under : Lines) (file : List ℕ) (inputs : List (List ℕ)) (m j : 
 named under file inputs m j a (k, made, is) formed text = subst (IsInstrumented m) (same_text k j made.formed formed (sym (ap (λ x. x.out) is) ∙ text)) made
 
 module _ (under : Lines) (name : List ℕ) (inputs : List (List ℕ)) (o : Options) (m : Module) (a b c : Output)
-    (answered : IsAnswerOfInstrument IsInstrumented m a) (read : IsAnswerToText IsInstrumented (Run name o) inputs a.out b) (checked : IsAnswerOfCheck IsInstrumented under o.calls (setup_of o (only_input inputs)) o.schedule m c) where
+    (answered : IsAnswerOfInstrument IsInstrumented m a) (read : IsAnswerToText IsInstrumented (Run name o) inputs a.out b) (checked : IsAnswerOfCheck IsInstrumented under (wanted_of o) (setup_of o (only_input inputs)) o.schedule m c) where
   j : Module
   j = answered.0
 
@@ -54,7 +54,7 @@ module _ (under : Lines) (name : List ℕ) (inputs : List (List ℕ)) (o : Optio
   read_alike : Reads Instrumented a.out j → RunsAlike m name o a.out under b c
   read_alike reads =
       let s = setup_of o (only_input inputs) in
-      let r = plain_told_under o.calls (is_threaded m) j s o.schedule in
+      let r = plain_told_under (wanted_of o) (is_threaded m) j s o.schedule in
       let run = text_answered (Run name o) inputs a.out j b reads made.valid read in
       record {
         made = j;
@@ -63,9 +63,9 @@ module _ (under : Lines) (name : List ℕ) (inputs : List (List ℕ)) (o : Optio
         lines = run.1;
         told = r;
         run =
-            run.2 ∙ ap (λ t. answer_of_result run.0 false j (plain_told_under o.calls t j s o.schedule)) (same_threads m j made.valid made.strips)
+            run.2 ∙ ap (λ t. answer_of_result run.0 false j (plain_told_under (wanted_of o) t j s o.schedule)) (same_threads m j made.valid made.strips)
             ∙ same_answer run.0 m j made.strips false r;
-        check = checked.2 ∙ ap (λ n. answer_of_result under true m (plain_told_under o.calls (is_threaded m) n s o.schedule)) (made_once m checked.0 j checked.1 made);
+        check = checked.2 ∙ ap (λ n. answer_of_result under true m (plain_told_under (wanted_of o) (is_threaded m) n s o.schedule)) (made_once m checked.0 j checked.1 made);
       }
 
   -- a text within the limits does

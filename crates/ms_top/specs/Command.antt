@@ -1,5 +1,5 @@
 -- What belongs to a command: its files, and the setup of its run.
-use Rattle.std.specs.Prelude.{ℕ, ◌^◌, List, [], ◌∷◌, if◌then◌else◌, map, Option, Some, None, option_to_list, false}
+use Rattle.std.specs.Prelude.{ℕ, ◌^◌, List, [], ◌∷◌, if◌then◌else◌, map, Option, Some, None, option_to_list}
 use Rattle.ms_runs.specs.declared.runs.Setup.{Setup}
 use Rattle.ms_ir.specs.declared.forms.Form.{Form}
 use Rattle.ms_ir.specs.declared.forms.Form.TheVariants.{Plain, Instrumented}
@@ -7,6 +7,7 @@ use Rattle.ms_text_grammar.specs.Texts.{max_bytes}
 use Rattle.ms_words.specs.declared.commands.Command.{Command}
 use Rattle.ms_words.specs.declared.commands.Command.TheVariants.{Instrument, Run, Check, CheckSchedules, Explain, Corpus, Gen, Help, Version}
 use Rattle.ms_words.specs.declared.commands.Options.{Options}
+use Rattle.ms_corpus.specs.declared.wanted.Wanted.{Wanted}
 
 -- ---- parts of a command
 
@@ -76,7 +77,11 @@ files_of command = elim (module_file command) [ Some file ↦ (file, module_limi
 
 -- what a run is given, with the bytes of its input
 abbrev pub setup_of : Options → List ℕ → Setup
-setup_of o input = record { input = input; fill = o.fill; steps = o.steps; reports = o.reports; once = false }
+setup_of o input = record { input = input; fill = o.fill; steps = o.steps; reports = o.reports; once = o.once }
+
+-- what is wanted of what is told of a run: places of blind uses are shown beside those of the other lines
+abbrev pub wanted_of : Options → Wanted
+wanted_of o = record { calls = o.calls; places = o.locations }
 
 -- the input of a run that has one at most
 abbrev pub only_input : List (List ℕ) → List ℕ

@@ -13,7 +13,7 @@ use Rattle.ms_runs_fills_laws.specs.Chosen.{HoldsUnderChoices}
 use Rattle.ms_pass_form_laws.specs.Elided.{IsElided}
 use Rattle.ms_pass.specs.Passed.{IsMadeOf}
 use Rattle.ms_threads.specs.Faithful.{IsSchedule}
-use Rattle.ms_top.specs.Runs.{plain_calls_under, shadow_calls_under, plain_end_calls_under, shadow_end_calls_under, plain_under, plain_picks_under, shadow_under, shadow_picks_under, HoldsUnder, CallsHoldUnder}
+use Rattle.ms_top.specs.Runs.{plain_calls_under, shadow_calls_under, plain_end_calls_under, shadow_end_calls_under, plain_blind_under, shadow_blind_under, plain_under, plain_picks_under, shadow_under, shadow_picks_under, HoldsUnder, CallsHoldUnder}
 
 -- j is m with inserted code: without it j is m, and its plain runs are the shadow runs of m, where m has threads under every
 -- schedule, with the same picks. It is formed and valid, so that it can be written and run. There is one such module, that of the definition of the pass,
@@ -31,6 +31,7 @@ pub record IsInstrumented (m j : Module) : Type 0 where
   pub runs : (setup : Setup) → Fair setup → (schedule : List ℕ) → IsSchedule schedule → plain_under (is_threaded m) j setup schedule ≡ shadow_under (is_threaded m) m setup schedule
   pub calls : (setup : Setup) → Fair setup → (schedule : List ℕ) → IsSchedule schedule → plain_calls_under (is_threaded m) j setup schedule ≡ shadow_calls_under (is_threaded m) m setup schedule
   pub ends : (setup : Setup) → Fair setup → (schedule : List ℕ) → IsSchedule schedule → plain_end_calls_under (is_threaded m) j setup schedule ≡ shadow_end_calls_under (is_threaded m) m setup schedule
+  pub blind : (setup : Setup) → Fair setup → (schedule : List ℕ) → IsSchedule schedule → plain_blind_under (is_threaded m) j setup schedule ≡ shadow_blind_under (is_threaded m) m setup schedule
   pub picks : (setup : Setup) → Fair setup → (schedule : List ℕ) → IsSchedule schedule → plain_picks_under (is_threaded m) j setup schedule ≡ shadow_picks_under (is_threaded m) m setup schedule
   pub holds : (setup : Setup) → Fair setup → (schedule : List ℕ) → IsSchedule schedule → HoldsUnder (is_threaded m) m setup schedule (plain_under (is_threaded m) j setup schedule)
   pub calls_hold : (setup : Setup) → Fair setup → (schedule : List ℕ) → IsSchedule schedule → CallsHoldUnder (is_threaded m) m setup schedule

@@ -1,5 +1,5 @@
 -- What `check` and `explain` promise of the program, from what they are to say alone.
-use Rattle.std.specs.Prelude.{◌≡◌, ◌≢◌, ◌<◌, ◌≤◌, ◌⊎◌, ℕ, Bool, true, false, All, List, [], ◌∷◌, ◌++◌, length, map, None, if◌then◌else◌, codes}
+use Rattle.std.specs.Prelude.{◌≡◌, ◌≢◌, ◌<◌, ◌≤◌, ◌⊎◌, ℕ, Bool, true, false, All, List, [], ◌∷◌, ◌++◌, length, map, if◌then◌else◌, codes}
 use Rattle.ms_ir.specs.declared.forms.Form.TheVariants.{Plain}
 use Rattle.ms_ir.specs.declared.syntax.Module.{Module}
 use Rattle.ms_ir.specs.Instructions.{NoMarks}
@@ -33,17 +33,17 @@ use Rattle.ms_report.specs.RunTexts.{line}
 use Rattle.ms_report.specs.TrailTexts.{trail_calling}
 use Rattle.ms_report.specs.WithLines.{Lines}
 use Rattle.ms_report.specs.CallTexts.{reports_calling}
-use Rattle.ms_runtime.specs.ToldRuns.{shadow_told}
+use Rattle.ms_corpus.specs.Wanted.{told_as, shadow_wanted}
 use Rattle.ms_report.specs.RefusalTexts.{threads_text}
 use Rattle.ms_words.specs.declared.commands.Command.{Command}
 use Rattle.ms_words.specs.declared.commands.Command.TheVariants.{Check, CheckSchedules, Corpus, Explain}
 use Rattle.ms_words.specs.declared.commands.Options.{Options}
 use Rattle.ms_top.specs.declared.output.Output.{Output}
-use Rattle.ms_top.specs.Command.{files_of, only_input, setup_of}
+use Rattle.ms_top.specs.Command.{files_of, only_input, setup_of, wanted_of}
 use Rattle.ms_top.specs.Files.{Counted, CanRead, Whole, Fault, Long}
 use Rattle.ms_top.specs.Lines.{AreLines}
 use Rattle.ms_top.specs.Explained.{too_long, no_report, root_calls}
-use Rattle.ms_top.specs.Runs.{shadow_under, shadow_picks_under, shadow_calls_under, shadow_end_calls_under, shadow_told_under, HoldsUnder, CallsHoldUnder}
+use Rattle.ms_top.specs.Runs.{shadow_under, shadow_picks_under, shadow_calls_under, shadow_end_calls_under, shadow_places_under, shadow_told_under, HoldsUnder, CallsHoldUnder}
 use Rattle.ms_top.specs.Said.{answer_of_result, answer_of_results, answer_of_explained, answer_of_explored, says}
 use Rattle.ms_top.specs.Statuses as statuses
 
@@ -89,7 +89,7 @@ pub record ShadowShown (c : Counted) (file : List ℕ) (o : Options) (a : Output
   pub under : Lines
   pub lines : AreLines (Check file o) text module_read under
   pub fair : Fair (setup_of o (only_input inputs))
-  pub shown : a ≡ answer_of_result under true module_read (shadow_told_under o.calls (is_threaded module_read) module_read (setup_of o (only_input inputs)) o.schedule)
+  pub shown : a ≡ answer_of_result under true module_read (shadow_told_under (wanted_of o) (is_threaded module_read) module_read (setup_of o (only_input inputs)) o.schedule)
   pub fills : HoldsUnder (is_threaded module_read) module_read (setup_of o (only_input inputs)) o.schedule
       (shadow_under (is_threaded module_read) module_read (setup_of o (only_input inputs)) o.schedule)
   pub calls_hold : CallsHoldUnder (is_threaded module_read) module_read (setup_of o (only_input inputs)) o.schedule
@@ -116,9 +116,10 @@ pub record SchedulesShown (c : Counted) (file : List ℕ) (o : Options) (runs wo
   pub explored : Explored
   pub explores : IsExplored (shadow_picks_under (is_threaded module_read) module_read (setup_of o (only_input inputs)))
       (shadow_under (is_threaded module_read) module_read (setup_of o (only_input inputs))) runs explored
-  pub shown : a ≡ answer_of_explored under module_read explored
-      (if o.calls then shadow_calls_under (is_threaded module_read) module_read (setup_of o (only_input inputs)) explored.schedule else [])
-      (if o.calls then shadow_end_calls_under (is_threaded module_read) module_read (setup_of o (only_input inputs)) explored.schedule else None)
+  pub shown : a ≡ answer_of_explored under module_read explored (told_as (wanted_of o) explored.result
+      (shadow_calls_under (is_threaded module_read) module_read (setup_of o (only_input inputs)) explored.schedule)
+      (shadow_end_calls_under (is_threaded module_read) module_read (setup_of o (only_input inputs)) explored.schedule)
+      (shadow_places_under (is_threaded module_read) module_read (setup_of o (only_input inputs)) explored.schedule))
   pub repeats : shadow_under (is_threaded module_read) module_read (setup_of o (only_input inputs)) explored.schedule ≡ explored.result
   pub fills : HoldsUnder (is_threaded module_read) module_read (setup_of o (only_input inputs)) explored.schedule explored.result
   pub calls_hold : CallsHoldUnder (is_threaded module_read) module_read (setup_of o (only_input inputs)) explored.schedule
@@ -138,7 +139,7 @@ pub record ThreadsRefused (c : Counted) (command : Command) (a : Output) : Type 
 
 -- the lines of the report of a shadow run, with those of its calls where they are wanted
 abbrev pub told_reports : Lines → (calls : Bool) → Module → Setup → List ℕ
-told_reports under calls m setup = let t = shadow_told calls m setup in reports_calling under m t.calls 0 t.result.reports
+told_reports under calls m setup = reports_calling under m (if calls then shadow_calls m setup else []) 0 (shadow m setup).reports
 
 -- The text that explains a run with a report: the moves before it are too many, or it shows a way over them. That begins at a root
 -- which the run had reached, each hop's target is what the next hop reads, and the last is what the report's use reads. The same bits
@@ -157,7 +158,7 @@ pub record WayShown (c : Counted) (file : List ℕ) (o : Options) (a : Output) :
   pub checked : Output
   pub shadow_shown : ShadowShown c file o checked
   pub alone : is_threaded shadow_shown.module_read ≡ false
-  pub explained : a ≡ answer_of_explained shadow_shown.under o.calls shadow_shown.module_read (setup_of o (only_input shadow_shown.inputs)) (shadow_told o.calls shadow_shown.module_read (setup_of o (only_input shadow_shown.inputs)))
+  pub explained : a ≡ answer_of_explained shadow_shown.under o.calls shadow_shown.module_read (setup_of o (only_input shadow_shown.inputs)) (shadow_wanted (wanted_of o) shadow_shown.module_read (setup_of o (only_input shadow_shown.inputs)))
   pub way : (shadow shadow_shown.module_read (setup_of o (only_input shadow_shown.inputs))).reports ≢ [] → ShowsWay shadow_shown.under o.calls shadow_shown.module_read (setup_of o (only_input shadow_shown.inputs)) a.out
   pub none : (shadow shadow_shown.module_read (setup_of o (only_input shadow_shown.inputs))).reports ≡ [] → a.out ≡ no_report
 
@@ -183,5 +184,5 @@ pub record CorpusShown (c : Counted) (file : List ℕ) (names : List (List ℕ))
   pub alone : is_threaded module_read ≡ false
   pub under : Lines
   pub lines : AreLines (Corpus file names o workers) text module_read under
-  pub shown : a ≡ answer_of_results under module_read names (map (λ input. shadow_told o.calls module_read (setup_of o input)) inputs)
+  pub shown : a ≡ answer_of_results under module_read names (map (λ input. shadow_wanted (wanted_of o) module_read (setup_of o input)) inputs)
   pub holds : All (λ input. InputHolds module_read (setup_of o input)) inputs

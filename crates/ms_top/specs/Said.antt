@@ -1,17 +1,17 @@
 -- What a call is to say: its status and its two texts, for the words and the files that it was given. `Gives m j` is what
 -- is known of the module j that the pass makes of m.
-use Rattle.std.specs.Prelude.{◌≡◌, ℕ, suc, Bool, true, false, not, List, [], ◌∷◌, ◌++◌, length, map, Option, None, Result, Ok, Err, eqb, if◌then◌else◌, codes, decimal, ◌⊎◌}
+use Rattle.std.specs.Prelude.{◌≡◌, ℕ, suc, Bool, true, false, not, List, [], ◌∷◌, ◌++◌, length, map, Option, Result, Ok, Err, eqb, if◌then◌else◌, codes, decimal, ◌⊎◌}
 use Rattle.std.specs.List.{list_any}
 use Rattle.ms_io.specs.Writing.{with_appended, AppendsPrefix}
 use Rattle.ms_ir.specs.declared.syntax.Module.{Module}
 use Rattle.ms_ir.specs.ThreadCalls.{is_threaded}
-use Rattle.ms_runs.specs.declared.runs.Calls.{Calls}
 use Rattle.ms_runs.specs.declared.runs.End.{End}
 use Rattle.ms_runs.specs.declared.runs.End.TheVariants as ends
 use Rattle.ms_runs.specs.declared.runs.RunResult.{RunResult}
 use Rattle.ms_runs.specs.declared.runs.Setup.{Setup}
 use Rattle.ms_runtime.specs.declared.runs.ToldRun.{ToldRun}
-use Rattle.ms_runtime.specs.ToldRuns.{plain_told}
+use Rattle.ms_corpus.specs.declared.wanted.Wanted.{Wanted}
+use Rattle.ms_corpus.specs.Wanted.{told_as, plain_wanted}
 use Rattle.ms_runs.specs.Verdict.{verdict_of}
 use Rattle.ms_read_body.specs.declared.errors.ReadError.{ReadError}
 use Rattle.ms_read_body.specs.declared.errors.ReadError.TheVariants as e
@@ -23,6 +23,7 @@ use Rattle.ms_report.specs.declared.refusals.Refusal.TheVariants.{Read}
 use Rattle.ms_report.specs.RunTexts.{line}
 use Rattle.ms_report.specs.SchedulesTexts.{schedules_text}
 use Rattle.ms_report.specs.SummaryTexts.{summary_of}
+use Rattle.ms_report.specs.BlindTexts.{places_with}
 use Rattle.ms_report.specs.CallTexts.{reports_calling, closing_calling}
 use Rattle.ms_report.specs.WithLines.{Lines}
 use Rattle.ms_report.specs.RefusalTexts.{refusal_text, threads_text}
@@ -38,11 +39,11 @@ use Rattle.ms_words.specs.declared.commands.WordsError.{WordsError}
 use Rattle.ms_words.specs.Usage.{usage, version_line}
 use Rattle.ms_words.specs.Words.{command_of, defaults, name_of, place_of}
 use Rattle.ms_words.specs.declared.commands.Options.{Options}
-use Rattle.ms_top.specs.Command.{form_of, files_of, only_input, setup_of}
+use Rattle.ms_top.specs.Command.{form_of, files_of, only_input, setup_of, wanted_of}
 use Rattle.ms_top.specs.Explained.{explained_with}
 use Rattle.ms_top.specs.Files.{Counted, CanRead, FilesRead, Whole, Fault, Long}
 use Rattle.ms_top.specs.Lines.{AreLines, fault_text_with}
-use Rattle.ms_top.specs.Runs.{plain_under, plain_picks_under, plain_calls_under, plain_end_calls_under, plain_told_under}
+use Rattle.ms_top.specs.Runs.{plain_under, plain_picks_under, plain_calls_under, plain_end_calls_under, plain_places_under, plain_told_under}
 use Rattle.ms_top.specs.Statuses as statuses
 
 abbrev pub answer_of : ℕ → List ℕ → List ℕ → Output
@@ -81,10 +82,14 @@ end_status ends.Spent = statuses.spent
 abbrev pub status_of : RunResult → ℕ
 status_of r = if eqb (length r.reports) 0 then end_status r.«end» else statuses.reported
 
--- the lines of a run's reports, each with those of its calls that are told, and then the closing lines, with those of the calls where it
--- ended, with or without the verdict; `under` are the lines under each site
+-- the closing lines, with those of the calls where it ended, with or without the verdict, and then those of the places of blind uses that
+-- are told; `under` are the lines under each site
+abbrev pub closing_text : Lines → (verdict : Bool) → Module → ToldRun → List ℕ
+closing_text under verdict m t = closing_calling under m t.result t.end_calls verdict ++ places_with under m t.places
+
+-- the lines of a run's reports, each with those of its calls that are told, and then these
 abbrev pub run_text : Lines → (verdict : Bool) → Module → ToldRun → List ℕ
-run_text under verdict m t = reports_calling under m t.calls 0 t.result.reports ++ closing_calling under m t.result t.end_calls verdict
+run_text under verdict m t = reports_calling under m t.calls 0 t.result.reports ++ closing_text under verdict m t
 
 -- the answer for what is told of a module's run: its output, and those lines
 abbrev pub answer_of_result : Lines → (verdict : Bool) → Module → ToldRun → Output
@@ -93,7 +98,7 @@ answer_of_result under verdict m t = answer_of (status_of t.result) t.result.out
 -- the answer that explains what is told of a module's run with a setup: its report with the way of the bits that this is about, where
 -- calls are wanted with those at its root, and the closing lines with the verdict
 abbrev pub answer_of_explained : Lines → (calls : Bool) → Module → Setup → ToldRun → Output
-answer_of_explained under calls m s t = answer_of (status_of t.result) (explained_with under calls m s t) (closing_calling under m t.result t.end_calls true)
+answer_of_explained under calls m s t = answer_of (status_of t.result) (explained_with under calls m s t) (closing_text under true m t)
 
 -- ---- many schedules
 
@@ -101,13 +106,14 @@ answer_of_explained under calls m s t = answer_of (status_of t.result) (explaine
 abbrev pub tried_text : Explored → List ℕ
 tried_text e = schedules_text e.tried e.all e.outcomes (not (is_clean (verdict_of e.result))) e.schedule
 
--- a run that exploring tells, with calls at its reports and where it ended
-abbrev pub explored_told : Explored → List Calls → Option Calls → ToldRun
-explored_told e calls last = record { result = e.result; calls = calls; end_calls = last }
+-- what is wanted of what is told of the run that exploring the schedules of a module tells
+abbrev pub explored_told : Wanted → (threads : Bool) → Module → Setup → Explored → ToldRun
+explored_told wanted threads m s e =
+    told_as wanted e.result (plain_calls_under threads m s e.schedule) (plain_end_calls_under threads m s e.schedule) (plain_places_under threads m s e.schedule)
 
--- the answer for what exploring schedules tells: that for one run and these calls, with those lines
-abbrev pub answer_of_explored : Lines → Module → Explored → List Calls → Option Calls → Output
-answer_of_explored under m e calls last = answer_of (status_of e.result) e.result.output (run_text under true m (explored_told e calls last) ++ tried_text e)
+-- the answer for what exploring schedules tells: that for what is told of one run, with those lines
+abbrev pub answer_of_explored : Lines → Module → Explored → ToldRun → Output
+answer_of_explored under m e t = answer_of (status_of e.result) e.result.output (run_text under true m t ++ tried_text e)
 
 -- ---- many runs
 
@@ -152,30 +158,30 @@ module _ (Gives : Module → Module → Type 0) where
   abbrev pub IsAnswerOfInstrument : Module → Output → Type 0
   IsAnswerOfInstrument m a = (j : Module) × Gives m j × (a ≡ answer_of statuses.done (written j) [])
 
-  -- the answer of `check`: of the run of a module that the pass gives, with the calls at reports where they are wanted and the verdict;
-  -- where the module has threads, under a schedule
-  abbrev pub IsAnswerOfCheck : Lines → (calls : Bool) → Setup → (schedule : List ℕ) → Module → Output → Type 0
-  IsAnswerOfCheck under calls s schedule m a = (j : Module) × Gives m j × (a ≡ answer_of_result under true m (plain_told_under calls (is_threaded m) j s schedule))
+  -- the answer of `check`: of what is wanted of the run of a module that the pass gives, with the verdict; where the module has threads,
+  -- under a schedule
+  abbrev pub IsAnswerOfCheck : Lines → Wanted → Setup → (schedule : List ℕ) → Module → Output → Type 0
+  IsAnswerOfCheck under wanted s schedule m a = (j : Module) × Gives m j × (a ≡ answer_of_result under true m (plain_told_under wanted (is_threaded m) j s schedule))
 
   -- the answer of `check` under several schedules: of what exploring tells of the runs of a module that the pass gives; where there are
   -- no threads there is one run
-  abbrev pub IsAnswerOfSchedules : Lines → (calls : Bool) → Setup → (runs : ℕ) → Module → Output → Type 0
-  IsAnswerOfSchedules under calls s runs m a =
+  abbrev pub IsAnswerOfSchedules : Lines → Wanted → Setup → (runs : ℕ) → Module → Output → Type 0
+  IsAnswerOfSchedules under wanted s runs m a =
       (j : Module) × Gives m j × (e : Explored) × IsExplored (plain_picks_under (is_threaded m) j s) (plain_under (is_threaded m) j s) runs e
-      × (a ≡ answer_of_explored under m e (if calls then plain_calls_under (is_threaded m) j s e.schedule else []) (if calls then plain_end_calls_under (is_threaded m) j s e.schedule else None))
+      × (a ≡ answer_of_explored under m e (explored_told wanted (is_threaded m) j s e))
 
   -- what explains a run of a module that the pass gives, and the moves of the shadow run of the module itself
-  abbrev pub IsExplanation : Lines → (calls : Bool) → Setup → Module → Output → Type 0
-  IsExplanation under calls s m a = (j : Module) × Gives m j × (a ≡ answer_of_explained under calls m s (plain_told calls j s))
+  abbrev pub IsExplanation : Lines → Wanted → Setup → Module → Output → Type 0
+  IsExplanation under wanted s m a = (j : Module) × Gives m j × (a ≡ answer_of_explained under wanted.calls m s (plain_wanted wanted j s))
 
   -- the answer of `explain`
-  abbrev pub IsAnswerOfExplain : Lines → (calls : Bool) → Setup → Module → Output → Type 0
-  IsAnswerOfExplain under calls s m a = UnlessThreaded (is_threaded m) a (IsExplanation under calls s m a)
+  abbrev pub IsAnswerOfExplain : Lines → Wanted → Setup → Module → Output → Type 0
+  IsAnswerOfExplain under wanted s m a = UnlessThreaded (is_threaded m) a (IsExplanation under wanted s m a)
 
   -- the sections of the runs on the inputs of a module that the pass gives
   abbrev pub AreSections : Lines → (names : List (List ℕ)) → Options → (inputs : List (List ℕ)) → Module → Output → Type 0
   AreSections under names options inputs m a =
-      (j : Module) × Gives m j × (a ≡ answer_of_results under m names (map (λ input. plain_told options.calls j (setup_of options input)) inputs))
+      (j : Module) × Gives m j × (a ≡ answer_of_results under m names (map (λ input. plain_wanted (wanted_of options) j (setup_of options input)) inputs))
 
   -- the answer of `corpus`
   abbrev pub IsAnswerOfCorpus : Lines → (names : List (List ℕ)) → Options → (inputs : List (List ℕ)) → Module → Output → Type 0
@@ -192,10 +198,10 @@ module _ (Gives : Module → Module → Type 0) where
   abbrev pub IsAnswerToValid : Lines → Command → List (List ℕ) → Module → Output → Type 0
   IsAnswerToValid under (Instrument file) inputs m a = IsAnswerOfInstrument m a
   IsAnswerToValid under (Run file options) inputs m a =
-      a ≡ answer_of_result under false m (plain_told_under options.calls (is_threaded m) m (setup_of options (only_input inputs)) options.schedule)
-  IsAnswerToValid under (Check file options) inputs m a = IsAnswerOfCheck under options.calls (setup_of options (only_input inputs)) options.schedule m a
-  IsAnswerToValid under (CheckSchedules file options runs workers) inputs m a = IsAnswerOfSchedules under options.calls (setup_of options (only_input inputs)) runs m a
-  IsAnswerToValid under (Explain file options) inputs m a = IsAnswerOfExplain under options.calls (setup_of options (only_input inputs)) m a
+      a ≡ answer_of_result under false m (plain_told_under (wanted_of options) (is_threaded m) m (setup_of options (only_input inputs)) options.schedule)
+  IsAnswerToValid under (Check file options) inputs m a = IsAnswerOfCheck under (wanted_of options) (setup_of options (only_input inputs)) options.schedule m a
+  IsAnswerToValid under (CheckSchedules file options runs workers) inputs m a = IsAnswerOfSchedules under (wanted_of options) (setup_of options (only_input inputs)) runs m a
+  IsAnswerToValid under (Explain file options) inputs m a = IsAnswerOfExplain under (wanted_of options) (setup_of options (only_input inputs)) m a
   IsAnswerToValid under (Corpus file names options workers) inputs m a = IsAnswerOfCorpus under names options inputs m a
   IsAnswerToValid under (Gen seed functions run) inputs m a = IsAnswerOfGen run m a
   IsAnswerToValid under Help inputs m a = a ≡ answer_of_help

@@ -2,10 +2,11 @@
 //! the names of its inputs' files.
 ghost use Rattle.std.specs.Prelude.{◌≡◌, None, Some, IfOk, IfSome};
 ghost use Rattle.ms_words.specs.{Limits.{IsWithinLimits}, Words.{IsAnswer}};
-ghost use Rattle.ms_top.specs.Command.{form_of, input_names, located_file, module_limit};
+ghost use Rattle.ms_top.specs.Command.{form_of, input_names, located_file, module_limit, wanted_of as wanted_by};
 ghost use Rattle.ms_top.specs.OnFile.{command_of};
 
 use ms_bits::{Boxed, List, Text};
+use ms_corpus::Wanted;
 use ms_ir::Form;
 use ms_words::{Command, Options, WordsError, read_words};
 use std::alloc::Global;
@@ -42,6 +43,16 @@ pub enum Action<'a> {
         options: &'a Options,
         workers: u8,
     },
+}
+
+/// What is wanted of what is told of a run with these options.
+pub fn wanted_of(options: &Options) -> Wanted
+    ensures { result ≡ wanted_by options.now }
+{
+    Wanted {
+        calls: options.calls,
+        places: options.locations,
+    }
 }
 
 /// A command on the module in a file.

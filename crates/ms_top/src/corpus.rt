@@ -3,16 +3,17 @@ ghost use Rattle.std.specs.Prelude.{◌≡◌, ◌≤◌, ◌++◌, [], false, c
 ghost use Rattle.ms_ir.specs.ThreadCalls.{is_threaded};
 ghost use Rattle.ms_check_valid.specs.{Formed.{Formed}, Uninstrumented.{CanInstrument}};
 ghost use Rattle.ms_words.specs.Limits.{RunsWithinLimits};
-ghost use Rattle.ms_top.specs.{Command.{setup_of as setup_with}, Parts.{AreShort, AreRunsOfGiven, AreWithinLimits}};
+ghost use Rattle.ms_top.specs.{Command.{setup_of as setup_with, wanted_of as wanted_by}, Parts.{AreShort, AreRunsOfGiven, AreWithinLimits}};
 ghost use Rattle.ms_top.specs.Said.{answer_of_results, has_status, heading_of, section_of, sections_of, status_of_all as status_of_runs, AreSections, IsAnswerOfCorpus};
 
+use crate::commands::wanted_of;
 use crate::exit_codes::Status;
 use crate::modules::{ModuleJob, setup_of, status_of, text_of_run};
 use crate::output::Output;
 use crate::passes::{Pass, has_threads, instrumented_by};
 use crate::refused::refused_threads;
 use ms_bits::{Bytes, List, NoMemory, Text};
-use ms_corpus::run_all;
+use ms_corpus::{Wanted, run_all};
 use ms_fork::Gate;
 use ms_ir::Module;
 use ms_report::SiteLines;
@@ -65,26 +66,31 @@ impl<R: Threads + Sync, P: Pass, G: Gate + Sync, L: SiteLines> ModuleJob<'_, R, 
         )
     }
 
-    /// What is told of the runs, with these options, of the module that the pass gives, one for each input in order.
+    /// What is wanted of what is told of the runs, with these options, of the module that the pass gives, one for each input in order.
     fn run_all_with(&self, options: &Options, workers: u8) -> Result<List<ToldRun>, NoMemory>
         requires plain { CanInstrument self.now.m.now }
         requires limits { RunsWithinLimits options.now }
         requires workers { (1 ≤ workers) × (workers ≤ 8) }
         requires inputs { AreShort self.now.inputs.now }
         requires alone { is_threaded self.now.m.now ≡ false }
-        ensures { IfOk result (λ rs. AreRunsOfGiven P.gives self.now.m.now (setup_with options.now []) options.now.calls self.now.inputs.now rs) }
+        ensures { IfOk result (λ rs. AreRunsOfGiven P.gives self.now.m.now (setup_with options.now []) (wanted_by options.now) self.now.inputs.now rs) }
     {
         let setup = setup_of(self.job.alloc, options, b"")?;
-        self.run_inputs(&setup, options.calls, workers)
+        self.run_inputs(&setup, wanted_of(options), workers)
     }
 
-    /// What is told of the runs of the module that the pass gives, each with this setup but its own input.
-    fn run_inputs(&self, setup: &Setup, calls: bool, workers: u8) -> Result<List<ToldRun>, NoMemory>
+    /// What is wanted of what is told of the runs of the module that the pass gives, each with this setup but its own input.
+    fn run_inputs(
+        &self,
+        setup: &Setup,
+        wanted: Wanted,
+        workers: u8,
+    ) -> Result<List<ToldRun>, NoMemory>
         requires plain { CanInstrument self.now.m.now }
         requires limits { AreWithinLimits setup.now self.now.inputs.now }
         requires workers { (1 ≤ workers) × (workers ≤ 8) }
         requires alone { is_threaded self.now.m.now ≡ false }
-        ensures { IfOk result (λ rs. AreRunsOfGiven P.gives self.now.m.now setup.now calls self.now.inputs.now rs) }
+        ensures { IfOk result (λ rs. AreRunsOfGiven P.gives self.now.m.now setup.now wanted self.now.inputs.now rs) }
     {
         let job = self.job;
         let instrumented = instrumented_by(job.rt, job.alloc, self.m, job.pass)?;
@@ -94,7 +100,7 @@ impl<R: Threads + Sync, P: Pass, G: Gate + Sync, L: SiteLines> ModuleJob<'_, R, 
             instrumented.get(),
             self.inputs,
             setup,
-            calls,
+            wanted,
             workers,
             job.gate,
         )

@@ -5,10 +5,11 @@ ghost use Rattle.ms_trail_moves.specs.Scanned.{Ascending, trail_of};
 ghost use Rattle.ms_runs.specs.Limits.{WithinLimits};
 ghost use Rattle.ms_check_valid.specs.Uninstrumented.{CanInstrument};
 ghost use Rattle.ms_words.specs.Limits.{RunsWithinLimits};
-ghost use Rattle.ms_top.specs.Command.{input_limit, only_input, setup_of as setup_with};
+ghost use Rattle.ms_top.specs.Command.{input_limit, only_input, setup_of as setup_with, wanted_of as wanted_by};
 ghost use Rattle.ms_top.specs.Explained.{CanLead, calls_before, explained_with, first_event, followed, root_calls, shortened, trace_with, way_with};
 ghost use Rattle.ms_top.specs.Said.{answer_of_explained, IsExplanation, IsAnswerOfExplain};
 
+use crate::commands::wanted_of;
 use crate::modules::{ModuleJob, closing_of_run, setup_of, status_of};
 use crate::output::Output;
 use crate::passes::{Pass, has_threads};
@@ -34,7 +35,7 @@ impl<R: Threads + Sync, P: Pass, G: Gate + Sync, L: SiteLines> ModuleJob<'_, R, 
         requires plain { CanInstrument self.now.m.now }
         requires limits { RunsWithinLimits options.now }
         requires input { length (only_input self.now.inputs.now) ≤ input_limit }
-        ensures { IfOk result (λ a. IsAnswerOfExplain P.gives (L.lines self.now.lines.now) options.now.calls (setup_with options.now (only_input self.now.inputs.now)) self.now.m.now a) }
+        ensures { IfOk result (λ a. IsAnswerOfExplain P.gives (L.lines self.now.lines.now) (wanted_by options.now) (setup_with options.now (only_input self.now.inputs.now)) self.now.m.now a) }
     {
         if has_threads(self.m) {
             refused_threads(self.job.alloc)
@@ -49,21 +50,16 @@ impl<R: Threads + Sync, P: Pass, G: Gate + Sync, L: SiteLines> ModuleJob<'_, R, 
         requires limits { RunsWithinLimits options.now }
         requires input { length (only_input self.now.inputs.now) ≤ input_limit }
         requires alone { is_threaded self.now.m.now ≡ false }
-        ensures { IfOk result (λ a. IsExplanation P.gives (L.lines self.now.lines.now) options.now.calls (setup_with options.now (only_input self.now.inputs.now)) self.now.m.now a) }
+        ensures { IfOk result (λ a. IsExplanation P.gives (L.lines self.now.lines.now) (wanted_by options.now) (setup_with options.now (only_input self.now.inputs.now)) self.now.m.now a) }
     {
         let setup = setup_of(self.job.alloc, options, self.input())?;
         let schedule = options.schedule.as_slice();
-        let told = self.job.run(self.m, &setup, schedule, options.calls)?;
+        let told = self.job.run(self.m, &setup, schedule, wanted_of(options))?;
         self.explanation(&setup, &told, options.calls)
     }
 
     /// The output that explains what is told of a run with a setup.
-    fn explanation(
-        &self,
-        setup: &Setup,
-        told: &ToldRun,
-        calls: bool,
-    ) -> Result<Output, NoMemory>
+    fn explanation(&self, setup: &Setup, told: &ToldRun, calls: bool) -> Result<Output, NoMemory>
         requires plain { CanInstrument self.now.m.now }
         requires limits { WithinLimits setup.now }
         requires alone { is_threaded self.now.m.now ≡ false }
@@ -81,12 +77,7 @@ impl<R: Threads + Sync, P: Pass, G: Gate + Sync, L: SiteLines> ModuleJob<'_, R, 
     }
 
     /// The lines of the report of a run with a setup, and of the way to what its use read.
-    fn explained(
-        &self,
-        setup: &Setup,
-        told: &ToldRun,
-        calls: bool,
-    ) -> Result<Vec<u8>, NoMemory>
+    fn explained(&self, setup: &Setup, told: &ToldRun, calls: bool) -> Result<Vec<u8>, NoMemory>
         requires plain { CanInstrument self.now.m.now }
         requires limits { WithinLimits setup.now }
         requires alone { is_threaded self.now.m.now ≡ false }

@@ -1,5 +1,5 @@
 //! What `gen` says: the text of the module that it makes, or the summary of its run.
-ghost use Rattle.std.specs.Prelude.{◌≡◌, ◌∷◌, [], true, IfOk};
+ghost use Rattle.std.specs.Prelude.{◌≡◌, ◌∷◌, [], true, false, IfOk};
 ghost use Rattle.ms_check_valid.specs.{Formed.{Formed}, Uninstrumented.{CanInstrument}, Valid.{Valid}};
 ghost use Rattle.ms_text_grammar.specs.LayoutModules.{written as text_of};
 ghost use Rattle.ms_report.specs.SummaryTexts.{summary_of};
@@ -14,6 +14,7 @@ use crate::output::Output;
 use crate::passes::Pass;
 use ms_bits::{Boxed, Bytes, NoMemory};
 use ms_check::CheckedModule;
+use ms_corpus::Wanted;
 use ms_fork::Gate;
 use ms_gen::generate;
 use ms_ir::Module;
@@ -55,7 +56,7 @@ impl<R: Threads + Sync, P: Pass, G: Gate + Sync> Job<'_, R, P, G> {
     {
         m.law_valid();
         let setup = default_setup(self.alloc)?;
-        let told = self.run(m, &setup, default_schedule(), false)?;
+        let told = self.run(m, &setup, default_schedule(), nothing_wanted())?;
         output_of_summary(self.alloc, m.module(), &told.result)
     }
 }
@@ -84,6 +85,16 @@ fn default_schedule() -> &'static [u8]
     ensures { result.now ≡ 0 ∷ [] }
 {
     b"\0"
+}
+
+/// What is wanted of such a run beside its result.
+fn nothing_wanted() -> Wanted
+    ensures { result ≡ record { calls = false; places = false } }
+{
+    Wanted {
+        calls: false,
+        places: false,
+    }
 }
 
 /// What a run is given where no option is: no input, the fill a5, ten million steps, one report.

@@ -1,22 +1,25 @@
 //! Laws about what the top call says, each a public function with an empty body, whose promise is the law.
 
-ghost use Rattle.std.specs.Prelude.{◌≡◌, ◌≢◌, ◌⊎◌, ℕ, true, false, ◌^◌, ◌<◌, ◌≤◌, Bool, List, [], ◌∷◌, ◌++◌, All, length, map, Some, None, Ok, codes, find};
+ghost use Rattle.std.specs.Prelude.{◌≡◌, ◌≢◌, ◌⊎◌, ℕ, true, false, ◌^◌, ◌<◌, ◌≤◌, Bool, List, [], ◌∷◌, ◌++◌, All, length, map, take, Some, None, Ok, codes, find};
 ghost use Rattle.ms_io.specs.{Counts.{Rose}, Reading.{Holdings}};
-ghost use Rattle.ms_ir.specs.{declared.syntax.Module.{Module}, ThreadCalls.{is_threaded}};
+ghost use Rattle.ms_ir.specs.{declared.syntax.Module.{Module}, Instructions.{NoMarks}, ThreadCalls.{is_threaded}};
 ghost use Rattle.ms_ir.specs.declared.forms.Form.TheVariants.{Plain};
-ghost use Rattle.ms_runs.specs.{declared.runs.RunResult.{RunResult}, Calls.{SameCalls}, Faithful.{Fair, Faithful}, Shadow.{shadow}};
-ghost use Rattle.ms_runtime.specs.{declared.runs.ToldRun.{ToldRun}, ToldRuns.{shadow_told}};
-ghost use Rattle.ms_runs_fills_laws.specs.Checked.{HoldsUnderFills};
+ghost use Rattle.ms_runs.specs.declared.runs.End.TheVariants.{Reported};
+ghost use Rattle.ms_runs.specs.{declared.runs.RunResult.{RunResult}, declared.runs.Setup.{Setup}, Calls.{shadow_end_calls, SameCalls}, Faithful.{Fair, Faithful}, Once.{firsts}, Shadow.{shadow}};
+ghost use Rattle.ms_runtime.specs.declared.runs.ToldRun.{ToldRun};
+ghost use Rattle.ms_corpus.specs.Wanted.{shadow_wanted, silent};
+ghost use Rattle.ms_runs_fills_laws.specs.{Checked.{HoldsUnderFills}, Once.{each_time}};
+ghost use Rattle.ms_runs_laws.specs.Places.{uses_at};
 ghost use Rattle.ms_check_valid.specs.{Formed.{Formed}, Refusals.{Fault}, Valid.{Valid}};
 ghost use Rattle.ms_text_grammar.specs.LayoutModules.{written};
 ghost use Rattle.ms_text_laws.specs.Fits.{FitsText};
 ghost use Rattle.ms_pass_form_laws.specs.Elided.{IsElided};
 ghost use Rattle.ms_top.specs.{declared.output.Output.{Output}, Answered.{AreHeld, IsTaken, IsDoneStatus, Begins}};
-ghost use Rattle.ms_top.specs.Added.{with_locations, without_lines, without_any_lines, CorpusAdds, telling, without_calls, without_any_calls, CorpusTells};
-ghost use Rattle.ms_top.specs.{Command.{files_of, form_of, input_limit, only_input, setup_of}, Explained.{no_report}};
+ghost use Rattle.ms_top.specs.Added.{with_locations, without_places, without_told_calls, without_lines, without_any_lines, CorpusAdds, telling, without_calls, without_any_calls, CorpusTells};
+ghost use Rattle.ms_top.specs.{Command.{files_of, form_of, input_limit, only_input, setup_of, wanted_of}, Explained.{calls_before, no_report, shortened}};
 ghost use Rattle.ms_top.specs.Files.{Counted, CanRead, Whole};
 ghost use Rattle.ms_top.specs.Promised.{CorpusShown, NothingRan, SchedulesShown, ShadowShown, ThreadsRefused, ShowsWay, WayShown};
-ghost use Rattle.ms_top.specs.{Runs.{shadow_told_under, shadow_under, silent, CallsHoldUnder, HoldsUnder}, Instrumented.{IsInstrumented}};
+ghost use Rattle.ms_top.specs.{Runs.{shadow_told_under, shadow_under, shadow_places_under, CallsHoldUnder, HoldsUnder}, Instrumented.{IsInstrumented}};
 ghost use Rattle.ms_top.specs.Lines.{AreLines, fault_text_with};
 ghost use Rattle.ms_top.specs.Said.{IsAnswer, IsAnswerToCommand, IsAnswerOfGen, IsAnswerToText, IsAnswerToValid, DifferInPath, answer_of, answer_of_result, answer_of_explained, answer_of_results, run_text, says, status_of};
 ghost use Rattle.ms_top.specs.Written.{IsLimitRefusal, RunsAlike};
@@ -61,16 +64,21 @@ pub fn law_questions_are_answered()
 /// limits are with an input of bytes that is within its limit; of one with threads that under the schedule of the options. Of a
 /// generated one that is run, which has no threads, it is the summary of its shadow run with the default options, whose setup is
 /// fair: no input, the fill a5, ten million steps, one report, the schedule 00. A clean verdict, and a first report where no blind use was counted, with its calls, hold under
-/// every fill, with threads under the same schedule; of two schedules nothing is said.
+/// every fill, with threads under the same schedule; of two schedules nothing is said. Without threads the places of blind uses
+/// count as many uses as the run has, and a run that reports each use once has of the reports of the run that reports each time, with a limit that
+/// these don't reach, the first of each use, in order, as many as its own limit allows.
 pub fn law_checks_show_the_shadow_run()
     ensures shadow { (under : Lines) (file : List ℕ) (inputs : List (List ℕ)) (o : Options) (m : Module) (a : Output) → let s = setup_of o (only_input inputs) in Fair s → IsSchedule o.schedule
-        → IsAnswerToValid IsInstrumented under (Check file o) inputs m a → a ≡ answer_of_result under true m (shadow_told_under o.calls (is_threaded m) m s o.schedule) }
+        → IsAnswerToValid IsInstrumented under (Check file o) inputs m a → a ≡ answer_of_result under true m (shadow_told_under (wanted_of o) (is_threaded m) m s o.schedule) }
     ensures under_fills { (under : Lines) (file : List ℕ) (inputs : List (List ℕ)) (o : Options) (m : Module) (a : Output) → let s = setup_of o (only_input inputs) in Fair s → IsSchedule o.schedule
         → IsAnswerToValid IsInstrumented under (Check file o) inputs m a → HoldsUnder (is_threaded m) m s o.schedule (shadow_under (is_threaded m) m s o.schedule) }
     ensures calls_under_fills { (under : Lines) (file : List ℕ) (inputs : List (List ℕ)) (o : Options) (m : Module) (a : Output) → let s = setup_of o (only_input inputs) in Fair s → IsSchedule o.schedule
         → IsAnswerToValid IsInstrumented under (Check file o) inputs m a → CallsHoldUnder (is_threaded m) m s o.schedule }
+    ensures places { (m : Module) (s : Setup) (schedule : List ℕ) → is_threaded m ≡ false → uses_at (shadow_places_under (is_threaded m) m s schedule) ≡ (shadow_under (is_threaded m) m s schedule).blind }
+    ensures once { (o : Options) (input : List ℕ) (m : Module) → is_threaded m ≡ false → o.once ≡ true → 1 ≤ o.reports → let s = setup_of o input in (n : ℕ) → length (shadow m (each_time s n)).reports < n
+        → (shadow m s).reports ≡ take o.reports (firsts (shadow m (each_time s n)).reports) }
     ensures sections { (under : Lines) (file : List ℕ) (names inputs : List (List ℕ)) (o : Options) (workers : ℕ) (m : Module) (a : Output) → is_threaded m ≡ false → All (λ input. Fair (setup_of o input)) inputs
-        → IsAnswerToValid IsInstrumented under (Corpus file names o workers) inputs m a → a ≡ answer_of_results under m names (map (λ input. shadow_told o.calls m (setup_of o input)) inputs) }
+        → IsAnswerToValid IsInstrumented under (Corpus file names o workers) inputs m a → a ≡ answer_of_results under m names (map (λ input. shadow_wanted (wanted_of o) m (setup_of o input)) inputs) }
     ensures sections_under_fills { (under : Lines) (file : List ℕ) (names inputs : List (List ℕ)) (o : Options) (workers : ℕ) (m : Module) (a : Output) → is_threaded m ≡ false
         → IsAnswerToValid IsInstrumented under (Corpus file names o workers) inputs m a → (input : List ℕ) → Fair (setup_of o input) → HoldsUnderFills m (setup_of o input) (shadow m (setup_of o input)) }
     ensures summary { (m : Module) (a : Output) → IsAnswerOfGen IsInstrumented true m a
@@ -79,21 +87,24 @@ pub fn law_checks_show_the_shadow_run()
         → let r = shadow (generated seed functions) (setup_of defaults []) in a ≡ answer_of (status_of r) (summary_of (generated seed functions) r) [] }
     ensures fair { (o : Options) (input : List ℕ) → RunsWithinLimits o → length input ≤ input_limit → All (λ b. b < 2 ^ 8) input → Fair (setup_of o input) }
     ensures defaults { Fair (setup_of defaults []) }
-    ensures spelled { defaults ≡ record { input = None; fill = 0xa5 ∷ []; steps = 10000000; reports = 1; schedule = 0 ∷ []; locations = false; calls = false } }
+    ensures spelled { defaults ≡ record { input = None; fill = 0xa5 ∷ []; steps = 10000000; reports = 1; schedule = 0 ∷ []; locations = false; calls = false; once = false } }
 {}
 
 /// What `explain` says of a checked module is the first report of its shadow run, where the setup is fair, with the way of that
 /// report's bits over the moves of that run, or that there is none; the closing lines are those of `check`. The way begins at a root
 /// that the run had reached, each place on it is what the next move reads, and the last is what the report's use reads. From the state
-/// after a move up to the one in which the next one reads it, the same bits of a place stay poisoned, and there are some. A module
-/// with threads is refused.
+/// after a move up to the one in which the next one reads it, the same bits of a place stay poisoned, and there are some. The calls at
+/// its root are those that stand before the step of its first move in the run of the module itself; where the shadow run has no report
+/// before that step they stand there in it. A module with threads is refused.
 pub fn law_explanations_show_the_way()
     ensures shadow { (under : Lines) (file : List ℕ) (inputs : List (List ℕ)) (o : Options) (m : Module) (a : Output) → is_threaded m ≡ false → let s = setup_of o (only_input inputs) in Fair s
-        → IsAnswerToValid IsInstrumented under (Explain file o) inputs m a → a ≡ answer_of_explained under o.calls m s (shadow_told o.calls m s) }
+        → IsAnswerToValid IsInstrumented under (Explain file o) inputs m a → a ≡ answer_of_explained under o.calls m s (shadow_wanted (wanted_of o) m s) }
     ensures way { (under : Lines) (file : List ℕ) (inputs : List (List ℕ)) (o : Options) (m : Module) (a : Output) → is_threaded m ≡ false → let s = setup_of o (only_input inputs) in Fair s
         → IsAnswerToValid IsInstrumented under (Explain file o) inputs m a → (shadow m s).reports ≢ [] → ShowsWay under o.calls m s a.out }
     ensures none { (under : Lines) (file : List ℕ) (inputs : List (List ℕ)) (o : Options) (m : Module) (a : Output) → is_threaded m ≡ false → let s = setup_of o (only_input inputs) in Fair s
         → IsAnswerToValid IsInstrumented under (Explain file o) inputs m a → (shadow m s).reports ≡ [] → a.out ≡ no_report }
+    ensures root { (m : Module) (s : Setup) (event : ℕ) → NoMarks m → (shadow m (shortened s event)).«end» ≢ Reported
+        → calls_before m s (Some event) ≡ shadow_end_calls m (shortened s event) }
     ensures threads { (under : Lines) (file : List ℕ) (o : Options) (inputs : List (List ℕ)) (m : Module) (a : Output) → is_threaded m ≡ true
         → IsAnswerToValid IsInstrumented under (Explain file o) inputs m a → a ≡ says statuses.refused threads_text }
 {
@@ -103,7 +114,7 @@ pub fn law_explanations_show_the_way()
 /// What `explain` says holds of every pass whose modules are faithful and name the same calls at their reports.
 pub fn law_faithful_passes_explain<P: Pass>()
     ensures { (under : Lines) (file : List ℕ) (inputs : List (List ℕ)) (o : Options) (m : Module) (a : Output) → ((j : Module) → P.gives m j → Faithful m j × SameCalls m j)
-        → is_threaded m ≡ false → let s = setup_of o (only_input inputs) in Fair s → IsAnswerToValid P.gives under (Explain file o) inputs m a → a ≡ answer_of_explained under o.calls m s (shadow_told o.calls m s) }
+        → is_threaded m ≡ false → let s = setup_of o (only_input inputs) in Fair s → IsAnswerToValid P.gives under (Explain file o) inputs m a → a ≡ answer_of_explained under o.calls m s (shadow_wanted (wanted_of o) m s) }
 {}
 
 /// What `instrument` writes is the text of a faithful module, and of no other formed module. `run` says of that text what `check`
@@ -121,7 +132,7 @@ pub fn law_written_modules_run_alike()
         → RunsAlike m name o a.out under b c }
 {}
 
-/// What the option `--where` adds is lines that begin with four blanks, under those that name a site: once these are taken out,
+/// What the option `--where` adds is lines that begin with four blanks, under those that name a site and for places of blind uses: once these are taken out,
 /// what `run`, `check` and `explain` say with the option is what they say without it. So is each text of which the sections of `corpus` are
 /// made beside the output, which may have such lines of its own. Without the option each text is as it always was.
 pub fn law_lines_are_added()
@@ -137,7 +148,7 @@ pub fn law_lines_are_added()
     ensures corpus { (file : List ℕ) (names inputs : List (List ℕ)) (o : Options) (workers : ℕ) (text : List ℕ) (a : Output)
         → IsAnswerToText IsInstrumented (Corpus file names (with_locations true o) workers) inputs text a → CorpusAdds IsInstrumented file names o workers inputs text a }
     ensures runs { (command : Command) (text : List ℕ) (m : Module) (under : Lines) (verdict : Bool) (t : ToldRun) → AreLines command text m under
-        → unindented (run_text under verdict m t) ≡ run_text no_lines verdict m t }
+        → unindented (run_text under verdict m t) ≡ run_text no_lines verdict m (without_places t) }
     ensures faults { (command : Command) (text : List ℕ) (m : Module) (under : Lines) (fault : Fault) → AreLines command text m under → unindented (fault_text_with under fault) ≡ fault_text fault }
     ensures none_in_runs { (verdict : Bool) (m : Module) (r : RunResult) → run_text no_lines verdict m (silent r) ≡ report_text_of m r ++ closing_of m r verdict }
     ensures none_in_faults { (fault : Fault) → fault_text_with no_lines fault ≡ fault_text fault }
@@ -159,7 +170,7 @@ pub fn law_calls_are_added()
         → IsAnswerToText IsInstrumented (Explain file (telling false o)) inputs text a ⊎ IsAnswerToText IsInstrumented (Explain file (telling false o)) inputs text (without_any_calls a) }
     ensures corpus { (file : List ℕ) (names : List (List ℕ)) (o : Options) (workers : ℕ) (inputs : List (List ℕ)) (text : List ℕ) (a : Output)
         → IsAnswerToText IsInstrumented (Corpus file names (telling true o) workers) inputs text a → CorpusTells IsInstrumented file names o workers inputs text a }
-    ensures runs { (verdict : Bool) (m : Module) (t : ToldRun) → uncalled (run_text no_lines verdict m t) ≡ run_text no_lines verdict m (silent t.result) }
+    ensures runs { (verdict : Bool) (m : Module) (t : ToldRun) → uncalled (run_text no_lines verdict m t) ≡ run_text no_lines verdict m (without_told_calls t) }
 {}
 
 /// A valid module is never refused: where a text reads as a valid module, what is to be said of it is an answer for that module.

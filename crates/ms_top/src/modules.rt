@@ -1,16 +1,15 @@
 //! A command on a valid module: runs it, checks it, explains it, or writes it, and what is then said.
-ghost use Rattle.std.specs.Prelude.{◌≡◌, ◌≤◌, length, false, IfOk};
+ghost use Rattle.std.specs.Prelude.{◌≡◌, ◌≤◌, length, true, false, IfOk};
 ghost use Rattle.ms_ir.specs.ThreadCalls.{is_threaded};
 ghost use Rattle.ms_runs.specs.Limits.{WithinLimits};
 ghost use Rattle.ms_check_valid.specs.{Formed.{Formed}, Uninstrumented.{CanInstrument}};
-ghost use Rattle.ms_report.specs.CallTexts.{closing_calling as closing_lines};
 ghost use Rattle.ms_words.specs.Limits.{RunsWithinLimits, IsWithinLimits};
 ghost use Rattle.ms_threads.specs.Faithful.{IsSchedule};
-ghost use Rattle.ms_top.specs.Command.{setup_of as setup_with, input_limit, only_input};
+ghost use Rattle.ms_top.specs.Command.{setup_of as setup_with, input_limit, only_input, wanted_of as wanted_by};
 ghost use Rattle.ms_top.specs.{OnFile.{command_of}, Parts.{AreShort, IsReady, IsRunOfGiven}, Runs.{plain_told_under}};
-ghost use Rattle.ms_top.specs.Said.{answer_of_result, run_text, status_of as status_of_run, IsAnswerOfInstrument, IsAnswerOfCheck, IsAnswerToValid};
+ghost use Rattle.ms_top.specs.Said.{answer_of_result, closing_text, run_text, status_of as status_of_run, IsAnswerOfInstrument, IsAnswerOfCheck, IsAnswerToValid};
 
-use crate::commands::{Action, FileCommand};
+use crate::commands::{Action, FileCommand, wanted_of};
 use crate::exit_codes::Status;
 use crate::generated::written;
 use crate::jobs::Job;
@@ -18,11 +17,12 @@ use crate::output::Output;
 use crate::passes::{Pass, has_threads, instrumented_by};
 use ms_bits::{Bytes, NoMemory};
 use ms_check::CheckedModule;
+use ms_corpus::{Wanted, run_wanted};
 use ms_fork::Gate;
 use ms_ir::Module;
-use ms_report::{SiteLines, closing_calling, report_text_calling};
+use ms_report::{SiteLines, closing_calling, places_text, report_text_calling};
 use ms_runs::{End, RunResult, Setup};
-use ms_runtime::{ToldRun, run_told};
+use ms_runtime::ToldRun;
 use ms_threads::run_threads_told;
 use ms_words::Options;
 use std::alloc::Global;
@@ -30,19 +30,18 @@ use std::mem::forget;
 use std::thread::Threads;
 
 impl<R: Threads + Sync, P: Pass, G: Gate + Sync> Job<'_, R, P, G> {
-    /// The run of the module that the pass gives, of one with threads under this schedule; and where they are wanted the calls at its
-    /// reports.
+    /// What is wanted of the run of the module that the pass gives, of one with threads under this schedule.
     pub fn run(
         &self,
         m: &CheckedModule,
         setup: &Setup,
         schedule: &[u8],
-        calls: bool,
+        wanted: Wanted,
     ) -> Result<ToldRun, NoMemory>
         requires plain { CanInstrument m.now }
         requires limits { WithinLimits setup.now }
         requires scheduled { IsSchedule schedule.now }
-        ensures { IfOk result (λ t. IsRunOfGiven P.gives m.now setup.now schedule.now calls t) }
+        ensures { IfOk result (λ t. IsRunOfGiven P.gives m.now setup.now schedule.now wanted t) }
     {
         let instrumented = instrumented_by(self.rt, self.alloc, m, self.pass)?;
         run_under(
@@ -51,7 +50,7 @@ impl<R: Threads + Sync, P: Pass, G: Gate + Sync> Job<'_, R, P, G> {
             has_threads(m),
             setup,
             schedule,
-            calls,
+            wanted,
         )
     }
 }
@@ -119,14 +118,14 @@ impl<R: Threads + Sync, P: Pass, G: Gate + Sync, L: SiteLines> ModuleJob<'_, R, 
         requires limits { RunsWithinLimits options.now }
         requires input { length (only_input self.now.inputs.now) ≤ input_limit }
         ensures { IfOk result (λ a. a ≡ answer_of_result (L.lines self.now.lines.now) false self.now.m.now
-            (plain_told_under options.now.calls (is_threaded self.now.m.now) self.now.m.now (setup_with options.now (only_input self.now.inputs.now)) options.now.schedule)) }
+            (plain_told_under (wanted_by options.now) (is_threaded self.now.m.now) self.now.m.now (setup_with options.now (only_input self.now.inputs.now)) options.now.schedule)) }
     {
         self.m.law_valid();
         let alloc = self.job.alloc;
         let setup = setup_of(alloc, options, self.input())?;
         let schedule = options.schedule.as_slice();
         let threads = has_threads(self.m);
-        let told = run_under(alloc, self.m, threads, &setup, schedule, options.calls)?;
+        let told = run_under(alloc, self.m, threads, &setup, schedule, wanted_of(options))?;
         output_of_run(alloc, self.m.module(), told, false, self.lines)
     }
 
@@ -135,35 +134,51 @@ impl<R: Threads + Sync, P: Pass, G: Gate + Sync, L: SiteLines> ModuleJob<'_, R, 
         requires plain { CanInstrument self.now.m.now }
         requires limits { RunsWithinLimits options.now }
         requires input { length (only_input self.now.inputs.now) ≤ input_limit }
-        ensures { IfOk result (λ a. IsAnswerOfCheck P.gives (L.lines self.now.lines.now) options.now.calls (setup_with options.now (only_input self.now.inputs.now)) options.now.schedule self.now.m.now a) }
+        ensures { IfOk result (λ a. IsAnswerOfCheck P.gives (L.lines self.now.lines.now) (wanted_by options.now) (setup_with options.now (only_input self.now.inputs.now)) options.now.schedule self.now.m.now a) }
     {
         self.m.law_valid();
         let alloc = self.job.alloc;
         let setup = setup_of(alloc, options, self.input())?;
         let schedule = options.schedule.as_slice();
-        let told = self.job.run(self.m, &setup, schedule, options.calls)?;
+        let told = self.job.run(self.m, &setup, schedule, wanted_of(options))?;
         output_of_run(alloc, self.m.module(), told, true, self.lines)
     }
 }
 
-/// The run of a module, with threads under a schedule, and where they are wanted the calls at its reports.
+/// What is wanted of the run of a module with threads under a schedule.
+fn run_threads_wanted(
+    alloc: Global,
+    m: &CheckedModule,
+    setup: &Setup,
+    schedule: &[u8],
+    wanted: Wanted,
+) -> Result<ToldRun, NoMemory>
+    requires limits { WithinLimits setup.now }
+    requires scheduled { IsSchedule schedule.now }
+    ensures { IfOk result (λ t. t ≡ plain_told_under wanted true m.now setup.now schedule.now) }
+{
+    let told = run_threads_told(alloc, m, setup, schedule, wanted.any())?;
+    Ok(wanted.of_told(alloc, told))
+}
+
+/// What is wanted of the run of a module, with threads under a schedule.
 pub fn run_under(
     alloc: Global,
     m: &CheckedModule,
     threads: bool,
     setup: &Setup,
     schedule: &[u8],
-    calls: bool,
+    wanted: Wanted,
 ) -> Result<ToldRun, NoMemory>
     requires threads { threads ≡ is_threaded m.now }
     requires limits { WithinLimits setup.now }
     requires scheduled { IsSchedule schedule.now }
-    ensures { IfOk result (λ t. t ≡ plain_told_under calls threads m.now setup.now schedule.now) }
+    ensures { IfOk result (λ t. t ≡ plain_told_under wanted threads m.now setup.now schedule.now) }
 {
     if threads {
-        run_threads_told(alloc, m, setup, schedule, calls)
+        run_threads_wanted(alloc, m, setup, schedule, wanted)
     } else {
-        run_told(alloc, m, setup, calls)
+        run_wanted(alloc, m, setup, wanted)
     }
 }
 
@@ -178,7 +193,7 @@ pub fn setup_of(alloc: Global, options: &Options, input: &[u8]) -> Result<Setup,
         fill: Bytes::from_vec(fill),
         steps: options.steps,
         reports: options.reports,
-        once: false,
+        once: options.once,
     })
 }
 
@@ -203,7 +218,7 @@ fn output_of_run<L: SiteLines>(
 }
 
 /// The lines of a run's reports, with those of their calls that are told, and then the closing lines, with or without the verdict,
-/// and these lines under each that names a site.
+/// those of places of blind uses that are told, and these lines under each that names a site.
 pub fn text_of_run<L: SiteLines>(
     alloc: Global,
     m: &Module,
@@ -221,7 +236,7 @@ pub fn text_of_run<L: SiteLines>(
     Ok(text)
 }
 
-/// The closing lines of a run, with those of the calls that are told where it ended.
+/// The closing lines of a run, with those of the calls that are told where it ended, and those of the places of blind uses that are told.
 pub fn closing_of_run<L: SiteLines>(
     alloc: Global,
     m: &Module,
@@ -230,16 +245,13 @@ pub fn closing_of_run<L: SiteLines>(
     lines: &L,
 ) -> Result<Vec<u8>, NoMemory>
     requires { Formed m.now }
-    ensures { IfOk result (λ text. text.items ≡ closing_lines (L.lines lines.now) m.now told.now.result told.now.end_calls verdict) }
+    ensures { IfOk result (λ text. text.items ≡ closing_text (L.lines lines.now) verdict m.now told.now) }
 {
-    closing_calling(
-        alloc,
-        m,
-        &told.result,
-        told.end_calls.as_ref(),
-        verdict,
-        lines,
-    )
+    let calls = told.end_calls.as_ref();
+    let mut text = closing_calling(alloc, m, &told.result, calls, verdict, lines)?;
+    let places = places_text(alloc, m, told.places.as_slice(), lines)?;
+    text.extend_from_slice(&places)?;
+    Ok(text)
 }
 
 /// The status that a run decides: 77 exactly where it has a report.

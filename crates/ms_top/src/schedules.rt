@@ -1,25 +1,27 @@
 //! What `check --schedules` says of a module under several schedules.
-ghost use Rattle.std.specs.Prelude.{◌≡◌, ◌≤◌, ◌++◌, true, false, [], None, length, if◌then◌else◌, IfOk};
+ghost use Rattle.std.specs.Prelude.{◌≡◌, ◌≤◌, ◌++◌, true, false, [], None, length, IfOk};
 ghost use Rattle.ms_ir.specs.ThreadCalls.{is_threaded};
 ghost use Rattle.ms_runs.specs.Limits.{WithinLimits};
 ghost use Rattle.ms_check_valid.specs.{Formed.{Formed}, Uninstrumented.{CanInstrument}};
 ghost use Rattle.ms_words.specs.Limits.{SchedulesWithinLimits};
 ghost use Rattle.ms_threads_explore.specs.Explorations.{IsExplored};
-ghost use Rattle.ms_top.specs.Command.{input_limit, only_input, setup_of as setup_with};
-ghost use Rattle.ms_top.specs.{Parts.{only_run as only_run_of, IsExploredOfGiven}, Runs.{plain_under, plain_picks_under, plain_calls_under, plain_end_calls_under}};
+ghost use Rattle.ms_top.specs.Command.{input_limit, only_input, setup_of as setup_with, wanted_of as wanted_by};
+ghost use Rattle.ms_top.specs.{Parts.{beside_of, only_run as only_run_of, told_with, IsExploredOfGiven}, Runs.{plain_under, plain_picks_under, plain_told_under}};
 ghost use Rattle.ms_threads.specs.Faithful.{IsSchedule};
 ghost use Rattle.ms_top.specs.Said.{answer_of_explored, run_text, tried_text, IsAnswerOfSchedules};
 
+use crate::commands::wanted_of;
 use crate::jobs::Job;
 use crate::modules::{ModuleJob, run_under, setup_of, status_of, text_of_run};
 use crate::output::Output;
 use crate::passes::{Pass, has_threads, instrumented_by};
 use ms_bits::{Bytes, List, NoMemory};
 use ms_check::CheckedModule;
+use ms_corpus::Wanted;
 use ms_fork::Gate;
 use ms_ir::Module;
 use ms_report::{SiteLines, schedules_text};
-use ms_runs::{Calls, Setup};
+use ms_runs::{BlindPlace, Calls, Setup};
 use ms_runtime::{ToldRun, run};
 use ms_threads_explore::{Explored, explore, is_clean};
 use ms_words::Options;
@@ -28,28 +30,28 @@ use std::thread::Threads;
 
 impl<R: Threads + Sync, P: Pass, G: Gate + Sync> Job<'_, R, P, G> {
     /// What exploring the schedules of the module that the pass gives tells: of at most so many runs, by so many threads at most. And
-    /// where they are wanted the calls at the reports of the run that is told, which is made once more for that.
+    /// what is wanted of the run that is told, which is made once more for that.
     fn explore(
         &self,
         m: &CheckedModule,
         setup: &Setup,
         runs: u32,
         workers: u8,
-        calls: bool,
-    ) -> Result<(Explored, List<Calls>, Option<Calls>), NoMemory>
+        wanted: Wanted,
+    ) -> Result<(Explored, ToldBeside), NoMemory>
         requires plain { CanInstrument m.now }
         requires limits { WithinLimits setup.now }
         requires some { 1 ≤ runs }
         requires workers { (1 ≤ workers) × (workers ≤ 8) }
-        ensures { IfOk result (λ r. IsExploredOfGiven P.gives m.now setup.now runs calls r.0 r.1 r.2) }
+        ensures { IfOk result (λ r. IsExploredOfGiven P.gives m.now setup.now runs wanted r.0 r.1) }
     {
         let instrumented = instrumented_by(self.rt, self.alloc, m, self.pass)?;
         let module = instrumented.get();
         let threads = has_threads(m);
         let explored = self.explore_under(module, threads, setup, runs, workers)?;
         let schedule = explored.schedule.as_slice();
-        let (told, last) = calls_under(self.alloc, module, threads, setup, schedule, calls)?;
-        Ok((explored, told, last))
+        let beside = told_beside(self.alloc, module, threads, setup, schedule, wanted)?;
+        Ok((explored, beside))
     }
 
     /// What exploring the schedules of a module as it is tells, by whether it has `threads`: one without them has one run.
@@ -88,38 +90,67 @@ impl<R: Threads + Sync, P: Pass, G: Gate + Sync, L: SiteLines> ModuleJob<'_, R, 
         requires plain { CanInstrument self.now.m.now }
         requires limits { SchedulesWithinLimits options.now runs workers }
         requires input { length (only_input self.now.inputs.now) ≤ input_limit }
-        ensures { IfOk result (λ a. IsAnswerOfSchedules P.gives (L.lines self.now.lines.now) options.now.calls (setup_with options.now (only_input self.now.inputs.now)) runs self.now.m.now a) }
+        ensures { IfOk result (λ a. IsAnswerOfSchedules P.gives (L.lines self.now.lines.now) (wanted_by options.now) (setup_with options.now (only_input self.now.inputs.now)) runs self.now.m.now a) }
     {
         self.m.law_valid();
         let alloc = self.job.alloc;
         let setup = setup_of(alloc, options, self.input())?;
-        let calls = options.calls;
-        let (explored, told, last) = self.job.explore(self.m, &setup, runs, workers, calls)?;
-        output_of_schedules(alloc, self.m.module(), explored, told, last, self.lines)
+        let wanted = wanted_of(options);
+        let (explored, beside) = self.job.explore(self.m, &setup, runs, workers, wanted)?;
+        output_of_schedules(alloc, self.m.module(), explored, beside, self.lines)
     }
 }
 
-/// The calls at the reports of the run of a module and where it ends, with threads under a schedule, where they are wanted; else none,
-/// and nothing is run.
-fn calls_under(
+/// What is told beside the result of a run.
+#[derive(Drop)]
+pub struct ToldBeside {
+    pub calls: List<Calls>,
+    pub end_calls: Option<Calls>,
+    pub places: List<BlindPlace>,
+}
+
+/// Where nothing is wanted.
+fn nothing_beside(alloc: Global) -> ToldBeside
+    ensures { result ≡ record { calls = []; end_calls = None; places = [] } }
+{
+    ToldBeside {
+        calls: List::from_vec(Vec::new(alloc)),
+        end_calls: None,
+        places: List::from_vec(Vec::new(alloc)),
+    }
+}
+
+/// What is told beside a result.
+fn beside_result(told: ToldRun) -> ToldBeside
+    ensures { result ≡ beside_of told }
+{
+    ToldBeside {
+        calls: told.calls,
+        end_calls: told.end_calls,
+        places: told.places,
+    }
+}
+
+/// What is wanted beside the result of the run of a module, with threads under a schedule; where nothing is, nothing is run.
+fn told_beside(
     alloc: Global,
     m: &CheckedModule,
     threads: bool,
     setup: &Setup,
     schedule: &[u8],
-    wanted: bool,
-) -> Result<(List<Calls>, Option<Calls>), NoMemory>
+    wanted: Wanted,
+) -> Result<ToldBeside, NoMemory>
     requires threads { threads ≡ is_threaded m.now }
     requires limits { WithinLimits setup.now }
     requires scheduled { IsSchedule schedule.now }
-    ensures calls { IfOk result (λ r. r.0 ≡ (if wanted then plain_calls_under threads m.now setup.now schedule.now else [])) }
-    ensures ends { IfOk result (λ r. r.1 ≡ (if wanted then plain_end_calls_under threads m.now setup.now schedule.now else None)) }
+    ensures { IfOk result (λ b. b ≡ beside_of (plain_told_under wanted threads m.now setup.now schedule.now)) }
 {
-    if !wanted {
-        return Ok((List::from_vec(Vec::new(alloc)), None));
+    if wanted.any() {
+        let told = run_under(alloc, m, threads, setup, schedule, wanted)?;
+        Ok(beside_result(told))
+    } else {
+        Ok(nothing_beside(alloc))
     }
-    let told = run_under(alloc, m, threads, setup, schedule, true)?;
-    Ok((told.calls, told.end_calls))
 }
 
 /// The only run of a module without threads, as exploring would tell it: it makes no pick.
@@ -143,18 +174,18 @@ fn output_of_schedules<L: SiteLines>(
     alloc: Global,
     m: &Module,
     explored: Explored,
-    calls: List<Calls>,
-    end_calls: Option<Calls>,
+    beside: ToldBeside,
     lines: &L,
 ) -> Result<Output, NoMemory>
     requires { Formed m.now }
-    ensures { IfOk result (λ a. a ≡ answer_of_explored (L.lines lines.now) m.now explored calls end_calls) }
+    ensures { IfOk result (λ a. a ≡ answer_of_explored (L.lines lines.now) m.now explored (told_with explored beside)) }
 {
     let tried = lines_of_schedules(alloc, &explored)?;
     let told = ToldRun {
         result: explored.result,
-        calls,
-        end_calls,
+        calls: beside.calls,
+        end_calls: beside.end_calls,
+        places: beside.places,
     };
     let err = text_of_schedules(alloc, m, &told, &tried, lines)?;
     let result = told.result;

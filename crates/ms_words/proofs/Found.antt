@@ -1,486 +1,491 @@
--- What `clap` finds in accepted words.
-use Rattle.std.proofs.Common.{◌≡◌, ◌∙◌, ◌++◌, ◌≤◌, true, List, [], ◌∷◌, Option, Some, None, refl, sym, ap, ap₂, subst, codes, length, arith}
-use Rattle.std.specs.Prelude.{All, ◌^◌, ◌-◌, is_some, slice_get, unwrap_or, option_map, drop}
-use Rattle.clap.specs.Words.{App, Row, matches_of, rows_of, takes as takes_words, first_of, all_of, first_value, matched_of, raw_values, new_app, with_rule}
+-- What `clap` finds in accepted words: the value of each option, and the files.
+use Rattle.std.proofs.Common.{◌≡◌, ◌∙◌, ◌++◌, ◌≤◌, ◌&&◌, ◌||◌, Bool, true, false, List, [], ◌∷◌, Option, Some, None, refl, sym, ap, ap₂, subst, codes, length, arith, fold, cond, append-nil, true≢false}
+use Rattle.std.specs.Prelude.{All, ◌^◌, ◌-◌, bytes_eq, is_some, slice_get, unwrap_or, option_map, drop, nat_le, if◌then◌else◌}
+use Rattle.std.specs.List.{list_all, list_any}
+use Rattle.std.specs.Option.{option_map_or}
+use Rattle.std.proofs.lemmas.Bool.{and_parts, le-leb}
+use Rattle.clap.specs.Words.{App, Row, Rule, matches_of, rows_of, takes as takes_words, first_of, all_of, first_value}
+use Rattle.clap.specs.Walk.{Names, Walk, walk, walked, nothing_held, used_by_id, more_values, reading_by, with_default, has_row, settled, finished, arg_by_id, arg_by_index}
+use Rattle.clap.specs.Simple.{argument_words, built, entered, is_simple, names_of}
+use Rattle.clap.specs.Takes.{default_passes, entered_passes, is_valid, level_passes, settle_passes, turn_passes, use_passes, value_passes, walk_passes}
+use Rattle.clap.specs.Lexer.{usize_max}
 use Rattle.clap.specs.declared.parser.matches.Found.{Found}
-use Rattle.clap.proofs.OnLiterals.{clap_on_literals}
+use Rattle.clap.specs.declared.parser.matches.ValueSource.TheVariants.{CommandLine}
 use Rattle.clap.proofs.WalkLemmas.{first_value-rows, raw_values-rows}
 use Rattle.ms_words.specs.declared.commands.Command.TheVariants as made
-use Rattle.ms_words.specs.declared.commands.Options.{Options}
 use Rattle.ms_words.specs.declared.names.CommandName.{CommandName}
 use Rattle.ms_words.specs.declared.names.CommandName.TheVariants.{Instrument, Run, Check, Explain, Corpus, Gen}
 use Rattle.ms_words.specs.declared.names.OptionName.{OptionName}
 use Rattle.ms_words.specs.declared.names.OptionName.TheVariants as option
-use Rattle.ms_words.specs.declared.names.Takes.TheVariants.{Nothing}
-use Rattle.ms_words.specs.Table.{Word, takes, command_word, options_of}
-use Rattle.ms_words.specs.Values.{number, hex_bytes, value_fault}
-use Rattle.ms_words.specs.Reading.{Given}
-use Rattle.ms_words.specs.Words.{value_of, number_by, options_by, explain_options_by, corpus_options_by, no_schedule, check_by, command_by, command_given}
-use Rattle.ms_words.specs.ClapForm.{app_for, files_rule, with_options, spelled, spelled_option, spelled_options}
-use Rattle.ms_words.specs.Fields.{Fits, FitsRun, FitsScheduled, FitsCheck, FitsCorpus, found_value, found_file, found_inputs, found_by}
+use Rattle.ms_words.specs.declared.names.Takes.{Takes}
+use Rattle.ms_words.specs.declared.names.Takes.TheVariants.{Nothing, Anything, Hex, Number}
+use Rattle.ms_words.specs.Table.{Word, takes, option_word, options_of}
+use Rattle.ms_words.specs.Values.{hex_bytes, value_fault}
+use Rattle.ms_words.specs.Reading.{Given, takes_nothing, option_eq}
+use Rattle.ms_words.specs.Words.{value_of, number_by, no_schedule, check_by, command_by, command_given}
+use Rattle.ms_words.specs.ClapForm.{app_for, spelled, spelled_options}
+use Rattle.ms_words.specs.Fields.{Fits, FitsRun, FitsReports, FitsScheduled, found_value, found_file, found_inputs, found_by}
 use Rattle.ms_words.specs.Accepted.{Whole}
-use Rattle.ms_words.proofs.Files.{corpus_form, corpus_takes, corpus_workers, corpus_fill, corpus_steps, corpus_reports, corpus_locations, corpus_calls, corpus_file, corpus_files}
 use Rattle.ms_words.proofs.GoodValues.{IsGood, good_value, hex_good, number_good}
+use Rattle.ms_words.proofs.Rows.{look, look_first, look_second, look_kept, has_none, at_absent, new_row, fits, unset, first_text}
+use Rattle.ms_words.proofs.Tables.{option_self, same_option, few_files}
+use Rattle.ms_words.proofs.Walking.{IsKnown, are_apart, files_built, texts_for, row_in, option_rows, all_rows, other_rows, so_far, after_files, end_of, words_walked}
 
--- ---- the command that runs a module, by its words' form
+-- ---- the commands of `clap`
 
-abbrev run_app : Word → App
-run_app word = with_rule (with_options (new_app word) (options_of Run)) files_rule
+abbrev built_app : CommandName → App
+built_app c = built (app_for c)
 
-abbrev run_form : Word → Option Word → (fill steps reports schedule : Word) → (locations calls : Option Word) → (file : Word) → List Word
-run_form word input fill steps reports schedule locations calls file =
-    word ∷ ((spelled_option option.Input input ++ (spelled_option option.Fill (Some fill) ++ (spelled_option option.Steps (Some steps)
-    ++ (spelled_option option.Reports (Some reports) ++ (spelled_option option.Schedule (Some schedule) ++ (spelled_option option.Where locations
-    ++ (spelled_option option.Calls calls ++ []))))))) ++ codes "--" ∷ file ∷ [])
+abbrev rules_for : CommandName → List Rule
+rules_for c = (built_app c).top.rules
 
-run_takes : (word : Word) (a : Option Word) (b c d s : Word) (e k : Option Word) (f : Word) → takes_words (run_app word) (run_form word a b c d s e k f) ≡ true
-unfolding clap_on_literals
-run_takes word None b c d s None None f = refl
-run_takes word None b c d s None (Some k) f = refl
-run_takes word None b c d s (Some e) None f = refl
-run_takes word None b c d s (Some e) (Some k) f = refl
-run_takes word (Some a) b c d s None None f = refl
-run_takes word (Some a) b c d s None (Some k) f = refl
-run_takes word (Some a) b c d s (Some e) None f = refl
-run_takes word (Some a) b c d s (Some e) (Some k) f = refl
+-- what a command computes to
+record Reads (c : CommandName) : Type 0 where
+  pub simple : is_simple (app_for c) ≡ true
+  pub names : names_of (built_app c) ≡ []
+  pub binary : (app_for c).top.no_binary_name ≡ false
+  pub known : IsKnown (rules_for c) (options_of c)
+  pub apart : are_apart (options_of c) ≡ true
+  pub index : arg_by_index (rules_for c) 1 ≡ Some files_built
+  pub files : arg_by_id (rules_for c) (codes "files") ≡ Some files_built
+  pub defaults : list_all default_passes (rules_for c) ≡ true
+  pub valid : (rows : List Row) → is_valid (built_app c).top rows false ≡ true
+  pub unset : list_all (λ o. list_all (fits (takes o) (option_word o)) (rules_for c)) (options_of c) ≡ true
 
-run_input : (word : Word) (a : Option Word) (b c d s : Word) (e k : Option Word) (f : Word) → first_of (codes "input") (matches_of (run_app word) (run_form word a b c d s e k f)) ≡ a
-unfolding clap_on_literals
-run_input word None b c d s None None f = refl
-run_input word None b c d s None (Some k) f = refl
-run_input word None b c d s (Some e) None f = refl
-run_input word None b c d s (Some e) (Some k) f = refl
-run_input word (Some a) b c d s None None f = refl
-run_input word (Some a) b c d s None (Some k) f = refl
-run_input word (Some a) b c d s (Some e) None f = refl
-run_input word (Some a) b c d s (Some e) (Some k) f = refl
+-- `known` has one equation for each option
+reads : (c : CommandName) → Reads c
+reads Instrument = record { simple = refl; names = refl; binary = refl; known = tt; apart = refl; index = refl; files = refl; defaults = refl; valid = λ rows. refl; unset = refl }
+reads Run = record {
+  simple = refl;
+  names = refl;
+  binary = refl;
+  known = (refl, (refl, (refl, (refl, (refl, (refl, (refl, (refl, tt))))))));
+  apart = refl;
+  index = refl;
+  files = refl;
+  defaults = refl;
+  valid = λ rows. refl;
+  unset = refl;
+}
+reads Check = record {
+  simple = refl;
+  names = refl;
+  binary = refl;
+  known = (refl, (refl, (refl, (refl, (refl, (refl, (refl, (refl, (refl, (refl, tt))))))))));
+  apart = refl;
+  index = refl;
+  files = refl;
+  defaults = refl;
+  valid = λ rows. refl;
+  unset = refl;
+}
+reads Explain = record {
+  simple = refl;
+  names = refl;
+  binary = refl;
+  known = (refl, (refl, (refl, (refl, (refl, tt)))));
+  apart = refl;
+  index = refl;
+  files = refl;
+  defaults = refl;
+  valid = λ rows. refl;
+  unset = refl;
+}
+reads Corpus = record {
+  simple = refl;
+  names = refl;
+  binary = refl;
+  known = (refl, (refl, (refl, (refl, (refl, (refl, (refl, tt)))))));
+  apart = refl;
+  index = refl;
+  files = refl;
+  defaults = refl;
+  valid = λ rows. refl;
+  unset = refl;
+}
+reads Gen = record {
+  simple = refl;
+  names = refl;
+  binary = refl;
+  known = (refl, (refl, (refl, tt)));
+  apart = refl;
+  index = refl;
+  files = refl;
+  defaults = refl;
+  valid = λ rows. refl;
+  unset = refl;
+}
 
-run_fill : (word : Word) (a : Option Word) (b c d s : Word) (e k : Option Word) (f : Word) → first_of (codes "fill") (matches_of (run_app word) (run_form word a b c d s e k f)) ≡ Some b
-unfolding clap_on_literals
-run_fill word None b c d s None None f = refl
-run_fill word None b c d s None (Some k) f = refl
-run_fill word None b c d s (Some e) None f = refl
-run_fill word None b c d s (Some e) (Some k) f = refl
-run_fill word (Some a) b c d s None None f = refl
-run_fill word (Some a) b c d s None (Some k) f = refl
-run_fill word (Some a) b c d s (Some e) None f = refl
-run_fill word (Some a) b c d s (Some e) (Some k) f = refl
+-- no option has the name of the files
+apart_from_files : (o : OptionName) → (bytes_eq (option_word o) (codes "files") ≡ false) × (bytes_eq (codes "files") (option_word o) ≡ false)
+apart_from_files option.Input = (refl, refl)
+apart_from_files option.Fill = (refl, refl)
+apart_from_files option.Steps = (refl, refl)
+apart_from_files option.Reports = (refl, refl)
+apart_from_files option.Schedule = (refl, refl)
+apart_from_files option.Schedules = (refl, refl)
+apart_from_files option.Workers = (refl, refl)
+apart_from_files option.Seed = (refl, refl)
+apart_from_files option.Functions = (refl, refl)
+apart_from_files option.Run = (refl, refl)
+apart_from_files option.Where = (refl, refl)
+apart_from_files option.Calls = (refl, refl)
+apart_from_files option.Once = (refl, refl)
 
-run_steps : (word : Word) (a : Option Word) (b c d s : Word) (e k : Option Word) (f : Word) → first_of (codes "steps") (matches_of (run_app word) (run_form word a b c d s e k f)) ≡ Some c
-unfolding clap_on_literals
-run_steps word None b c d s None None f = refl
-run_steps word None b c d s None (Some k) f = refl
-run_steps word None b c d s (Some e) None f = refl
-run_steps word None b c d s (Some e) (Some k) f = refl
-run_steps word (Some a) b c d s None None f = refl
-run_steps word (Some a) b c d s None (Some k) f = refl
-run_steps word (Some a) b c d s (Some e) None f = refl
-run_steps word (Some a) b c d s (Some e) (Some k) f = refl
+-- ---- the rows of accepted words
 
-run_reports : (word : Word) (a : Option Word) (b c d s : Word) (e k : Option Word) (f : Word) → first_of (codes "reports") (matches_of (run_app word) (run_form word a b c d s e k f)) ≡ Some d
-unfolding clap_on_literals
-run_reports word None b c d s None None f = refl
-run_reports word None b c d s None (Some k) f = refl
-run_reports word None b c d s (Some e) None f = refl
-run_reports word None b c d s (Some e) (Some k) f = refl
-run_reports word (Some a) b c d s None None f = refl
-run_reports word (Some a) b c d s None (Some k) f = refl
-run_reports word (Some a) b c d s (Some e) None f = refl
-run_reports word (Some a) b c d s (Some e) (Some k) f = refl
+abbrev files_row : List Word → Row
+files_row files = new_row (codes "files") (reading_by files_built) CommandLine files
 
-run_schedule : (word : Word) (a : Option Word) (b c d s : Word) (e k : Option Word) (f : Word) → first_of (codes "schedule") (matches_of (run_app word) (run_form word a b c d s e k f)) ≡ Some s
-unfolding clap_on_literals
-run_schedule word None b c d s None None f = refl
-run_schedule word None b c d s None (Some k) f = refl
-run_schedule word None b c d s (Some e) None f = refl
-run_schedule word None b c d s (Some e) (Some k) f = refl
-run_schedule word (Some a) b c d s None None f = refl
-run_schedule word (Some a) b c d s None (Some k) f = refl
-run_schedule word (Some a) b c d s (Some e) None f = refl
-run_schedule word (Some a) b c d s (Some e) (Some k) f = refl
+abbrev files_rows : List Word → List Row
+files_rows [] = []
+files_rows (file ∷ files) = files_row (file ∷ files) ∷ []
 
-run_file : (word : Word) (a : Option Word) (b c d s : Word) (e k : Option Word) (f : Word) → first_of (codes "files") (matches_of (run_app word) (run_form word a b c d s e k f)) ≡ Some f
-unfolding clap_on_literals
-run_file word None b c d s None None f = refl
-run_file word None b c d s None (Some k) f = refl
-run_file word None b c d s (Some e) None f = refl
-run_file word None b c d s (Some e) (Some k) f = refl
-run_file word (Some a) b c d s None None f = refl
-run_file word (Some a) b c d s None (Some k) f = refl
-run_file word (Some a) b c d s (Some e) None f = refl
-run_file word (Some a) b c d s (Some e) (Some k) f = refl
+no_file_row : (o : OptionName) (v : Option Word) → look (codes "files") (option_rows o v) ≡ None
+no_file_row o None = refl
+no_file_row o (Some v) = ap (λ (b : Bool). cond b (Some (row_in o v)) None) (apart_from_files o).0
 
-run_locations : (word : Word) (a : Option Word) (b c d s : Word) (e k : Option Word) (f : Word)
-    → is_some (found_by Nothing (first_of (codes "where") (matches_of (run_app word) (run_form word a b c d s e k f)))) ≡ is_some e
-unfolding clap_on_literals
-run_locations word None b c d s None None f = refl
-run_locations word None b c d s None (Some k) f = refl
-run_locations word None b c d s (Some e) None f = refl
-run_locations word None b c d s (Some e) (Some k) f = refl
-run_locations word (Some a) b c d s None None f = refl
-run_locations word (Some a) b c d s None (Some k) f = refl
-run_locations word (Some a) b c d s (Some e) None f = refl
-run_locations word (Some a) b c d s (Some e) (Some k) f = refl
+no_option_row : (o : OptionName) (files : List Word) → look (option_word o) (files_rows files) ≡ None
+no_option_row o [] = refl
+no_option_row o (file ∷ files) = ap (λ (b : Bool). cond b (Some (files_row (file ∷ files))) None) (apart_from_files o).1
 
-run_calls : (word : Word) (a : Option Word) (b c d s : Word) (e k : Option Word) (f : Word)
-    → is_some (found_by Nothing (first_of (codes "calls") (matches_of (run_app word) (run_form word a b c d s e k f)))) ≡ is_some k
-unfolding clap_on_literals
-run_calls word None b c d s None None f = refl
-run_calls word None b c d s None (Some k) f = refl
-run_calls word None b c d s (Some e) None f = refl
-run_calls word None b c d s (Some e) (Some k) f = refl
-run_calls word (Some a) b c d s None None f = refl
-run_calls word (Some a) b c d s None (Some k) f = refl
-run_calls word (Some a) b c d s (Some e) None f = refl
-run_calls word (Some a) b c d s (Some e) (Some k) f = refl
+none_among : (id : Word) (g : Given) → ((p : OptionName) → look id (option_rows p (value_of p g)) ≡ None) → (os : List OptionName) → look id (all_rows os g) ≡ None
+none_among id g none [] = refl
+none_among id g none (o ∷ os) = look_second id (option_rows o (value_of o g)) (all_rows os g) (none o) ∙ none_among id g none os
+
+no_files_yet : (os : List OptionName) (g : Given) → look (codes "files") (all_rows os g) ≡ None
+no_files_yet os g = none_among (codes "files") g (λ p. no_file_row p (value_of p g)) os
+
+-- an option without a value has no row
+missing_by : (b : Bool) (p o : OptionName) (g : Given) → option_eq p o ≡ b → value_of o g ≡ None → look (option_word o) (option_rows p (value_of p g)) ≡ None
+missing_by true p o g is none =
+    ap (λ (q : OptionName). look (option_word o) (option_rows q (value_of q g))) (same_option p o is) ∙ ap (λ (v : Option Word). look (option_word o) (option_rows o v)) none
+missing_by false p o g is none = other_rows p o (value_of p g) is
+
+missing : (os : List OptionName) (o : OptionName) (g : Given) → value_of o g ≡ None → look (option_word o) (all_rows os g) ≡ None
+missing os o g none = none_among (option_word o) g (λ p. missing_by (option_eq p o) p o g refl none) os
+
+-- and one that has a value, the row of this value
+own_row : (o : OptionName) (v : Word) → look (option_word o) (option_rows o (Some v)) ≡ Some (row_in o v)
+own_row o v = ap (λ (b : Bool). cond b (Some (row_in o v)) None) (option_self o)
+
+present_by : (b : Bool) (p o : OptionName) (os : List OptionName) (g : Given) (v : Word) → option_eq p o ≡ b → value_of o g ≡ Some v → (b || list_any (λ q. option_eq q o) os) ≡ true
+    → (list_any (λ q. option_eq q o) os ≡ true → look (option_word o) (all_rows os g) ≡ Some (row_in o v))
+    → look (option_word o) (option_rows p (value_of p g) ++ all_rows os g) ≡ Some (row_in o v)
+present_by true p o os g v is has any rest =
+    look_first (option_word o) (option_rows p (value_of p g)) (all_rows os g) (row_in o v)
+    (ap (λ (q : OptionName). look (option_word o) (option_rows q (value_of q g))) (same_option p o is)
+    ∙ ap (λ (w : Option Word). look (option_word o) (option_rows o w)) has ∙ own_row o v)
+present_by false p o os g v is has any rest =
+    look_second (option_word o) (option_rows p (value_of p g)) (all_rows os g) (other_rows p o (value_of p g) is) ∙ rest any
+
+present : (os : List OptionName) (o : OptionName) (g : Given) (v : Word) → value_of o g ≡ Some v → list_any (λ q. option_eq q o) os ≡ true
+    → look (option_word o) (all_rows os g) ≡ Some (row_in o v)
+present [] o g v has any = absurd (true≢false (sym any))
+present (p ∷ os) o g v has any = present_by (option_eq p o) p o os g v refl has any (present os o g v has)
+
+-- ---- the end of the words
+
+settled_end : (rules : List Rule) → arg_by_id rules (codes "files") ≡ Some files_built → (rows : List Row) (files : List Word) → has_row (codes "files") rows ≡ false
+    → (settled rules (end_of rows files).held).rows ≡ rows ++ files_rows files
+settled_end rules is rows [] none = sym (append-nil rows)
+settled_end rules is rows (file ∷ files) none =
+    ap (λ (a : Option Rule). used_by_id a (file ∷ files) rows) is
+    ∙ at_absent (codes "files") (more_values CommandLine (file ∷ files)) (files_row (file ∷ files) ∷ []) rows none
+
+-- the words after the command
+abbrev words_of : CommandName → Given → List Word
+words_of c g = spelled_options (options_of c) g ++ codes "--" ∷ g.files
+
+words_after : (c : CommandName) (g : Given) → argument_words (app_for c) (spelled c g) ≡ words_of c g
+words_after c g = ap (λ (b : Bool). if b then spelled c g else drop 1 (spelled c g)) (reads c).binary
+
+abbrev end : CommandName → Given → Walk
+end c g = end_of (all_rows (options_of c) g) g.files
+
+walk_ends : (c : CommandName) (g : Given) → fold (walked (rules_for c) []) (so_far []) (words_of c g) ≡ end c g
+walk_ends c g =
+    words_walked (built_app c).top (reads c).index (λ (w : Walk) (words : List Word). fold (walked (rules_for c) []) w words) (λ w word rest passes. refl)
+    (options_of c) g (reads c).known (reads c).apart
+
+abbrev end_rows : CommandName → Given → List Row
+end_rows c g = all_rows (options_of c) g ++ files_rows g.files
+
+rows_at_end : (c : CommandName) (g : Given) → matches_of (app_for c) (spelled c g) ≡ fold with_default (end_rows c g) (rules_for c)
+rows_at_end c g =
+    ap₂ (λ (names : Names) (words : List Word). finished (rules_for c) (walk (rules_for c) names nothing_held words).held) (reads c).names (words_after c g)
+    ∙ ap (λ (w : Walk). finished (rules_for c) w.held) (walk_ends c g)
+    ∙ ap (λ (rows : List Row). fold with_default rows (rules_for c))
+    (settled_end (rules_for c) (reads c).files (all_rows (options_of c) g) g.files (has_none (codes "files") (all_rows (options_of c) g) (no_files_yet (options_of c) g)))
+
+-- ---- the command of `clap` takes accepted words
+
+step_passed : (c : CommandName) (w : Walk) (word : Word) (rest : List Word) → turn_passes (built_app c).top [] w word ≡ true
+    → walk_passes (built_app c).top [] w (word ∷ rest) ≡ walk_passes (built_app c).top [] (walked (rules_for c) [] w word) rest
+unfolding walk_passes
+step_passed c w word rest passes = ap (λ (b : Bool). b && walk_passes (built_app c).top [] (walked (rules_for c) [] w word) rest) passes
+
+none_left : (c : CommandName) (w : Walk) → walk_passes (built_app c).top [] w [] ≡ true
+unfolding walk_passes
+none_left c w = refl
+
+walk_passed : (c : CommandName) (g : Given) → walk_passes (built_app c).top [] (so_far []) (words_of c g) ≡ true
+walk_passed c g =
+    words_walked (built_app c).top (reads c).index (λ (w : Walk) (words : List Word). walk_passes (built_app c).top [] w words) (step_passed c)
+    (options_of c) g (reads c).known (reads c).apart
+    ∙ none_left c (end c g)
+
+abbrev again : CommandName → Bool
+again c = (built_app c).top.args_override_self
+
+abbrev passes_by : CommandName → Bool → Walk → Bool
+passes_by c passes end =
+    entered_passes (built_app c) end.stopped && (passes && (settle_passes (rules_for c) (again c) end.held
+    && (list_all default_passes (rules_for c) && is_valid (built_app c).top (finished (rules_for c) end.held) (is_some (entered (built_app c) end.stopped)))))
+
+abbrev takes_with : CommandName → Bool → Names → List Word → Bool
+takes_with c simple names words =
+    let stop = (walk (rules_for c) names nothing_held words).stopped in
+    simple && (entered_passes (built_app c) stop && level_passes (built_app c).top names nothing_held words (is_some (entered (built_app c) stop)))
+
+each_passes : (files : List Word) → list_all (value_passes files_built) files ≡ true
+each_passes [] = refl
+each_passes (file ∷ files) = each_passes files
+
+files_pass : (b : Bool) (rows : List Row) (file : Word) (rest : List Word) → length (file ∷ rest) ≤ 257 → use_passes b files_built (file ∷ rest) rows ≡ true
+files_pass b rows file rest few =
+    let some : nat_le 1 (length (file ∷ rest)) ≡ true = le-leb 1 (length (file ∷ rest)) (omega arith) in
+    let below : nat_le (length (file ∷ rest)) usize_max ≡ true = le-leb (length (file ∷ rest)) usize_max (omega (arith, few)) in
+    ap₂ (λ (x y : Bool). x && (y && list_all (value_passes files_built) (file ∷ rest))) some below ∙ each_passes (file ∷ rest)
+
+end_passes : (c : CommandName) (rows : List Row) (files : List Word) → length files ≤ 257 → passes_by c true (end_of rows files) ≡ true
+end_passes c rows [] few =
+    ap (λ (b : Bool). b && is_valid (built_app c).top (finished (rules_for c) (end_of rows []).held) false) (reads c).defaults
+    ∙ (reads c).valid (finished (rules_for c) (end_of rows []).held)
+end_passes c rows (file ∷ rest) few =
+    ap₂ (λ (x y : Bool). x && (y && is_valid (built_app c).top (finished (rules_for c) (after_files rows (file ∷ rest)).held) false))
+    (ap (λ (a : Option Rule). option_map_or (λ (r : Rule). use_passes (again c) r (file ∷ rest) rows) a true) (reads c).files ∙ files_pass (again c) rows file rest few)
+    (reads c).defaults
+    ∙ (reads c).valid (finished (rules_for c) (after_files rows (file ∷ rest)).held)
+
+pub takes_spelled : (c : CommandName) (g : Given) → Whole c g → takes_words (app_for c) (spelled c g) ≡ true
+takes_spelled c g whole =
+    let few : length g.files ≤ 257 = omega (arith, whole.few, few_files c) in
+    ap (λ (b : Bool). takes_with c b (names_of (built_app c)) (argument_words (app_for c) (spelled c g))) (reads c).simple
+    ∙ ap₂ (takes_with c true) (reads c).names (words_after c g)
+    ∙ ap₂ (passes_by c) (walk_passed c g) (walk_ends c g)
+    ∙ end_passes c (all_rows (options_of c) g) g.files few
+
+-- ---- the value of an option
+
+abbrev shown : Takes → Option Word → Option Word
+shown t None = None
+shown t (Some v) = Some (if takes_nothing t then [] else v)
+
+shown_row : (t : Takes) (v : Word) → found_by t (slice_get (texts_for t v) 0) ≡ shown t (Some v)
+shown_row Nothing v = refl
+shown_row Anything v = refl
+shown_row (Hex most) v = refl
+shown_row (Number least most) v = refl
+
+shown_value : (t : Takes) (v : Option Word) → takes_nothing t ≡ false → shown t v ≡ v
+shown_value t None plain = refl
+shown_value t (Some v) plain = ap (λ (b : Bool). Some (if b then [] else v)) plain
+
+shown_flag : (t : Takes) (v : Option Word) → is_some (shown t v) ≡ is_some v
+shown_flag t None = refl
+shown_flag t (Some v) = refl
+
+-- what holds of all options of a list holds of one that is in it
+of_all_by : (b : Bool) (P : OptionName → Bool) (p o : OptionName) (os : List OptionName) → option_eq p o ≡ b → P p ≡ true → (b || list_any (λ q. option_eq q o) os) ≡ true
+    → (list_any (λ q. option_eq q o) os ≡ true → P o ≡ true) → P o ≡ true
+of_all_by true P p o os is here any rest = ap P (sym (same_option p o is)) ∙ here
+of_all_by false P p o os is here any rest = rest any
+
+of_all : (P : OptionName → Bool) (os : List OptionName) (o : OptionName) → list_all P os ≡ true → list_any (λ q. option_eq q o) os ≡ true → P o ≡ true
+of_all P [] o all any = absurd (true≢false (sym any))
+of_all P (p ∷ os) o all any =
+    let both = and_parts (P p) (list_all P os) all in
+    of_all_by (option_eq p o) P p o os refl both.0 any (of_all P os o both.1)
+
+abbrev Has : CommandName → OptionName → Type 0
+Has c o = list_any (λ q. option_eq q o) (options_of c) ≡ true
+
+found_as : (c : CommandName) (g : Given) (o : OptionName) (v : Option Word) → Has c o → value_of o g ≡ v
+    → found_by (takes o) (first_of (option_word o) (fold with_default (end_rows c g) (rules_for c))) ≡ shown (takes o) v
+found_as c g o None has is =
+    unset (takes o) (option_word o) (rules_for c) (end_rows c g)
+    (of_all (λ p. list_all (fits (takes p) (option_word p)) (rules_for c)) (options_of c) o (reads c).unset has)
+    (look_second (option_word o) (all_rows (options_of c) g) (files_rows g.files) (missing (options_of c) o g is) ∙ no_option_row o g.files)
+found_as c g o (Some v) has is =
+    ap (λ (r : Option Row). found_by (takes o) (first_text r))
+    (look_kept (rules_for c) (end_rows c g) (option_word o) (row_in o v)
+    (look_first (option_word o) (all_rows (options_of c) g) (files_rows g.files) (row_in o v) (present (options_of c) o g v is has)))
+    ∙ shown_row (takes o) v
 
 at : (f : Found) (id : Word) (rows : List Row) → rows_of f ≡ rows → first_value f id ≡ first_of id rows
 at f id rows are = first_value-rows f id ∙ ap (first_of id) are
 
-run_fields : (word : Word) (a : Option Word) (b c d s : Word) (e k : Option Word) (file : Word) (f : Found) → rows_of f ≡ matches_of (run_app word) (run_form word a b c d s e k file)
-    → (options_by (found_value f) ≡ record { input = a; fill = hex_bytes b; steps = number c; reports = number d; schedule = hex_bytes s; locations = is_some e; calls = is_some k })
-    × (found_file f ≡ file)
-run_fields word a b c d s e k file f are =
-    let input = at f (codes "input") _ are ∙ run_input word a b c d s e k file in
-    let fill = at f (codes "fill") _ are ∙ run_fill word a b c d s e k file in
-    let steps = at f (codes "steps") _ are ∙ run_steps word a b c d s e k file in
-    let reports = at f (codes "reports") _ are ∙ run_reports word a b c d s e k file in
-    let schedule = at f (codes "schedule") _ are ∙ run_schedule word a b c d s e k file in
-    let locations = ap (λ (v : Option Word). is_some (found_by Nothing v)) (at f (codes "where") _ are) ∙ run_locations word a b c d s e k file in
-    let calls = ap (λ (v : Option Word). is_some (found_by Nothing v)) (at f (codes "calls") _ are) ∙ run_calls word a b c d s e k file in
-    let files = at f (codes "files") _ are ∙ run_file word a b c d s e k file in (
-      rw (input, fill, steps, reports, schedule, locations, calls) refl,
-      rw files refl,
-    )
+module _ (c : CommandName) (g : Given) (f : Found) (are : rows_of f ≡ matches_of (app_for c) (spelled c g)) where
+  found : (o : OptionName) → Has c o → found_value f o ≡ shown (takes o) (value_of o g)
+  found o has = ap (found_by (takes o)) (at f (option_word o) _ (are ∙ rows_at_end c g)) ∙ found_as c g o (value_of o g) has refl
 
--- ---- the command that checks a module, by its words' form
+  value_found : (o : OptionName) → Has c o → takes_nothing (takes o) ≡ false → found_value f o ≡ value_of o g
+  value_found o has plain = found o has ∙ shown_value (takes o) (value_of o g) plain
 
-abbrev check_form : Option Word → (fill steps reports schedule : Word) → (schedules : Option Word) → (workers : Word) → (locations calls : Option Word) → (file : Word) → List Word
-check_form input fill steps reports schedule schedules workers locations calls file =
-    codes "check" ∷ ((spelled_option option.Input input ++ (spelled_option option.Fill (Some fill) ++ (spelled_option option.Steps (Some steps)
-    ++ (spelled_option option.Reports (Some reports) ++ (spelled_option option.Schedule (Some schedule) ++ (spelled_option option.Schedules schedules
-    ++ (spelled_option option.Workers (Some workers) ++ (spelled_option option.Where locations ++ (spelled_option option.Calls calls ++ []))))))))) ++ codes "--" ∷ file ∷ [])
+  flag_found : (o : OptionName) → Has c o → is_some (found_value f o) ≡ is_some (value_of o g)
+  flag_found o has = ap is_some (found o has) ∙ shown_flag (takes o) (value_of o g)
 
-check_takes : (a : Option Word) (b c d s : Word) (n : Option Word) (w : Word) (e k : Option Word) (file : Word) → takes_words (app_for Check) (check_form a b c d s n w e k file) ≡ true
-unfolding clap_on_literals
-check_takes None b c d s None w None None file = refl
-check_takes None b c d s None w None (Some k) file = refl
-check_takes None b c d s None w (Some e) None file = refl
-check_takes None b c d s None w (Some e) (Some k) file = refl
-check_takes None b c d s (Some n) w None None file = refl
-check_takes None b c d s (Some n) w None (Some k) file = refl
-check_takes None b c d s (Some n) w (Some e) None file = refl
-check_takes None b c d s (Some n) w (Some e) (Some k) file = refl
-check_takes (Some a) b c d s None w None None file = refl
-check_takes (Some a) b c d s None w None (Some k) file = refl
-check_takes (Some a) b c d s None w (Some e) None file = refl
-check_takes (Some a) b c d s None w (Some e) (Some k) file = refl
-check_takes (Some a) b c d s (Some n) w None None file = refl
-check_takes (Some a) b c d s (Some n) w None (Some k) file = refl
-check_takes (Some a) b c d s (Some n) w (Some e) None file = refl
-check_takes (Some a) b c d s (Some n) w (Some e) (Some k) file = refl
+  -- ---- the files
 
-pub record CheckFound (a : Option Word) (b c d s : Word) (n : Option Word) (w : Word) (e k : Option Word) (file : Word) (rows : List Row) : Type 0 where
-  pub input : first_of (codes "input") rows ≡ a
-  pub fill : first_of (codes "fill") rows ≡ Some b
-  pub steps : first_of (codes "steps") rows ≡ Some c
-  pub reports : first_of (codes "reports") rows ≡ Some d
-  pub schedule : first_of (codes "schedule") rows ≡ Some s
-  pub schedules : first_of (codes "schedules") rows ≡ n
-  pub workers : first_of (codes "workers") rows ≡ Some w
-  pub locations : is_some (found_by Nothing (first_of (codes "where") rows)) ≡ is_some e
-  pub calls : is_some (found_by Nothing (first_of (codes "calls") rows)) ≡ is_some k
-  pub files : first_of (codes "files") rows ≡ Some file
+  files_looked : (rows : List Row) (files : List Word) → look (codes "files") rows ≡ None → 1 ≤ length files
+      → look (codes "files") (fold with_default (rows ++ files_rows files) (rules_for c)) ≡ Some (files_row files)
+  files_looked rows [] none some = absurd (omega (arith, some))
+  files_looked rows (file ∷ files) none some =
+      look_kept (rules_for c) (rows ++ files_rows (file ∷ files)) (codes "files") (files_row (file ∷ files)) (look_second (codes "files") rows (files_rows (file ∷ files)) none)
 
-check_found : (a : Option Word) (b c d s : Word) (n : Option Word) (w : Word) (e k : Option Word) (file : Word)
-    → CheckFound a b c d s n w e k file (matches_of (app_for Check) (check_form a b c d s n w e k file))
-unfolding clap_on_literals
-check_found None b c d s None w None None file = record { input = refl; fill = refl; steps = refl; reports = refl; schedule = refl; schedules = refl; workers = refl; locations = refl; calls = refl; files = refl }
-check_found None b c d s None w None (Some k) file = record { input = refl; fill = refl; steps = refl; reports = refl; schedule = refl; schedules = refl; workers = refl; locations = refl; calls = refl; files = refl }
-check_found None b c d s None w (Some e) None file = record { input = refl; fill = refl; steps = refl; reports = refl; schedule = refl; schedules = refl; workers = refl; locations = refl; calls = refl; files = refl }
-check_found None b c d s None w (Some e) (Some k) file = record { input = refl; fill = refl; steps = refl; reports = refl; schedule = refl; schedules = refl; workers = refl; locations = refl; calls = refl; files = refl }
-check_found None b c d s (Some n) w None None file = record { input = refl; fill = refl; steps = refl; reports = refl; schedule = refl; schedules = refl; workers = refl; locations = refl; calls = refl; files = refl }
-check_found None b c d s (Some n) w None (Some k) file = record { input = refl; fill = refl; steps = refl; reports = refl; schedule = refl; schedules = refl; workers = refl; locations = refl; calls = refl; files = refl }
-check_found None b c d s (Some n) w (Some e) None file = record { input = refl; fill = refl; steps = refl; reports = refl; schedule = refl; schedules = refl; workers = refl; locations = refl; calls = refl; files = refl }
-check_found None b c d s (Some n) w (Some e) (Some k) file = record { input = refl; fill = refl; steps = refl; reports = refl; schedule = refl; schedules = refl; workers = refl; locations = refl; calls = refl; files = refl }
-check_found (Some a) b c d s None w None None file = record { input = refl; fill = refl; steps = refl; reports = refl; schedule = refl; schedules = refl; workers = refl; locations = refl; calls = refl; files = refl }
-check_found (Some a) b c d s None w None (Some k) file = record { input = refl; fill = refl; steps = refl; reports = refl; schedule = refl; schedules = refl; workers = refl; locations = refl; calls = refl; files = refl }
-check_found (Some a) b c d s None w (Some e) None file = record { input = refl; fill = refl; steps = refl; reports = refl; schedule = refl; schedules = refl; workers = refl; locations = refl; calls = refl; files = refl }
-check_found (Some a) b c d s None w (Some e) (Some k) file = record { input = refl; fill = refl; steps = refl; reports = refl; schedule = refl; schedules = refl; workers = refl; locations = refl; calls = refl; files = refl }
-check_found (Some a) b c d s (Some n) w None None file = record { input = refl; fill = refl; steps = refl; reports = refl; schedule = refl; schedules = refl; workers = refl; locations = refl; calls = refl; files = refl }
-check_found (Some a) b c d s (Some n) w None (Some k) file = record { input = refl; fill = refl; steps = refl; reports = refl; schedule = refl; schedules = refl; workers = refl; locations = refl; calls = refl; files = refl }
-check_found (Some a) b c d s (Some n) w (Some e) None file = record { input = refl; fill = refl; steps = refl; reports = refl; schedule = refl; schedules = refl; workers = refl; locations = refl; calls = refl; files = refl }
-check_found (Some a) b c d s (Some n) w (Some e) (Some k) file = record { input = refl; fill = refl; steps = refl; reports = refl; schedule = refl; schedules = refl; workers = refl; locations = refl; calls = refl; files = refl }
+  files_found : 1 ≤ length g.files → look (codes "files") (fold with_default (end_rows c g) (rules_for c)) ≡ Some (files_row g.files)
+  files_found some = files_looked (all_rows (options_of c) g) g.files (no_files_yet (options_of c) g) some
 
-check_fields : (a : Option Word) (b c d s : Word) (n : Option Word) (w : Word) (e k : Option Word) (file : Word) (f : Found) → rows_of f ≡ matches_of (app_for Check) (check_form a b c d s n w e k file)
-    → check_by (found_value f option.Schedules) (options_by (found_value f)) (number_by (found_value f option.Schedules)) (number_by (found_value f option.Workers)) (found_file f)
-    ≡ check_by n (record { input = a; fill = hex_bytes b; steps = number c; reports = number d; schedule = hex_bytes s; locations = is_some e; calls = is_some k }) (number_by n) (number w) file
-check_fields a b c d s n w e k file f are =
-    let found = check_found a b c d s n w e k file in
-    let input = at f (codes "input") _ are ∙ found.input in
-    let fill = at f (codes "fill") _ are ∙ found.fill in
-    let steps = at f (codes "steps") _ are ∙ found.steps in
-    let reports = at f (codes "reports") _ are ∙ found.reports in
-    let schedule = at f (codes "schedule") _ are ∙ found.schedule in
-    let schedules = at f (codes "schedules") _ are ∙ found.schedules in
-    let workers = at f (codes "workers") _ are ∙ found.workers in
-    let locations = ap (λ (v : Option Word). is_some (found_by Nothing v)) (at f (codes "where") _ are) ∙ found.locations in
-    let calls = ap (λ (v : Option Word). is_some (found_by Nothing v)) (at f (codes "calls") _ are) ∙ found.calls in
-    let files = at f (codes "files") _ are ∙ found.files in
-    rw (input, fill, steps, reports, schedule, schedules, workers, locations, calls, files) refl
+  file_found : 1 ≤ length g.files → found_file f ≡ unwrap_or (slice_get g.files 0) []
+  file_found some =
+      ap (λ (v : Option Word). unwrap_or v []) (at f (codes "files") _ (are ∙ rows_at_end c g)) ∙ ap (λ (r : Option Row). unwrap_or (first_text r) []) (files_found some)
 
--- ---- the command that explains a report, by its words' form
+  inputs_found : 1 ≤ length g.files → found_inputs f ≡ drop 1 g.files
+  inputs_found some =
+      ap (λ (vs : Option (List Word)). drop 1 (unwrap_or vs [])) (raw_values-rows f (codes "files") ∙ ap (all_of (codes "files")) (are ∙ rows_at_end c g))
+      ∙ ap (λ (r : Option Row). drop 1 (unwrap_or (option_map (λ (row : Row). row.values) r) [])) (files_found some)
 
-abbrev explain_form : Option Word → (fill steps : Word) → (locations calls : Option Word) → (file : Word) → List Word
-explain_form input fill steps locations calls file =
-    codes "explain" ∷ ((spelled_option option.Input input ++ (spelled_option option.Fill (Some fill) ++ (spelled_option option.Steps (Some steps)
-    ++ (spelled_option option.Where locations ++ (spelled_option option.Calls calls ++ []))))) ++ codes "--" ∷ file ∷ [])
+  -- ---- values that can be made fields
 
-explain_takes : (a : Option Word) (b c : Word) (e k : Option Word) (file : Word) → takes_words (app_for Explain) (explain_form a b c e k file) ≡ true
-unfolding clap_on_literals
-explain_takes None b c None None file = refl
-explain_takes None b c None (Some k) file = refl
-explain_takes None b c (Some e) None file = refl
-explain_takes None b c (Some e) (Some k) file = refl
-explain_takes (Some a) b c None None file = refl
-explain_takes (Some a) b c None (Some k) file = refl
-explain_takes (Some a) b c (Some e) None file = refl
-explain_takes (Some a) b c (Some e) (Some k) file = refl
+  module _ (all : All (λ p. value_fault (takes p.0) 0 p.1 ≡ None) g.options) where
+    good : (o : OptionName) → Has c o → takes_nothing (takes o) ≡ false → IsGood o (found_value f o)
+    good o has plain = subst (IsGood o) (sym (value_found o has plain)) (good_value o g all)
 
-pub record ExplainFound (a : Option Word) (b c : Word) (e k : Option Word) (file : Word) (rows : List Row) : Type 0 where
-  pub input : first_of (codes "input") rows ≡ a
-  pub fill : first_of (codes "fill") rows ≡ Some b
-  pub steps : first_of (codes "steps") rows ≡ Some c
-  pub locations : is_some (found_by Nothing (first_of (codes "where") rows)) ≡ is_some e
-  pub calls : is_some (found_by Nothing (first_of (codes "calls") rows)) ≡ is_some k
-  pub files : first_of (codes "files") rows ≡ Some file
+    run_fits : Has c option.Fill → Has c option.Steps → FitsRun (found_value f)
+    run_fits fill steps = record {
+      fill = hex_good 2048 _ (good option.Fill fill refl);
+      steps = number_good 0 1000000000 (2 ^ 64 - 1) _ (omega arith) (good option.Steps steps refl);
+    }
 
-explain_found : (a : Option Word) (b c : Word) (e k : Option Word) (file : Word) → ExplainFound a b c e k file (matches_of (app_for Explain) (explain_form a b c e k file))
-unfolding clap_on_literals
-explain_found None b c None None file = record { input = refl; fill = refl; steps = refl; locations = refl; calls = refl; files = refl }
-explain_found None b c None (Some k) file = record { input = refl; fill = refl; steps = refl; locations = refl; calls = refl; files = refl }
-explain_found None b c (Some e) None file = record { input = refl; fill = refl; steps = refl; locations = refl; calls = refl; files = refl }
-explain_found None b c (Some e) (Some k) file = record { input = refl; fill = refl; steps = refl; locations = refl; calls = refl; files = refl }
-explain_found (Some a) b c None None file = record { input = refl; fill = refl; steps = refl; locations = refl; calls = refl; files = refl }
-explain_found (Some a) b c None (Some k) file = record { input = refl; fill = refl; steps = refl; locations = refl; calls = refl; files = refl }
-explain_found (Some a) b c (Some e) None file = record { input = refl; fill = refl; steps = refl; locations = refl; calls = refl; files = refl }
-explain_found (Some a) b c (Some e) (Some k) file = record { input = refl; fill = refl; steps = refl; locations = refl; calls = refl; files = refl }
+    reports_fit : Has c option.Fill → Has c option.Steps → Has c option.Reports → FitsReports (found_value f)
+    reports_fit fill steps reports = record {
+      run = run_fits fill steps;
+      reports = number_good 1 1000 1000 _ (omega arith) (good option.Reports reports refl);
+    }
 
-explain_fields : (a : Option Word) (b c : Word) (e k : Option Word) (file : Word) (f : Found) → rows_of f ≡ matches_of (app_for Explain) (explain_form a b c e k file)
-    → (explain_options_by (found_value f) ≡ record { input = a; fill = hex_bytes b; steps = number c; reports = 1; schedule = no_schedule; locations = is_some e; calls = is_some k })
-    × (found_file f ≡ file)
-explain_fields a b c e k file f are =
-    let found = explain_found a b c e k file in
-    let input = at f (codes "input") _ are ∙ found.input in
-    let fill = at f (codes "fill") _ are ∙ found.fill in
-    let steps = at f (codes "steps") _ are ∙ found.steps in
-    let locations = ap (λ (v : Option Word). is_some (found_by Nothing v)) (at f (codes "where") _ are) ∙ found.locations in
-    let calls = ap (λ (v : Option Word). is_some (found_by Nothing v)) (at f (codes "calls") _ are) ∙ found.calls in
-    let files = at f (codes "files") _ are ∙ found.files in (
-      rw (input, fill, steps, locations, calls) refl,
-      rw files refl,
-    )
+    scheduled_fits : Has c option.Fill → Has c option.Steps → Has c option.Reports → Has c option.Schedule → FitsScheduled (found_value f)
+    scheduled_fits fill steps reports schedule = record {
+      run = reports_fit fill steps reports;
+      schedule = hex_good 2048 _ (good option.Schedule schedule refl);
+    }
 
 -- ---- every command
 
-one_file : (files : List Word) → 1 ≤ length files → length files ≤ 1 → (file : Word) × (files ≡ file ∷ [])
-one_file [] least most = absurd (omega (arith, least))
-one_file (file ∷ []) least most = (file, refl)
-one_file (file ∷ other ∷ rest) least most = absurd (omega (arith, most))
-
-no_files : (files : List Word) → length files ≤ 0 → files ≡ []
-no_files [] most = refl
-no_files (file ∷ rest) most = absurd (omega (arith, most))
-
-instrument_takes : (file : Word) → takes_words (app_for Instrument) (codes "instrument" ∷ codes "--" ∷ file ∷ []) ≡ true
-unfolding clap_on_literals
-instrument_takes file = refl
-
-instrument_file : (file : Word) → first_of (codes "files") (matches_of (app_for Instrument) (codes "instrument" ∷ codes "--" ∷ file ∷ [])) ≡ Some file
-unfolding clap_on_literals
-instrument_file file = refl
-
-abbrev gen_form : (seed functions run : Option Word) → List Word
-gen_form seed functions run =
-    codes "gen" ∷ ((spelled_option option.Seed seed ++ (spelled_option option.Functions functions ++ (spelled_option option.Run run ++ []))) ++ codes "--" ∷ [])
-
-gen_takes : (a b c : Option Word) → takes_words (app_for Gen) (gen_form a b c) ≡ true
-unfolding clap_on_literals
-gen_takes None None None = refl
-gen_takes None None (Some c) = refl
-gen_takes None (Some b) None = refl
-gen_takes None (Some b) (Some c) = refl
-gen_takes (Some a) None None = refl
-gen_takes (Some a) None (Some c) = refl
-gen_takes (Some a) (Some b) None = refl
-gen_takes (Some a) (Some b) (Some c) = refl
-
-gen_found : (a b c : Option Word) → let rows = matches_of (app_for Gen) (gen_form a b c) in
-    (first_of (codes "seed") rows ≡ a) × (first_of (codes "functions") rows ≡ b) × (is_some (found_by Nothing (first_of (codes "run") rows)) ≡ is_some c)
-unfolding clap_on_literals
-gen_found None None None = (refl, refl, refl)
-gen_found None None (Some c) = (refl, refl, refl)
-gen_found None (Some b) None = (refl, refl, refl)
-gen_found None (Some b) (Some c) = (refl, refl, refl)
-gen_found (Some a) None None = (refl, refl, refl)
-gen_found (Some a) None (Some c) = (refl, refl, refl)
-gen_found (Some a) (Some b) None = (refl, refl, refl)
-gen_found (Some a) (Some b) (Some c) = (refl, refl, refl)
-
-gen_fields : (a b c : Option Word) (f : Found) → rows_of f ≡ matches_of (app_for Gen) (gen_form a b c)
-    → made.Gen (number_by (found_value f option.Seed)) (number_by (found_value f option.Functions)) (is_some (found_value f option.Run))
-    ≡ made.Gen (number_by a) (number_by b) (is_some c)
-gen_fields a b c f are =
-    let found = gen_found a b c in
-    let seed = at f (codes "seed") _ are ∙ found.0 in
-    let functions = at f (codes "functions") _ are ∙ found.1 in
-    let run = ap (λ (v : Option Word). is_some (found_by Nothing v)) (at f (codes "run") _ are) ∙ found.2 in
-    rw (seed, functions, run) refl
-
-some_files : (files : List Word) → 2 ≤ length files → length files ≤ 257 → (file : Word) × (inputs : List Word) × (files ≡ file ∷ inputs) × (length inputs ≤ 256)
-some_files [] least most = absurd (omega (arith, least))
-some_files (file ∷ inputs) least most = (file, inputs, refl, omega (arith, most))
-
-all_at : (f : Found) (id : Word) (rows : List Row) → rows_of f ≡ rows → option_map raw_values (matched_of f id) ≡ all_of id rows
-all_at f id rows are = raw_values-rows f id ∙ ap (all_of id) are
-
-corpus_fields : (b c d e : Word) (w k : Option Word) (file : Word) (inputs : List Word) (f : Found) → rows_of f ≡ matches_of (app_for Corpus) (corpus_form b c d e w k (file ∷ inputs))
-    → made.Corpus (found_file f) (found_inputs f) (corpus_options_by (found_value f)) (number_by (found_value f option.Workers))
-    ≡ made.Corpus file inputs (record { input = None; fill = hex_bytes c; steps = number d; reports = number e; schedule = no_schedule; locations = is_some w; calls = is_some k }) (number b)
-corpus_fields b c d e w k file inputs f are =
-    let workers = at f (codes "workers") _ are ∙ corpus_workers b c d e w k file inputs in
-    let fill = at f (codes "fill") _ are ∙ corpus_fill b c d e w k file inputs in
-    let steps = at f (codes "steps") _ are ∙ corpus_steps b c d e w k file inputs in
-    let reports = at f (codes "reports") _ are ∙ corpus_reports b c d e w k file inputs in
-    let locations = ap (λ (v : Option Word). is_some (found_by Nothing v)) (at f (codes "where") _ are) ∙ corpus_locations b c d e w k file inputs in
-    let calls = ap (λ (v : Option Word). is_some (found_by Nothing v)) (at f (codes "calls") _ are) ∙ corpus_calls b c d e w k file inputs in
-    let first = at f (codes "files") _ are ∙ corpus_file b c d e w k file inputs in
-    let all = all_at f (codes "files") _ are ∙ corpus_files b c d e w k file inputs in
-    rw (workers, fill, steps, reports, locations, calls, first, all) refl
-
--- the words of a corpus in their form, with its files
-with_files : (g : Given) (files : List Word) (rows : List Row) → g.files ≡ files → rows ≡ matches_of (app_for Corpus) (spelled Corpus g)
-    → rows ≡ matches_of (app_for Corpus) (command_word Corpus ∷ (spelled_options (options_of Corpus) g ++ codes "--" ∷ files))
-with_files g files rows is are =
-    are ∙ ap (λ (files : List Word). matches_of (app_for Corpus) (command_word Corpus ∷ (spelled_options (options_of Corpus) g ++ codes "--" ∷ files))) is
-
--- the command of `clap` takes accepted words
-pub takes_spelled : (c : CommandName) (g : Given) → Whole c g → takes_words (app_for c) (spelled c g) ≡ true
-takes_spelled Instrument g whole = let one = one_file g.files whole.enough whole.few in rw one.1 (instrument_takes one.0)
-takes_spelled Run g whole = let one = one_file g.files whole.enough whole.few in rw one.1 (run_takes (codes "run") (value_of option.Input g) _ _ _ _ (value_of option.Where g) (value_of option.Calls g) one.0)
-takes_spelled Check g whole =
-    let one = one_file g.files whole.enough whole.few in
-    rw one.1 (check_takes (value_of option.Input g) _ _ _ _ (value_of option.Schedules g) _ (value_of option.Where g) (value_of option.Calls g) one.0)
-takes_spelled Explain g whole = let one = one_file g.files whole.enough whole.few in rw one.1 (explain_takes (value_of option.Input g) _ _ (value_of option.Where g) (value_of option.Calls g) one.0)
-takes_spelled Corpus g whole = let some = some_files g.files whole.enough whole.few in rw some.2 (corpus_takes _ _ _ _ (value_of option.Where g) (value_of option.Calls g) some.0 some.1 some.3)
-takes_spelled Gen g whole = rw (no_files g.files whole.few) (gen_takes (value_of option.Seed g) (value_of option.Functions g) (value_of option.Run g))
-
--- the same with its one file
-with_file : (c : CommandName) (g : Given) (file : Word) (rows : List Row) → g.files ≡ file ∷ [] → rows ≡ matches_of (app_for c) (spelled c g)
-    → rows ≡ matches_of (app_for c) (command_word c ∷ (spelled_options (options_of c) g ++ codes "--" ∷ file ∷ []))
-with_file c g file rows is are = are ∙ ap (λ (files : List Word). matches_of (app_for c) (command_word c ∷ (spelled_options (options_of c) g ++ codes "--" ∷ files))) is
-
-first_of_files : (g : Given) (file : Word) → g.files ≡ file ∷ [] → unwrap_or (slice_get g.files 0) [] ≡ file
-first_of_files g file is = rw is refl
-
--- and finds the fields in them
+-- `clap` finds the fields
 pub fields_found : (c : CommandName) (g : Given) (f : Found) → Whole c g → rows_of f ≡ matches_of (app_for c) (spelled c g)
     → command_by c (found_value f) (found_file f) (found_inputs f) ≡ command_given c g
-fields_found Instrument g f whole are =
-    let one = one_file g.files whole.enough whole.few in
-    let found = at f (codes "files") _ (with_file Instrument g one.0 (rows_of f) one.1 are) ∙ instrument_file one.0 in
-    ap (λ (file : Word). made.Instrument file) (ap (λ (o : Option Word). unwrap_or o []) found ∙ sym (first_of_files g one.0 one.1))
+fields_found Instrument g f whole are = ap (λ (file : Word). made.Instrument file) (file_found Instrument g f are (omega (arith, whole.enough)))
 fields_found Run g f whole are =
-    let one = one_file g.files whole.enough whole.few in
-    let fields = run_fields (codes "run") (value_of option.Input g) _ _ _ _ (value_of option.Where g) (value_of option.Calls g) one.0 f (with_file Run g one.0 (rows_of f) one.1 are) in
-    ap₂ (λ (file : Word) (o : Options). made.Run file o) (fields.1 ∙ sym (first_of_files g one.0 one.1)) fields.0
+    let file = file_found Run g f are (omega (arith, whole.enough)) in
+    let input = value_found Run g f are option.Input refl refl in
+    let fill = value_found Run g f are option.Fill refl refl in
+    let steps = value_found Run g f are option.Steps refl refl in
+    let reports = value_found Run g f are option.Reports refl refl in
+    let schedule = value_found Run g f are option.Schedule refl refl in
+    let locations = flag_found Run g f are option.Where refl in
+    let calls = flag_found Run g f are option.Calls refl in
+    let once = flag_found Run g f are option.Once refl in
+    λ i. made.Run (file i) (record {
+      input = input i;
+      fill = option_map_or hex_bytes (fill i) [];
+      steps = number_by (steps i);
+      reports = number_by (reports i);
+      schedule = option_map_or hex_bytes (schedule i) [];
+      locations = locations i;
+      calls = calls i;
+      once = once i;
+    })
 fields_found Check g f whole are =
-    let one = one_file g.files whole.enough whole.few in
-    check_fields (value_of option.Input g) _ _ _ _ (value_of option.Schedules g) _ (value_of option.Where g) (value_of option.Calls g) one.0 f (with_file Check g one.0 (rows_of f) one.1 are)
-    ∙ ap (check_by (value_of option.Schedules g) (options_by (λ o. value_of o g)) (number_by (value_of option.Schedules g)) (number_by (value_of option.Workers g)))
-    (sym (first_of_files g one.0 one.1))
+    let file = file_found Check g f are (omega (arith, whole.enough)) in
+    let input = value_found Check g f are option.Input refl refl in
+    let fill = value_found Check g f are option.Fill refl refl in
+    let steps = value_found Check g f are option.Steps refl refl in
+    let reports = value_found Check g f are option.Reports refl refl in
+    let schedule = value_found Check g f are option.Schedule refl refl in
+    let schedules = value_found Check g f are option.Schedules refl refl in
+    let workers = value_found Check g f are option.Workers refl refl in
+    let locations = flag_found Check g f are option.Where refl in
+    let calls = flag_found Check g f are option.Calls refl in
+    let once = flag_found Check g f are option.Once refl in
+    λ i. check_by (schedules i) (record {
+      input = input i;
+      fill = option_map_or hex_bytes (fill i) [];
+      steps = number_by (steps i);
+      reports = number_by (reports i);
+      schedule = option_map_or hex_bytes (schedule i) [];
+      locations = locations i;
+      calls = calls i;
+      once = once i;
+    }) (number_by (schedules i)) (number_by (workers i)) (file i)
 fields_found Explain g f whole are =
-    let one = one_file g.files whole.enough whole.few in
-    let fields = explain_fields (value_of option.Input g) _ _ (value_of option.Where g) (value_of option.Calls g) one.0 f (with_file Explain g one.0 (rows_of f) one.1 are) in
-    ap₂ (λ (file : Word) (o : Options). made.Explain file o) (fields.1 ∙ sym (first_of_files g one.0 one.1)) fields.0
+    let file = file_found Explain g f are (omega (arith, whole.enough)) in
+    let input = value_found Explain g f are option.Input refl refl in
+    let fill = value_found Explain g f are option.Fill refl refl in
+    let steps = value_found Explain g f are option.Steps refl refl in
+    let locations = flag_found Explain g f are option.Where refl in
+    let calls = flag_found Explain g f are option.Calls refl in
+    λ i. made.Explain (file i) (record {
+      input = input i;
+      fill = option_map_or hex_bytes (fill i) [];
+      steps = number_by (steps i);
+      reports = 1;
+      schedule = no_schedule;
+      locations = locations i;
+      calls = calls i;
+      once = false;
+    })
 fields_found Corpus g f whole are =
-    let some = some_files g.files whole.enough whole.few in
-    corpus_fields _ _ _ _ (value_of option.Where g) (value_of option.Calls g) some.0 some.1 f (with_files g (some.0 ∷ some.1) (rows_of f) some.2 are)
-    ∙ ap (λ (files : List Word). made.Corpus (unwrap_or (slice_get files 0) []) (drop 1 files) (corpus_options_by (λ o. value_of o g)) (number_by (value_of option.Workers g))) (sym some.2)
+    let file = file_found Corpus g f are (omega (arith, whole.enough)) in
+    let inputs = inputs_found Corpus g f are (omega (arith, whole.enough)) in
+    let workers = value_found Corpus g f are option.Workers refl refl in
+    let fill = value_found Corpus g f are option.Fill refl refl in
+    let steps = value_found Corpus g f are option.Steps refl refl in
+    let reports = value_found Corpus g f are option.Reports refl refl in
+    let locations = flag_found Corpus g f are option.Where refl in
+    let calls = flag_found Corpus g f are option.Calls refl in
+    let once = flag_found Corpus g f are option.Once refl in
+    λ i. made.Corpus (file i) (inputs i) (record {
+      input = None;
+      fill = option_map_or hex_bytes (fill i) [];
+      steps = number_by (steps i);
+      reports = number_by (reports i);
+      schedule = no_schedule;
+      locations = locations i;
+      calls = calls i;
+      once = once i;
+    }) (number_by (workers i))
 fields_found Gen g f whole are =
-    gen_fields (value_of option.Seed g) (value_of option.Functions g) (value_of option.Run g) f
-    (are ∙ ap (λ (files : List Word). matches_of (app_for Gen) (command_word Gen ∷ (spelled_options (options_of Gen) g ++ codes "--" ∷ files))) (no_files g.files whole.few))
-
-found_good : (o : OptionName) (g : Given) (v : Option Word) → All (λ p. value_fault (takes p.0) 0 p.1 ≡ None) g.options → v ≡ value_of o g → IsGood o v
-found_good o g v all is = subst (IsGood o) (sym is) (good_value o g all)
-
-run_fits : (word : Word) (g : Given) (file : Word) (f : Found) → All (λ p. value_fault (takes p.0) 0 p.1 ≡ None) g.options
-    → rows_of f ≡ matches_of (run_app word) (word ∷ (spelled_options (options_of Run) g ++ codes "--" ∷ file ∷ [])) → FitsScheduled (found_value f)
-run_fits word g file f all are = record {
-  run = record {
-    run = record {
-      fill = hex_good 2048 _ (found_good option.Fill g (found_value f option.Fill) all (at f (codes "fill") _ are ∙ run_fill word (value_of option.Input g) _ _ _ _ (value_of option.Where g) (value_of option.Calls g) file));
-      steps = number_good 0 1000000000 (2 ^ 64 - 1) _ (omega arith) (found_good option.Steps g (found_value f option.Steps) all (at f (codes "steps") _ are ∙ run_steps word (value_of option.Input g) _ _ _ _ (value_of option.Where g) (value_of option.Calls g) file));
-    };
-    reports = number_good 1 1000 1000 _ (omega arith) (found_good option.Reports g (found_value f option.Reports) all (at f (codes "reports") _ are ∙ run_reports word (value_of option.Input g) _ _ _ _ (value_of option.Where g) (value_of option.Calls g) file));
-  };
-  schedule = hex_good 2048 _ (found_good option.Schedule g (found_value f option.Schedule) all (at f (codes "schedule") _ are ∙ run_schedule word (value_of option.Input g) _ _ _ _ (value_of option.Where g) (value_of option.Calls g) file));
-}
-
-check_fits : (g : Given) (file : Word) (f : Found) → All (λ p. value_fault (takes p.0) 0 p.1 ≡ None) g.options
-    → rows_of f ≡ matches_of (app_for Check) (command_word Check ∷ (spelled_options (options_of Check) g ++ codes "--" ∷ file ∷ [])) → FitsCheck (found_value f)
-check_fits g file f all are =
-    let found = check_found (value_of option.Input g) _ _ _ _ (value_of option.Schedules g) _ (value_of option.Where g) (value_of option.Calls g) file in
-    record {
-      run = record {
-        run = record {
-          run = record {
-            fill = hex_good 2048 _ (found_good option.Fill g (found_value f option.Fill) all (at f (codes "fill") _ are ∙ found.fill));
-            steps = number_good 0 1000000000 (2 ^ 64 - 1) _ (omega arith) (found_good option.Steps g (found_value f option.Steps) all (at f (codes "steps") _ are ∙ found.steps));
-          };
-          reports = number_good 1 1000 1000 _ (omega arith) (found_good option.Reports g (found_value f option.Reports) all (at f (codes "reports") _ are ∙ found.reports));
-        };
-        schedule = hex_good 2048 _ (found_good option.Schedule g (found_value f option.Schedule) all (at f (codes "schedule") _ are ∙ found.schedule));
-      };
-      schedules = number_good 1 1000000 1000000 _ (omega arith) (found_good option.Schedules g (found_value f option.Schedules) all (at f (codes "schedules") _ are ∙ found.schedules));
-      workers = number_good 1 8 8 _ (omega arith) (found_good option.Workers g (found_value f option.Workers) all (at f (codes "workers") _ are ∙ found.workers));
-    }
-
-explain_fits : (g : Given) (file : Word) (f : Found) → All (λ p. value_fault (takes p.0) 0 p.1 ≡ None) g.options
-    → rows_of f ≡ matches_of (app_for Explain) (command_word Explain ∷ (spelled_options (options_of Explain) g ++ codes "--" ∷ file ∷ [])) → FitsRun (found_value f)
-explain_fits g file f all are =
-    let found = explain_found (value_of option.Input g) _ _ (value_of option.Where g) (value_of option.Calls g) file in
-    record {
-      fill = hex_good 2048 _ (found_good option.Fill g (found_value f option.Fill) all (at f (codes "fill") _ are ∙ found.fill));
-      steps = number_good 0 1000000000 (2 ^ 64 - 1) _ (omega arith) (found_good option.Steps g (found_value f option.Steps) all (at f (codes "steps") _ are ∙ found.steps));
-    }
-
-corpus_fits : (g : Given) (file : Word) (inputs : List Word) (f : Found) → All (λ p. value_fault (takes p.0) 0 p.1 ≡ None) g.options
-    → rows_of f ≡ matches_of (app_for Corpus) (command_word Corpus ∷ (spelled_options (options_of Corpus) g ++ codes "--" ∷ file ∷ inputs)) → FitsCorpus (found_value f)
-corpus_fits g file inputs f all are = record {
-  run = record {
-    run = record {
-      fill = hex_good 2048 _ (found_good option.Fill g (found_value f option.Fill) all (at f (codes "fill") _ are ∙ corpus_fill _ _ _ _ (value_of option.Where g) (value_of option.Calls g) file inputs));
-      steps = number_good 0 1000000000 (2 ^ 64 - 1) _ (omega arith) (found_good option.Steps g (found_value f option.Steps) all (at f (codes "steps") _ are ∙ corpus_steps _ _ _ _ (value_of option.Where g) (value_of option.Calls g) file inputs));
-    };
-    reports = number_good 1 1000 1000 _ (omega arith) (found_good option.Reports g (found_value f option.Reports) all (at f (codes "reports") _ are ∙ corpus_reports _ _ _ _ (value_of option.Where g) (value_of option.Calls g) file inputs));
-  };
-  workers = number_good 1 8 8 _ (omega arith) (found_good option.Workers g (found_value f option.Workers) all (at f (codes "workers") _ are ∙ corpus_workers _ _ _ _ (value_of option.Where g) (value_of option.Calls g) file inputs));
-}
+    let seed = value_found Gen g f are option.Seed refl refl in
+    let functions = value_found Gen g f are option.Functions refl refl in
+    let run = flag_found Gen g f are option.Run refl in
+    λ i. made.Gen (number_by (seed i)) (number_by (functions i)) (run i)
 
 -- and these can be made fields
 pub fits_found : (c : CommandName) (g : Given) (f : Found) → Whole c g → rows_of f ≡ matches_of (app_for c) (spelled c g) → Fits c (found_value f)
 fits_found Instrument g f whole are = tt
-fits_found Run g f whole are = let one = one_file g.files whole.enough whole.few in run_fits (codes "run") g one.0 f whole.values (with_file Run g one.0 (rows_of f) one.1 are)
-fits_found Check g f whole are = let one = one_file g.files whole.enough whole.few in check_fits g one.0 f whole.values (with_file Check g one.0 (rows_of f) one.1 are)
-fits_found Explain g f whole are = let one = one_file g.files whole.enough whole.few in explain_fits g one.0 f whole.values (with_file Explain g one.0 (rows_of f) one.1 are)
-fits_found Corpus g f whole are =
-    let some = some_files g.files whole.enough whole.few in
-    corpus_fits g some.0 some.1 f whole.values (with_files g (some.0 ∷ some.1) (rows_of f) some.2 are)
-fits_found Gen g f whole are =
-    let form = are ∙ ap (λ (files : List Word). matches_of (app_for Gen) (command_word Gen ∷ (spelled_options (options_of Gen) g ++ codes "--" ∷ files))) (no_files g.files whole.few) in
-    let found = gen_found (value_of option.Seed g) (value_of option.Functions g) (value_of option.Run g) in
-    record {
-      seed = number_good 0 (2 ^ 64 - 1) (2 ^ 64 - 1) _ (omega arith) (found_good option.Seed g (found_value f option.Seed) whole.values (at f (codes "seed") _ form ∙ found.0));
-      functions = number_good 1 1000 1000 _ (omega arith) (found_good option.Functions g (found_value f option.Functions) whole.values (at f (codes "functions") _ form ∙ found.1));
-    }
+fits_found Run g f whole are = scheduled_fits Run g f are whole.values refl refl refl refl
+fits_found Check g f whole are = record {
+  run = scheduled_fits Check g f are whole.values refl refl refl refl;
+  schedules = number_good 1 1000000 1000000 _ (omega arith) (good Check g f are whole.values option.Schedules refl refl);
+  workers = number_good 1 8 8 _ (omega arith) (good Check g f are whole.values option.Workers refl refl);
+}
+fits_found Explain g f whole are = run_fits Explain g f are whole.values refl refl
+fits_found Corpus g f whole are = record {
+  run = reports_fit Corpus g f are whole.values refl refl refl;
+  workers = number_good 1 8 8 _ (omega arith) (good Corpus g f are whole.values option.Workers refl refl);
+}
+fits_found Gen g f whole are = record {
+  seed = number_good 0 (2 ^ 64 - 1) (2 ^ 64 - 1) _ (omega arith) (good Gen g f are whole.values option.Seed refl refl);
+  functions = number_good 1 1000 1000 _ (omega arith) (good Gen g f are whole.values option.Functions refl refl);
+}

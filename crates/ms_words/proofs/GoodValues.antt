@@ -1,5 +1,5 @@
 -- Nothing is wrong with the values of accepted words.
-use Rattle.std.proofs.Common.{◌≡◌, ◌≤◌, ◌&&◌, ℕ, Bool, true, false, not, List, [], ◌∷◌, Option, Some, None, option_map, refl, sym, ap, subst, arith, true≢false, length, find, if◌then◌else◌, cond}
+use Rattle.std.proofs.Common.{◌≡◌, ◌≤◌, ◌&&◌, ℕ, Bool, true, false, not, List, [], ◌∷◌, Option, Some, None, option_map, refl, ap, subst, arith, true≢false, length, find, if◌then◌else◌, cond}
 use Rattle.std.specs.Prelude.{All, IfSome, is_some, nat_lt, nat_le, ◌/◌, ◌%◌, ◌==◌}
 use Rattle.std.specs.Char.{is_ascii_hexdigit}
 use Rattle.std.specs.List.{list_all}
@@ -7,7 +7,7 @@ use Rattle.std.proofs.lemmas.Bool.{and_parts, leb-true}
 use Rattle.std.proofs.lemmas.List.Elements.{All-head, All-tail}
 use Rattle.ms_words.specs.declared.commands.WordsError.TheVariants as e
 use Rattle.ms_words.specs.declared.names.OptionName.{OptionName}
-use Rattle.ms_words.specs.declared.names.OptionName.TheVariants.{Input, Fill, Steps, Reports, Schedule, Schedules, Workers, Seed, Functions, Run, Where, Calls}
+use Rattle.ms_words.specs.declared.names.OptionName.TheVariants.{Input, Fill, Steps, Reports, Schedule, Schedules, Workers, Seed, Functions, Run, Where, Calls, Once}
 use Rattle.ms_words.specs.declared.names.Takes.{Takes}
 use Rattle.ms_words.specs.declared.names.Takes.TheVariants.{Hex, Number}
 use Rattle.ms_words.specs.Table.{Word, takes, default_of}
@@ -15,24 +15,10 @@ use Rattle.ms_words.specs.Values.{value_fault, is_hex, is_number, number}
 use Rattle.ms_words.specs.Reading.{Given, option_eq}
 use Rattle.ms_words.specs.Words.{or_default, value_of}
 use Rattle.ms_words.specs.Fields.{IsHex, IsNumber}
+use Rattle.ms_words.proofs.Tables.{same_option}
 
 abbrev pub IsGood : OptionName → Option Word → Type 0
 IsGood o value = IfSome value (λ v. value_fault (takes o) 0 v ≡ None)
-
-same_takes : (a b : OptionName) → option_eq a b ≡ true → takes a ≡ takes b
-same_takes Input Input same = refl
-same_takes Fill Fill same = refl
-same_takes Steps Steps same = refl
-same_takes Reports Reports same = refl
-same_takes Schedule Schedule same = refl
-same_takes Schedules Schedules same = refl
-same_takes Workers Workers same = refl
-same_takes Seed Seed same = refl
-same_takes Functions Functions same = refl
-same_takes Run Run same = refl
-same_takes Where Where same = refl
-same_takes Calls Calls same = refl
-same_takes a b same = absurd (true≢false (sym same))
 
 default_good : (o : OptionName) → IsGood o (default_of o)
 default_good Input = tt
@@ -47,10 +33,11 @@ default_good Functions = tt
 default_good Run = tt
 default_good Where = tt
 default_good Calls = tt
+default_good Once = tt
 
 found_if : (b : Bool) (o : OptionName) (p : OptionName × Word) (rest : Option (OptionName × Word)) → option_eq p.0 o ≡ b → value_fault (takes p.0) 0 p.1 ≡ None
     → IsGood o (option_map (λ q. q.1) rest) → IsGood o (option_map (λ q. q.1) (cond b (Some p) rest))
-found_if true o p rest same good others = subst (λ (t : Takes). value_fault t 0 p.1 ≡ None) (same_takes p.0 o same) good
+found_if true o p rest same good others = subst (λ (t : Takes). value_fault t 0 p.1 ≡ None) (ap takes (same_option p.0 o same)) good
 found_if false o p rest same good others = others
 
 found_good : (o : OptionName) (ps : List (OptionName × Word)) → All (λ p. value_fault (takes p.0) 0 p.1 ≡ None) ps

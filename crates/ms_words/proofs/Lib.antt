@@ -1,5 +1,4 @@
 pub mod Apps
-pub mod Files
 pub mod Finding
 pub mod Found
 pub mod Keeping
@@ -8,4 +7,7 @@ pub mod GoodValues
 pub mod Splits
 pub mod Numbers
 pub mod Placing
+pub mod Rows
+pub mod Tables
+pub mod Walking
 pub mod WithinLimits

@@ -7,9 +7,6 @@ use Rattle.std.proofs.lemmas.List.Folds.{list_any-append}
 use Rattle.std.proofs.lemmas.Bool.{ltb-true}
 use Rattle.ms_words.specs.declared.names.CommandName.{CommandName}
 use Rattle.ms_words.specs.declared.names.OptionName.{OptionName}
-use Rattle.ms_words.specs.declared.names.OptionName.TheVariants.{Input, Fill, Steps, Reports, Schedule, Schedules, Workers, Seed, Functions, Run, Where, Calls}
-use Rattle.ms_words.specs.declared.names.CommandName.TheVariants.{Instrument, Check, Explain, Corpus, Gen}
-use Rattle.ms_words.specs.declared.names.CommandName.TheVariants as name
 use Rattle.ms_words.specs.declared.reading.Next.{Next}
 use Rattle.ms_words.specs.declared.reading.Next.TheVariants.{AnOption, AValue, AFile}
 use Rattle.ms_words.specs.declared.commands.WordsError.{WordsError}
@@ -17,6 +14,7 @@ use Rattle.ms_words.specs.declared.commands.WordsError.TheVariants as e
 use Rattle.ms_words.specs.Table.{Word, takes, option_word, options_of, most_files}
 use Rattle.ms_words.specs.Values.{value_fault}
 use Rattle.ms_words.specs.Reading.{Given, Outcome, nothing, is_given, is_excluded, option_eq, same, with_option, with_file, with_value_if, begin_option, read_option, read_file, read_plain, read_word, option_in, read_words_from, and_then, name_and_value, after_dash, takes_nothing}
+use Rattle.ms_words.proofs.Tables.{option_self, few_options, few_files}
 
 -- ---- counts
 
@@ -67,20 +65,6 @@ next_weight AFile = 0
 
 abbrev pub weight : CommandName → Next → Given → ℕ
 weight c next g = next_weight next + 2 * left c next g + (most_files c - length g.files)
-
-option_self : (o : OptionName) → option_eq o o ≡ true
-option_self Input = refl
-option_self Fill = refl
-option_self Steps = refl
-option_self Reports = refl
-option_self Schedule = refl
-option_self Schedules = refl
-option_self Workers = refl
-option_self Seed = refl
-option_self Functions = refl
-option_self Run = refl
-option_self Where = refl
-option_self Calls = refl
 
 given_with : (a o : OptionName) (v : Word) (g : Given) → is_given a (with_option o v g) ≡ (is_given a g || (option_eq o a || false))
 given_with a o v g = list_any-append (λ p. option_eq p.0 a) g.options ((o, v) ∷ [])
@@ -197,14 +181,19 @@ module _ (c : CommandName) where
   next_place next after place word g h reads room =
       placed_by (weight c next g) place (read_word c next place word g) (after, h) reads (uses_word next place word g) room
 
+one_most : (b : Bool) → one b ≤ 1
+one_most true = omega arith
+one_most false = omega arith
+
+counted_most : {X : Type 0} (p : X → Bool) (xs : List X) → counted p xs ≤ length xs
+counted_most p [] = omega arith
+counted_most p (x ∷ xs) = omega (arith, one_most (p x), counted_most p xs)
+
 -- a command has little at first
 pub first_place : (c : CommandName) → 1 + weight c AnOption nothing ≤ 2 ^ 17
-first_place Instrument = let w : weight Instrument AnOption nothing ≡ 2 = refl in omega (arith, w)
-first_place name.Run = let w : weight name.Run AnOption nothing ≡ 14 = refl in omega (arith, w)
-first_place Check = let w : weight Check AnOption nothing ≡ 18 = refl in omega (arith, w)
-first_place Explain = let w : weight Explain AnOption nothing ≡ 10 = refl in omega (arith, w)
-first_place Corpus = let w : weight Corpus AnOption nothing ≡ 268 = refl in omega (arith, w)
-first_place Gen = let w : weight Gen AnOption nothing ≡ 7 = refl in omega (arith, w)
+first_place c =
+    let most : left c AnOption nothing ≤ length (options_of c) = counted_most (λ o. not (is_given o nothing || is_pending o AnOption)) (options_of c) in
+    omega (arith, most, few_options c, few_files c)
 
 -- the words after one that is read
 pub words_passed : (c : CommandName) (next after : Next) (place : ℕ) (words : List Word) (i : ℕ) (word : Word) (g h : Given) (whole : Result Given WordsError)

@@ -30,7 +30,7 @@ command_word Gen = codes "gen"
 abbrev pub options : List OptionName
 options =
     option.Input ∷ option.Fill ∷ option.Steps ∷ option.Reports ∷ option.Schedule ∷ option.Schedules ∷ option.Workers ∷ option.Seed ∷ option.Functions ∷ option.Run
-    ∷ option.Where ∷ option.Calls ∷ []
+    ∷ option.Where ∷ option.Calls ∷ option.Once ∷ []
 
 -- the word that names an option, after two dashes
 abbrev pub option_word : OptionName → Word
@@ -46,6 +46,7 @@ option_word option.Functions = codes "functions"
 option_word option.Run = codes "run"
 option_word option.Where = codes "where"
 option_word option.Calls = codes "calls"
+option_word option.Once = codes "once"
 
 -- what an option takes: no value, any word, so many bytes at most, or a number within these
 abbrev pub takes : OptionName → Takes
@@ -61,6 +62,7 @@ takes option.Functions = Number 1 1000
 takes option.Run = Nothing
 takes option.Where = Nothing
 takes option.Calls = Nothing
+takes option.Once = Nothing
 
 -- the value of an option that isn't given
 abbrev pub default_of : OptionName → Option Word
@@ -74,11 +76,12 @@ default_of _ = None
 -- the options that a command may have
 abbrev pub options_of : CommandName → List OptionName
 options_of Instrument = []
-options_of Run = option.Input ∷ option.Fill ∷ option.Steps ∷ option.Reports ∷ option.Schedule ∷ option.Where ∷ option.Calls ∷ []
+options_of Run = option.Input ∷ option.Fill ∷ option.Steps ∷ option.Reports ∷ option.Schedule ∷ option.Where ∷ option.Calls ∷ option.Once ∷ []
 options_of Check =
-    option.Input ∷ option.Fill ∷ option.Steps ∷ option.Reports ∷ option.Schedule ∷ option.Schedules ∷ option.Workers ∷ option.Where ∷ option.Calls ∷ []
+    option.Input ∷ option.Fill ∷ option.Steps ∷ option.Reports ∷ option.Schedule ∷ option.Schedules ∷ option.Workers ∷ option.Where ∷ option.Calls
+    ∷ option.Once ∷ []
 options_of Explain = option.Input ∷ option.Fill ∷ option.Steps ∷ option.Where ∷ option.Calls ∷ []
-options_of Corpus = option.Workers ∷ option.Fill ∷ option.Steps ∷ option.Reports ∷ option.Where ∷ option.Calls ∷ []
+options_of Corpus = option.Workers ∷ option.Fill ∷ option.Steps ∷ option.Reports ∷ option.Where ∷ option.Calls ∷ option.Once ∷ []
 options_of Gen = option.Seed ∷ option.Functions ∷ option.Run ∷ []
 
 -- the options that it must have

@@ -1,5 +1,5 @@
 -- The usage, made from the rows of commands and options, and the version (own).
-use Rattle.std.specs.Prelude.{ℕ, ◌-◌, ◌++◌, Bool, List, [], ◌∷◌, Option, Some, None, length, drop, nat_lt, nat_eq, if◌then◌else◌, codes, decimal}
+use Rattle.std.specs.Prelude.{ℕ, ◌-◌, ◌++◌, Bool, List, [], ◌∷◌, Option, Some, None, length, drop, nat_lt, if◌then◌else◌, codes, decimal}
 use Rattle.std.specs.List.{list_any}
 use Rattle.ms_words.specs.declared.names.CommandName.{CommandName}
 use Rattle.ms_words.specs.declared.names.CommandName.TheVariants.{Instrument, Run, Check, Explain, Corpus, Gen}
@@ -35,6 +35,7 @@ about_option option.Functions = codes "number of functions beside main"
 about_option option.Run = codes "check the module instead of writing it"
 about_option option.Where = codes "below each line that names a site, print where it stands in FILE and in the source"
 about_option option.Calls = codes "below each report and trap, print the calls that stand there, the innermost first"
+about_option option.Once = codes "neither report nor count a use of the same site, kind and part as one before it"
 
 abbrev pub about_topic : Topic → Word
 about_topic Help = codes "print this text"

@@ -1,5 +1,5 @@
 -- What a list of words asks for: a command, or the first fault with its place (own).
-use Rattle.std.specs.Prelude.{◌≡◌, ◌⊎◌, ◌||◌, ℕ, Bool, List, [], ◌∷◌, Option, Some, None, option_map, is_some, Result, Ok, Err, find, slice_get, drop, unwrap_or, codes}
+use Rattle.std.specs.Prelude.{◌≡◌, ◌⊎◌, ◌||◌, ℕ, Bool, false, List, [], ◌∷◌, Option, Some, None, option_map, is_some, Result, Ok, Err, find, slice_get, drop, unwrap_or, codes}
 use Rattle.std.specs.Option.{option_map_or}
 use Rattle.ms_words.specs.declared.names.CommandName.{CommandName}
 use Rattle.ms_words.specs.declared.names.CommandName.TheVariants as name
@@ -39,6 +39,7 @@ options_by value = record {
   schedule = option_map_or hex_bytes (value option.Schedule) [];
   locations = is_some (value option.Where);
   calls = is_some (value option.Calls);
+  once = is_some (value option.Once);
 }
 
 -- the schedule of a command that takes none: it runs no module with threads
@@ -47,13 +48,13 @@ no_schedule = 0 ∷ []
 
 -- what is explained is the first report
 abbrev pub explain_options_by : (OptionName → Option Word) → Options
-explain_options_by value = record (options_by value) { reports = 1; schedule = no_schedule }
+explain_options_by value = record (options_by value) { reports = 1; schedule = no_schedule; once = false }
 
 -- the options of a corpus have no input, since each of its runs has its own
 abbrev pub corpus_options_by : (OptionName → Option Word) → Options
 corpus_options_by value = record (options_by value) { input = None; schedule = no_schedule }
 
--- what is given where no option is: no input, the fill a5, ten million steps, one report, the schedule 00, and neither locations nor calls
+-- what is given where no option is: no input, the fill a5, ten million steps, one report, the schedule 00, neither locations nor calls, and each use as often as it is met
 abbrev pub defaults : Options
 defaults = options_by (λ o. value_of o nothing)
 

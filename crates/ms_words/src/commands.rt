@@ -23,6 +23,8 @@ pub struct Options {
     pub locations: bool,
     /// Whether each report is followed by the calls that stood there.
     pub calls: bool,
+    /// Whether a use of the same site, kind and part as one that was reported in the run is left out, and not counted.
+    pub once: bool,
 }
 
 /// What is asked for.

@@ -138,6 +138,21 @@ pub fn words_with_calls()
     ensures of_gen { command_of (codes "gen" ∷ codes "--calls" ∷ []) ≡ Err (UnknownOption 1) }
 {}
 
+/// The option that asks for each use once.
+pub fn words_with_once()
+    ensures of_run { command_of (codes "run" ∷ codes "--once" ∷ codes "f" ∷ []) ≡ Ok (Run (codes "f") (record defaults { once = true })) }
+    ensures of_check { command_of (codes "check" ∷ codes "--once" ∷ codes "--reports=9" ∷ codes "f" ∷ []) ≡ Ok (Check (codes "f") (record defaults { reports = 9; once = true })) }
+    ensures of_schedules { command_of (codes "check" ∷ codes "--schedules=5" ∷ codes "--once" ∷ codes "f" ∷ []) ≡ Ok (CheckSchedules (codes "f") (record defaults { once = true }) 5 2) }
+    ensures of_corpus { command_of (codes "corpus" ∷ codes "--calls" ∷ codes "--once" ∷ codes "f" ∷ codes "a" ∷ []) ≡ Ok (Corpus (codes "f") (codes "a" ∷ []) (record defaults { calls = true; once = true }) 2) }
+    ensures not_given { command_of (codes "run" ∷ codes "--calls" ∷ codes "f" ∷ []) ≡ Ok (Run (codes "f") (record defaults { calls = true; once = false })) }
+    ensures a_file { command_of (codes "run" ∷ codes "--" ∷ codes "--once" ∷ []) ≡ Ok (Run (codes "--once") defaults) }
+    ensures with_a_value { command_of (codes "run" ∷ codes "--once=1" ∷ codes "f" ∷ []) ≡ Err (UnknownOption 1) }
+    ensures twice { command_of (codes "check" ∷ codes "--once" ∷ codes "--once" ∷ codes "f" ∷ []) ≡ Err (Repeated 2) }
+    ensures of_explain { command_of (codes "explain" ∷ codes "--once" ∷ codes "f" ∷ []) ≡ Err (UnknownOption 1) }
+    ensures of_instrument { command_of (codes "instrument" ∷ codes "--once" ∷ codes "f" ∷ []) ≡ Err (UnknownOption 1) }
+    ensures of_gen { command_of (codes "gen" ∷ codes "--once" ∷ []) ≡ Err (UnknownOption 1) }
+{}
+
 /// Where the options end.
 pub fn end_of_options()
     ensures one_dash_is_a_file { command_of (codes "run" ∷ codes "-" ∷ []) ≡ Ok (Run (codes "-") defaults) }
@@ -202,10 +217,10 @@ pub fn questions()
 /// The lines of commands in the usage.
 pub fn lines_of_commands()
     ensures instrument { synopsis name.Instrument ≡ codes "  msan instrument FILE\n" }
-    ensures run { synopsis name.Run ≡ codes "  msan run [--input FILE] [--fill HEX] [--steps N] [--reports N] [--schedule HEX] [--where] [--calls] FILE\n" }
-    ensures check { synopsis name.Check ≡ codes "  msan check [--input FILE] [--fill HEX] [--steps N] [--reports N] [--schedule HEX] [--schedules N] [--workers N] [--where] [--calls] FILE\n" }
+    ensures run { synopsis name.Run ≡ codes "  msan run [--input FILE] [--fill HEX] [--steps N] [--reports N] [--schedule HEX] [--where] [--calls] [--once] FILE\n" }
+    ensures check { synopsis name.Check ≡ codes "  msan check [--input FILE] [--fill HEX] [--steps N] [--reports N] [--schedule HEX] [--schedules N] [--workers N] [--where] [--calls] [--once] FILE\n" }
     ensures explain { synopsis name.Explain ≡ codes "  msan explain [--input FILE] [--fill HEX] [--steps N] [--where] [--calls] FILE\n" }
-    ensures corpus { synopsis name.Corpus ≡ codes "  msan corpus [--workers N] [--fill HEX] [--steps N] [--reports N] [--where] [--calls] FILE INPUT...\n" }
+    ensures corpus { synopsis name.Corpus ≡ codes "  msan corpus [--workers N] [--fill HEX] [--steps N] [--reports N] [--where] [--calls] [--once] FILE INPUT...\n" }
     ensures inputs { command_about name.Corpus ≡ codes "      check the module in FILE with each INPUT as its standard input: " ++ decimal 1 ++ codes " to " ++ decimal 256 ++ codes " inputs\n" }
     ensures generates { synopsis name.Gen ≡ codes "  msan gen --seed N --functions N [--run]\n" }
     ensures help { topic_line topic.Help ≡ codes "  msan help, --help, -h: print this text\n" }
@@ -225,5 +240,6 @@ pub fn lines_of_options()
     ensures functions { option_line option.Functions ≡ codes "  --functions N   number of functions beside main: " ++ decimal 1 ++ codes " to " ++ decimal 1000 ++ codes "\n" }
     ensures runs { option_line option.Run ≡ codes "  --run           check the module instead of writing it\n" }
     ensures calls { option_line option.Calls ≡ codes "  --calls         below each report and trap, print the calls that stand there, the innermost first\n" }
+    ensures once { option_line option.Once ≡ codes "  --once          neither report nor count a use of the same site, kind and part as one before it\n" }
     ensures locations { option_line option.Where ≡ codes "  --where         below each line that names a site, print where it stands in FILE and in the source\n" }
 {}

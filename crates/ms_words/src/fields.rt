@@ -137,6 +137,7 @@ fn options_with(
         schedule,
         locations: is_set(found, OptionName::Where),
         calls: is_set(found, OptionName::Calls),
+        once: is_set(found, OptionName::Once),
     })
 }
 
@@ -209,7 +210,9 @@ fn explained_in(alloc: Global, found: &ArgMatches) -> Result<(Text, Options), No
     ensures { IfOk result (λ r. r ≡ (found_file (found_of found.now), explain_options_by (found_value (found_of found.now)))) }
 {
     let schedule = no_schedule(alloc)?;
-    file_and_options(alloc, found, 1, schedule)
+    let (file, mut options) = file_and_options(alloc, found, 1, schedule)?;
+    options.once = false;
+    Ok((file, options))
 }
 
 /// The options of the runs of a corpus, by what was found.

@@ -75,6 +75,9 @@ impl OptionName {
             OptionName::Calls => {
                 "below each report and trap, print the calls that stand there, the innermost first"
             }
+            OptionName::Once => {
+                "neither report nor count a use of the same site, kind and part as one before it"
+            }
         }
     }
 }

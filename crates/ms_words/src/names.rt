@@ -31,6 +31,7 @@ pub enum OptionName {
     Run,
     Where,
     Calls,
+    Once,
 }
 
 /// What an option takes.
@@ -57,7 +58,7 @@ pub static COMMANDS: [CommandName; 6] = [
 ];
 
 /// The options, in the order of the usage.
-pub static OPTIONS: [OptionName; 12] = [
+pub static OPTIONS: [OptionName; 13] = [
     OptionName::Input,
     OptionName::Fill,
     OptionName::Steps,
@@ -70,13 +71,14 @@ pub static OPTIONS: [OptionName; 12] = [
     OptionName::Run,
     OptionName::Where,
     OptionName::Calls,
+    OptionName::Once,
 ];
 
 /// The options of a command that has none, or must have none.
 static NO_OPTIONS: [OptionName; 0] = [];
 
 /// The options that `run` may have.
-static RUN_OPTIONS: [OptionName; 7] = [
+static RUN_OPTIONS: [OptionName; 8] = [
     OptionName::Input,
     OptionName::Fill,
     OptionName::Steps,
@@ -84,10 +86,11 @@ static RUN_OPTIONS: [OptionName; 7] = [
     OptionName::Schedule,
     OptionName::Where,
     OptionName::Calls,
+    OptionName::Once,
 ];
 
 /// The options that `check` may have.
-static CHECK_OPTIONS: [OptionName; 9] = [
+static CHECK_OPTIONS: [OptionName; 10] = [
     OptionName::Input,
     OptionName::Fill,
     OptionName::Steps,
@@ -97,6 +100,7 @@ static CHECK_OPTIONS: [OptionName; 9] = [
     OptionName::Workers,
     OptionName::Where,
     OptionName::Calls,
+    OptionName::Once,
 ];
 
 /// The options that `explain` may have.
@@ -109,13 +113,14 @@ static EXPLAIN_OPTIONS: [OptionName; 5] = [
 ];
 
 /// The options that `corpus` may have.
-static CORPUS_OPTIONS: [OptionName; 6] = [
+static CORPUS_OPTIONS: [OptionName; 7] = [
     OptionName::Workers,
     OptionName::Fill,
     OptionName::Steps,
     OptionName::Reports,
     OptionName::Where,
     OptionName::Calls,
+    OptionName::Once,
 ];
 
 /// The options that `gen` may have.
@@ -251,6 +256,7 @@ impl OptionName {
             OptionName::Run => "run",
             OptionName::Where => "where",
             OptionName::Calls => "calls",
+            OptionName::Once => "once",
         }
     }
 
@@ -286,6 +292,7 @@ impl OptionName {
             OptionName::Run => Takes::Nothing,
             OptionName::Where => Takes::Nothing,
             OptionName::Calls => Takes::Nothing,
+            OptionName::Once => Takes::Nothing,
         }
     }
 

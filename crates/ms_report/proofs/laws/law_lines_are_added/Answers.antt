@@ -2,6 +2,7 @@ use Rattle.ms_report.proofs.WithoutLines.{reports_alone, closing_alone, refusal_
 use Rattle.ms_report.proofs.Unindented.{reports_left, closing_left, refusal_left}
 use Rattle.ms_report.proofs.TrailLines.{trail_left, trail_calling_left, none_called_first}
 use Rattle.ms_report.proofs.CallLines.{none_called, none_called_last, calling_left, closing_calling_left}
+use Rattle.ms_report.proofs.BlindLines.{places_left}
 use Rattle.ms_report.proofs.laws.law_lines_are_added.Goals as goal
 
 pub returns-clause-none_in_reports : goal.returns-clause-none_in_reports
@@ -42,3 +43,6 @@ returns-clause-none_in_trail_calls c = λ under m moves at hops. none_called_fir
 
 pub returns-clause-taken_out_of_trail_calls : goal.returns-clause-taken_out_of_trail_calls
 returns-clause-taken_out_of_trail_calls c = λ under m moves at hops calls all. trail_calling_left under all m moves at hops calls
+
+pub returns-clause-taken_out_of_places : goal.returns-clause-taken_out_of_places
+returns-clause-taken_out_of_places c = λ under m places all. places_left under all m places

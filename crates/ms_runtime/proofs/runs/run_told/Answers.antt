@@ -8,7 +8,7 @@ use Rattle.ms_runtime.proofs.RecordedRuns.{told_begun, told_if, ended_if}
 use Rattle.ms_runtime.proofs.runs.run_told.Goals as goal
 
 pub loop-recorded-init : goal.loop-recorded-init
-loop-recorded-init c = (told_begun c.args.m.now c.args.setup.now c.requires.alone _ c.in_ok-running.ensures.begins c.new.ensures.items refl c.new-2.ensures, refl)
+loop-recorded-init c = (told_begun c.args.m.now c.args.setup.now c.requires.alone _ c.in_ok-running.ensures.begins c.new.ensures.items c.new-2.ensures, refl)
 
 pub returns-in-Some : goal.returns-in-Some
 returns-in-Some c =

@@ -1,4 +1,4 @@
-use Rattle.ms_top.proofs.Faithful.{shadow_answer, corpus_shown, corpus_holds, summary_shown, under_fills, calls_under_fills, fair_default, fair_options}
+use Rattle.ms_top.proofs.Faithful.{shadow_answer, corpus_shown, corpus_holds, summary_shown, under_fills, calls_under_fills, places_count, once_each, fair_default, fair_options}
 use Rattle.ms_top.proofs.GeneratedRuns.{generated_shown}
 use Rattle.ms_top.proofs.laws.law_checks_show_the_shadow_run.Goals as goal
 
@@ -28,3 +28,9 @@ returns-clause-fair c = fair_options
 
 pub returns-clause-defaults : goal.returns-clause-defaults
 returns-clause-defaults c = fair_default
+
+pub returns-clause-places : goal.returns-clause-places
+returns-clause-places c = places_count
+
+pub returns-clause-once : goal.returns-clause-once
+returns-clause-once c = once_each

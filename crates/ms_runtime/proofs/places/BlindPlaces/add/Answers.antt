@@ -4,8 +4,8 @@ use Rattle.ms_runs.specs.declared.runs.BlindPlace.{BlindPlace}
 use Rattle.ms_runtime.proofs.CountedPlaces.{one_more, place_in, counted_there, counted_last, sites_counted, count_at}
 use Rattle.ms_runtime.proofs.places.BlindPlaces.add.Goals as goal
 
-pub overflow_add : goal.overflow_add
-overflow_add c =
+pub overflow_add-index_mut : goal.overflow_add-index_mut
+overflow_add-index_mut c =
     let held = c.requires in
     let inside : c.in_ok-place.place < length held.0 = omega (arith, c.if-place-len.true, c.len.ensures, ap length held.1.0.counted) in
     let few = count_at (2 ^ 63) held.0 c.in_ok-place.place c.index_mut.result.now held.1.1 inside (c.index_mut.ensures.value ∙ ap (λ (l : List BlindPlace). get_or l c.in_ok-place.place c.index_mut.result.now) held.1.0.counted) in
@@ -22,8 +22,8 @@ returns-then-place-len c = λ places held.
       sites = c.in_ok-place.ensures.keys ∙ ap (λ (ks : List ℕ). if list_any (eqb c.args.site) ks then ks else ks ++ c.args.site ∷ []) held.sites ∙ sites_counted c.args.site places;
     }
 
-pub returns : goal.returns
-returns c = λ places held.
+pub returns-in_ok-push : goal.returns-in_ok-push
+returns-in_ok-push c = λ places held.
     let at : c.in_ok-place.place ≡ place_in c.args.site places = c.in_ok-place.ensures.index ∙ ap (position_or_len (eqb c.args.site)) held.sites in
     let past : length places ≤ place_in c.args.site places = omega (arith, c.if-place-len.false, c.len.ensures, ap length held.counted, at) in
     record {

@@ -5,4 +5,4 @@ pub returns-then-wanted : goal.returns-then-wanted
 returns-then-wanted c = λ places held. c.from_vec.ensures ∙ (held c.if-wanted.true).counted ∙ ap (λ (b : Bool). if b then places else []) (sym c.if-wanted.true)
 
 pub returns : goal.returns
-returns c = λ places held. c.from_vec.ensures ∙ c.new.ensures.items ∙ ap (λ (b : Bool). if b then places else []) (sym c.if-wanted.false)
+returns c = λ places held. c.from_vec-else-wanted.ensures ∙ c.new.ensures.items ∙ ap (λ (b : Bool). if b then places else []) (sym c.if-wanted.false)

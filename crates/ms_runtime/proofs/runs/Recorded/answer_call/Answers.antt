@@ -57,11 +57,11 @@ returns-in_ok-note_end-in-Ended c = record {
       (subst (λ (x : Answer). AnsweredFor m u c.args.call b.paused.asking.within x c.args.self.now.running c.answer_of.new.self) c.in-Ended.is answered)
       c.note_end.new.self c.note_end.ensures.running c.note_end.ensures.wanted
       (λ wanted.
-          subst (λ (v : Vec Calls Global). Noted m c.answer_of.new.self.fiber 0 (length c.answer_of.new.self.told.reports) c.args.self.now.calls.items v.items) (sym c.note_end.ensures.calls) (c.in_ok-note_calls.ensures wanted))
+      subst (λ (v : Vec Calls Global). Noted m c.answer_of.new.self.fiber 0 (length c.answer_of.new.self.told.reports) c.args.self.now.calls.items v.items) (sym c.note_end.ensures.calls) (c.in_ok-note_calls.ensures wanted))
       (λ wanted. c.in_ok-note_end-in-Ended.ensures.ended b.paused.asking.within.frames there wanted)
       (λ wanted places held.
-          subst (λ (kept : BlindPlaces). Placed (if ltb c.args.self.now.running.told.blind c.answer_of.new.self.told.blind then counted_at c.args.call.site places else places) kept) (sym c.note_end.ensures.places)
-          (c.in_ok-note.ensures wanted places held))
+      subst (λ (kept : BlindPlaces). Placed (if ltb c.args.self.now.running.told.blind c.answer_of.new.self.told.blind then counted_at c.args.call.site places else places) kept) (sym c.note_end.ensures.places)
+      (c.in_ok-note.ensures wanted places held))
       (ahead m c.args.self.now.running);
 }
 
@@ -72,7 +72,7 @@ returns-in-Resumed c = record {
       let m = c.args.m.now in
       answer_goes m u c.program-code.result.now c.program-code.ensures c.law_valid.ensures.formed c.law_valid.ensures.valid c.args.call c.args.self.now b c.answer_of.new.self c.in-Resumed.value
       (subst (λ (x : Answer). AnsweredFor m u c.args.call b.paused.asking.within x c.args.self.now.running c.answer_of.new.self) c.in-Resumed.is (c.in_ok-answer.ensures.answered u same b.paused.asking))
-      _ refl refl c.in_ok-note_calls.ensures c.in_ok-note.ensures
+      _ refl c.in_ok-note_calls.ensures c.in_ok-note.ensures
       refl refl refl refl (c.keep.ensures.at ∙ c.resume.ensures.at)
       (record { spawned = c.keep.ensures.own.spawned ∙ c.resume.ensures.own.spawned; heap = c.keep.ensures.own.heap ∙ c.resume.ensures.own.heap })
       (λ frame below stands waits. subst (λ (ks : List Kept). AllStandFor m ks (answered m c.in-Resumed.value frame ∷ below)) (sym c.keep.ensures.frames) (c.resume.ensures.stands u frame below c.args.call stands waits));

@@ -30,10 +30,10 @@ returns-in-Resumed c = record {
   wanted = refl;
   turned = λ u schedule b.
       let m = c.args.m.now in (
-        after_goes m u schedule c.program-code.result.now c.program-code.ensures c.law_valid.ensures.formed c.law_valid.ensures.valid c.args.self.now c.args.call c.args.answer b c.in-Resumed.value c.in-Resumed.is (record c.args.self.now { running = record c.args.self.now.running { fiber = c.keep.new.self } }) refl refl refl refl refl (refl, refl, refl)
+        after_goes m u schedule c.program-code.result.now c.program-code.ensures c.law_valid.ensures.formed c.law_valid.ensures.valid c.args.self.now c.args.call c.args.answer b c.in-Resumed.value c.in-Resumed.is (record c.args.self.now { running = record c.args.self.now.running { fiber = c.keep.new.self } }) refl refl refl refl refl (refl, refl, refl, refl)
             (c.keep.ensures.at ∙ c.resume.ensures.at) (record { spawned = c.keep.ensures.own.spawned ∙ c.resume.ensures.own.spawned; heap = c.keep.ensures.own.heap ∙ c.resume.ensures.own.heap })
             (λ frame below stands waits. subst (λ (ks : List Kept). AllStandFor m ks (answered m c.in-Resumed.value frame ∷ below)) (sym c.keep.ensures.frames) (c.resume.ensures.stands u frame below c.args.call stands waits)),
-        after_nearer m u schedule c.program-code.result.now c.program-code.ensures c.law_valid.ensures.formed c.law_valid.ensures.valid c.args.self.now c.args.call c.args.answer b c.in-Resumed.value c.in-Resumed.is (record c.args.self.now { running = record c.args.self.now.running { fiber = c.keep.new.self } }) refl refl refl refl refl (refl, refl, refl)
+        after_nearer m u schedule c.program-code.result.now c.program-code.ensures c.law_valid.ensures.formed c.law_valid.ensures.valid c.args.self.now c.args.call c.args.answer b c.in-Resumed.value c.in-Resumed.is (record c.args.self.now { running = record c.args.self.now.running { fiber = c.keep.new.self } }) refl refl refl refl refl (refl, refl, refl, refl)
             (c.keep.ensures.at ∙ c.resume.ensures.at) (record { spawned = c.keep.ensures.own.spawned ∙ c.resume.ensures.own.spawned; heap = c.keep.ensures.own.heap ∙ c.resume.ensures.own.heap })
             (λ frame below stands waits. subst (λ (ks : List Kept). AllStandFor m ks (answered m c.in-Resumed.value frame ∷ below)) (sym c.keep.ensures.frames) (c.resume.ensures.stands u frame below c.args.call stands waits)),
       );

@@ -32,5 +32,5 @@ returns c = record {
   answered = λ u schedule same q.
       c.answer_of.ensures.answered u same (asking_alone c.args.m.now u schedule c.args.self.now c.args.call.now q (can_answer c.args.call.now.asked q.beside c.requires.other c.if-asks_result.ensures));
   table = refl;
-  calls = (refl, refl, refl);
+  calls = (refl, refl, refl, refl);
 }

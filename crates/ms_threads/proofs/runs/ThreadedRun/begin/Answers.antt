@@ -34,8 +34,8 @@ returns c = record {
       let few : b.guest.argument < 2 ^ 64 = subst (λ (g : Guest). g.argument < 2 ^ 64) same (subst (λ n. n < 2 ^ 64) c.whole-argument.ensures.same c.whole-argument.ensures.few) in
       let spawned = subst (λ (g : Guest). SpawnedFor m g.func g.argument c.in_ok-fiber.fiber) same (subst (λ n. SpawnedFor m c.in-Some.thread.func n c.in_ok-fiber.fiber) c.whole-argument.ensures.same c.in_ok-fiber.ensures.spawned) in (
         begun_goes m u schedule c.law_valid.ensures.formed c.law_valid.ensures.valid c.args.self.now _ b few c.in_ok-fiber.fiber spawned c.exchange.ensures.one refl refl refl refl
-            c.clear_first.ensures.slots c.clear_first.ensures.shows c.clear_first.ensures.given c.clear_first.ensures.made (refl, refl, refl),
+            c.clear_first.ensures.slots c.clear_first.ensures.shows c.clear_first.ensures.given c.clear_first.ensures.made (refl, refl, refl, refl),
         begun_far m u schedule c.law_valid.ensures.formed c.law_valid.ensures.valid c.args.self.now _ b few c.in_ok-fiber.fiber spawned c.exchange.ensures.one refl refl refl refl
-            c.clear_first.ensures.slots c.clear_first.ensures.shows c.clear_first.ensures.given c.clear_first.ensures.made (refl, refl, refl),
+            c.clear_first.ensures.slots c.clear_first.ensures.shows c.clear_first.ensures.given c.clear_first.ensures.made (refl, refl, refl, refl),
       );
 }

@@ -1,7 +1,8 @@
-use Rattle.std.proofs.Common.{◌≡◌, ◌<◌, ◌≤◌, arith}
+use Rattle.std.proofs.Common.{◌≡◌, ◌<◌, ◌≤◌, sym, ap, ◌∙◌, arith}
 use Rattle.ms_runtime.proofs.Fitting.{if_ok}
+use Rattle.ms_threads.specs.declared.runs.ThreadedRun.{ThreadedRun}
 use Rattle.ms_threads.specs.Going.{far_of}
-use Rattle.ms_threads.proofs.After.{somewhere, noted_after, noted_far, far_least, far_call, turned_so}
+use Rattle.ms_threads.proofs.After.{somewhere, few_places, noted_after, noted_far, far_least, far_call, turned_so}
 use Rattle.ms_threads.proofs.runs.ThreadedRun.call.Goals as goal
 
 pub park-requires : goal.park-requires
@@ -30,6 +31,12 @@ note_calls-requires c =
     let x = c.in_ok-answer.ensures.answered q.0 c.args.schedule.now q.1.0 q.1.1 in
     somewhere c.args.m.now q.0 c.args.schedule.now c.args.self.now c.args.call q.1.1 c.answer_of.new.self.running.fiber x.fiber
 
+pub note-requires : goal.note-requires
+note-requires c =
+    let q = c.requires.asking in
+    let same = c.note_calls.ensures.same in
+    few_places c.args.m.now q.0 c.args.schedule.now c.args.self.now c.note_calls.new.self c.args.call q.1.1 (ap (λ (y : ThreadedRun). y.wanted) same ∙ c.answer_of.ensures.calls.0) (ap (λ (y : ThreadedRun). y.places) same ∙ c.answer_of.ensures.calls.3)
+
 pub after_answer-requires : goal.after_answer-requires
 after_answer-requires c =
     let q = c.requires.asking in
@@ -39,7 +46,7 @@ after_answer-requires c =
         q.0,
         c.args.schedule.now,
         noted_after c.args.m.now q.0 c.args.schedule.now c.args.self.now c.answer_of.new.self c.note_calls.new.self c.args.call q.1.1 c.if-is_thread_call.ensures c.in_ok-answer.answer x c.answer_of.ensures.table c.answer_of.ensures.calls
-            c.note_calls.ensures.same c.in_ok-note_calls.ensures.noted,
+            c.note_calls.ensures.same c.in_ok-note_calls.ensures.noted c.note.new.self c.in_ok-note.ensures,
       );
     }
 
@@ -47,9 +54,9 @@ pub returns-clause-turned : goal.returns-clause-turned
 returns-clause-turned c = λ u same a.
     let m = c.args.m.now in
     let f = c.in_ok-answer.ensures.answered u c.args.schedule.now same a in
-    let near = noted_far m u c.args.schedule.now c.args.self.now c.answer_of.new.self c.note_calls.new.self c.args.call a c.if-is_thread_call.ensures c.in_ok-answer.answer f c.answer_of.ensures.table c.answer_of.ensures.calls c.note_calls.ensures.same c.in_ok-note_calls.ensures.noted in
+    let near = noted_far m u c.args.schedule.now c.args.self.now c.answer_of.new.self c.note_calls.new.self c.args.call a c.if-is_thread_call.ensures c.in_ok-answer.answer f c.answer_of.ensures.table c.answer_of.ensures.calls c.note_calls.ensures.same c.in_ok-note_calls.ensures.noted c.note.new.self c.in_ok-note.ensures in
     if_ok c.after_answer.result
     (λ e. turned_so m u c.args.schedule.now (far_of m c.args.call.asked c.args.self.now.running) _ e c.after_answer.new.self
     (omega (arith, near, far_least m u c.args.schedule.now c.args.call.asked c.args.self.now.running)))
     (c.after_answer.ensures.turned u c.args.schedule.now
-    (noted_after m u c.args.schedule.now c.args.self.now c.answer_of.new.self c.note_calls.new.self c.args.call a c.if-is_thread_call.ensures c.in_ok-answer.answer f c.answer_of.ensures.table c.answer_of.ensures.calls c.note_calls.ensures.same c.in_ok-note_calls.ensures.noted))
+    (noted_after m u c.args.schedule.now c.args.self.now c.answer_of.new.self c.note_calls.new.self c.args.call a c.if-is_thread_call.ensures c.in_ok-answer.answer f c.answer_of.ensures.table c.answer_of.ensures.calls c.note_calls.ensures.same c.in_ok-note_calls.ensures.noted c.note.new.self c.in_ok-note.ensures))

@@ -10,5 +10,5 @@ returns c = record {
       subst (λ (n : ℕ). Changed old.turn (ended_guest c.args.answer (result_mask cells) n) old c.end.new.self) (c.result_origin-origin.ensures cells shows)
       (subst (λ (n : ℕ). Changed old.turn (ended_guest c.args.answer n c.result_origin-origin.result) old c.end.new.self) (c.result_mask-mask.ensures cells shows) c.end.ensures);
   running = refl;
-  calls = (refl, refl, refl);
+  calls = (refl, refl, refl, refl);
 }

@@ -4,7 +4,7 @@ use Rattle.ms_threads.proofs.runs.ThreadedRun.park.Goals as goal
 
 pub returns : goal.returns
 returns c = record {
-  picking = λ m u schedule is a. stood_picks m u schedule c.args.self.now _ c.args.call a is c.park.ensures refl refl refl refl (refl, refl, refl);
+  picking = λ m u schedule is a. stood_picks m u schedule c.args.self.now _ c.args.call a is c.park.ensures refl refl refl refl (refl, refl, refl, refl);
   budget = refl;
   wanted = refl;
 }

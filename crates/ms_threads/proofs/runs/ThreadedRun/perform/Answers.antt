@@ -25,7 +25,7 @@ after_answer-requires c =
         schedule,
         performed_after m u schedule c.args.self.now _ c.args.call p c.in_ok-answer.answer c.answer.new.world refl
             (c.in_ok-answer.ensures.did (setting_of m u) (types_due m p.frames) p.beside p.shared.world p.between.shows p.between.shares) c.answer.ensures.keeps c.answer.ensures.made c.in_ok-answer.ensures.kept
-            (call_starts m c.law_valid.ensures.valid (few_funcs m c.law_valid.ensures.formed) u p.frames (first_stands m c.args.self.now.running.fiber p.frames p.stood.frames) c.args.call p.stood.waits) refl refl refl refl (refl, refl, refl),
+            (call_starts m c.law_valid.ensures.valid (few_funcs m c.law_valid.ensures.formed) u p.frames (first_stands m c.args.self.now.running.fiber p.frames p.stood.frames) c.args.call p.stood.waits) refl refl refl refl (refl, refl, refl, refl),
       );
     }
 
@@ -36,9 +36,9 @@ returns c = record {
       let m = c.args.m.now in
       let begin = call_starts m c.law_valid.ensures.valid (few_funcs m c.law_valid.ensures.formed) u p.frames (first_stands m c.args.self.now.running.fiber p.frames p.stood.frames) c.args.call p.stood.waits in
       let did = c.in_ok-answer.ensures.did (setting_of m u) (types_due m p.frames) p.beside p.shared.world p.between.shows p.between.shares in
-      let near = performed_far m u schedule c.args.self.now _ c.args.call p c.in_ok-answer.answer c.answer.new.world refl did c.answer.ensures.keeps c.answer.ensures.made c.in_ok-answer.ensures.kept begin refl refl refl refl (refl, refl, refl) in
+      let near = performed_far m u schedule c.args.self.now _ c.args.call p c.in_ok-answer.answer c.answer.new.world refl did c.answer.ensures.keeps c.answer.ensures.made c.in_ok-answer.ensures.kept begin refl refl refl refl (refl, refl, refl, refl) in
       if_ok c.after_answer.result
       (λ e. turned_so m u schedule (suc (most_ahead m c.args.self.now.running)) _ e c.after_answer.new.self (omega (arith, near)))
       (c.after_answer.ensures.turned u schedule
-      (performed_after m u schedule c.args.self.now _ c.args.call p c.in_ok-answer.answer c.answer.new.world refl did c.answer.ensures.keeps c.answer.ensures.made c.in_ok-answer.ensures.kept begin refl refl refl refl (refl, refl, refl)));
+      (performed_after m u schedule c.args.self.now _ c.args.call p c.in_ok-answer.answer c.answer.new.world refl did c.answer.ensures.keeps c.answer.ensures.made c.in_ok-answer.ensures.kept begin refl refl refl refl (refl, refl, refl, refl)));
 }

@@ -36,7 +36,7 @@ returns-then-not-branch-clause-turned c = λ u p.
     let k = pick_deadlocks c.args.m.now u c.args.schedule.now c.args.self.now p c.if-self-eq0.false h.0 c.main_site-site.result (c.main_site-site.ensures ∙ ap (λ (g : ThreadTable). site_of (stands_of g 0)) h.1) c.note_alone.new.self.ended
     c.note_alone.ensures.ended in
     subst (λ (y : ThreadedRun). IsOver c.args.m.now u c.args.schedule.now («end».Trap trap.Deadlock c.main_site-site.result) y) (sym c.note_alone.ensures.same)
-    (k.0, subst (λ (g : ThreadTable). Records g.recorder (plain_picks c.args.m.now u c.args.schedule.now)) (sym h.1) k.1, k.2, k.3)
+    (k.0, subst (λ (g : ThreadTable). Records g.recorder (plain_picks c.args.m.now u c.args.schedule.now)) (sym h.1) k.1, k.2, k.3, k.4)
 
 pub unpark-requires : goal.unpark-requires
 unpark-requires c =
@@ -48,7 +48,7 @@ perform-requires c = record {
     c.requires.picking.0,
     c.args.schedule.now,
     pick_performs c.args.m.now c.requires.picking.0 c.args.schedule.now c.args.self.now c.requires.picking.1 c.if-self-eq0.false c.requires.scheduled c.pick.new.self (picked_so c.args.schedule.now c.args.self.now.table c.pick.new.self _ c.if-not-branch.false c.in_ok-pick.ensures) _ c.unpark.new.fiber
-        c.unpark.ensures.stands refl (refl, refl, refl) (standing_of c.unpark.new.fiber c.in-Some.call) (sym c.unpark.ensures.taken ∙ ap (option_map (standing_of c.unpark.new.fiber)) c.in-Some.is),
+        c.unpark.ensures.stands refl (refl, refl, refl, refl) (standing_of c.unpark.new.fiber c.in-Some.call) (sym c.unpark.ensures.taken ∙ ap (option_map (standing_of c.unpark.new.fiber)) c.in-Some.is),
   );
 }
 
@@ -56,14 +56,14 @@ pub returns-in-Some-clause-turned : goal.returns-in-Some-clause-turned
 returns-in-Some-clause-turned c = λ u p.
     c.perform.ensures.turned u c.args.schedule.now
     (pick_performs c.args.m.now u c.args.schedule.now c.args.self.now p c.if-self-eq0.false c.requires.scheduled c.pick.new.self (picked_so c.args.schedule.now c.args.self.now.table c.pick.new.self _ c.if-not-branch.false c.in_ok-pick.ensures) _ c.unpark.new.fiber
-    c.unpark.ensures.stands refl (refl, refl, refl) (standing_of c.unpark.new.fiber c.in-Some.call) (sym c.unpark.ensures.taken ∙ ap (option_map (standing_of c.unpark.new.fiber)) c.in-Some.is))
+    c.unpark.ensures.stands refl (refl, refl, refl, refl) (standing_of c.unpark.new.fiber c.in-Some.call) (sym c.unpark.ensures.taken ∙ ap (option_map (standing_of c.unpark.new.fiber)) c.in-Some.is))
 
 pub begin-requires : goal.begin-requires
 begin-requires c = record {
   beginning = (
     c.requires.picking.0,
     c.args.schedule.now,
-    pick_begins c.args.m.now c.requires.picking.0 c.args.schedule.now c.args.self.now c.requires.picking.1 c.if-self-eq0.false c.requires.scheduled c.pick.new.self (picked_so c.args.schedule.now c.args.self.now.table c.pick.new.self _ c.if-not-branch.false c.in_ok-pick.ensures) _ c.unpark.new.fiber c.unpark.ensures.stands refl (refl, refl, refl)
+    pick_begins c.args.m.now c.requires.picking.0 c.args.schedule.now c.args.self.now c.requires.picking.1 c.if-self-eq0.false c.requires.scheduled c.pick.new.self (picked_so c.args.schedule.now c.args.self.now.table c.pick.new.self _ c.if-not-branch.false c.in_ok-pick.ensures) _ c.unpark.new.fiber c.unpark.ensures.stands refl (refl, refl, refl, refl)
         (sym c.unpark.ensures.taken ∙ ap (option_map (standing_of c.unpark.new.fiber)) c.in-None.is),
   );
 }
@@ -71,5 +71,5 @@ begin-requires c = record {
 pub returns-in_ok-begin-in-None-clause-turned : goal.returns-in_ok-begin-in-None-clause-turned
 returns-in_ok-begin-in-None-clause-turned c = λ u p.
     c.in_ok-begin-in-None.ensures.turned u c.args.schedule.now
-    (pick_begins c.args.m.now u c.args.schedule.now c.args.self.now p c.if-self-eq0.false c.requires.scheduled c.pick.new.self (picked_so c.args.schedule.now c.args.self.now.table c.pick.new.self _ c.if-not-branch.false c.in_ok-pick.ensures) _ c.unpark.new.fiber c.unpark.ensures.stands refl (refl, refl, refl)
+    (pick_begins c.args.m.now u c.args.schedule.now c.args.self.now p c.if-self-eq0.false c.requires.scheduled c.pick.new.self (picked_so c.args.schedule.now c.args.self.now.table c.pick.new.self _ c.if-not-branch.false c.in_ok-pick.ensures) _ c.unpark.new.fiber c.unpark.ensures.stands refl (refl, refl, refl, refl)
     (sym c.unpark.ensures.taken ∙ ap (option_map (standing_of c.unpark.new.fiber)) c.in-None.is))

@@ -15,7 +15,7 @@ pub returns-in-Spent-clause-turned : goal.returns-in-Spent-clause-turned
 returns-in-Spent-clause-turned c = λ u same g.
     let m = c.args.m.now in
     let old = c.args.self.now.running in
-    turn_spent m u c.args.schedule.now c.args.self.now g (record c.args.self.now { running = record c.args.self.now.running { fiber = c.advance.new.fiber; world = c.advance.new.world; budget = c.advance.new.budget } }) refl refl refl (refl, refl, refl)
+    turn_spent m u c.args.schedule.now c.args.self.now g (record c.args.self.now { running = record c.args.self.now.running { fiber = c.advance.new.fiber; world = c.advance.new.world; budget = c.advance.new.budget } }) refl refl refl (refl, refl, refl, refl)
     (subst (λ (x : Pause). Advanced (IsRunning m u g.beside) m u g.beside g.state old.budget.left old.fiber.frame.at x c.advance.new.fiber c.advance.new.world c.advance.new.budget.left) c.in-Spent.is
     (c.in_ok-advance.ensures.advanced u g.beside g.state g.stands))
 
@@ -36,7 +36,7 @@ returns-in_ok-note_end-in-Ended-clause-turned c = λ u same g.
     let old = c.args.self.now.running in
     let h = subst (λ (x : Pause). Advanced (IsRunning m u g.beside) m u g.beside g.state old.budget.left old.fiber.frame.at x c.advance.new.fiber c.advance.new.world c.advance.new.budget.left) c.in-Ended.is
     (c.in_ok-advance.ensures.advanced u g.beside g.state g.stands) in
-    turn_ended m u c.args.schedule.now c.args.self.now g (record c.args.self.now { running = record c.args.self.now.running { fiber = c.advance.new.fiber; world = c.advance.new.world; budget = c.advance.new.budget } }) refl refl refl (refl, refl, refl)
+    turn_ended m u c.args.schedule.now c.args.self.now g (record c.args.self.now { running = record c.args.self.now.running { fiber = c.advance.new.fiber; world = c.advance.new.world; budget = c.advance.new.budget } }) refl refl refl (refl, refl, refl, refl)
     c.in-Ended.end h c.note_end.new.self c.note_end.ensures.same (c.in_ok-note_end-in-Ended.ensures.ended h.within.frames h.callers)
 
 pub call-requires-clause-asking : goal.call-requires-clause-asking
@@ -49,7 +49,7 @@ call-requires-clause-asking c =
       u,
       (
         q.1.0,
-        turn_asks m u c.args.schedule.now c.args.self.now g _ refl refl refl (refl, refl, refl) c.in-Asked.call
+        turn_asks m u c.args.schedule.now c.args.self.now g _ refl refl refl (refl, refl, refl, refl) c.in-Asked.call
             (subst (λ (x : Pause). Advanced (IsRunning m u g.beside) m u g.beside g.state old.budget.left old.fiber.frame.at x c.advance.new.fiber c.advance.new.world c.advance.new.budget.left) c.in-Asked.is
             (c.in_ok-advance.ensures.advanced u g.beside g.state g.stands)) c.advance.ensures.made,
       ),
@@ -62,8 +62,8 @@ returns-in-Asked-clause-turned c = λ u same g.
     let h = subst (λ (x : Pause). Advanced (IsRunning m u g.beside) m u g.beside g.state old.budget.left old.fiber.frame.at x c.advance.new.fiber c.advance.new.world c.advance.new.budget.left) c.in-Asked.is
     (c.in_ok-advance.ensures.advanced u g.beside g.state g.stands) in
     if_ok c.call.result
-    (λ e. turned_so m u c.args.schedule.now (ahead m old) _ e c.call.new.self (asked_far m u c.args.schedule.now c.args.self.now g _ refl refl refl (refl, refl, refl) c.in-Asked.call h c.advance.ensures.made))
-    (c.call.ensures.turned u same (turn_asks m u c.args.schedule.now c.args.self.now g _ refl refl refl (refl, refl, refl) c.in-Asked.call h c.advance.ensures.made))
+    (λ e. turned_so m u c.args.schedule.now (ahead m old) _ e c.call.new.self (asked_far m u c.args.schedule.now c.args.self.now g _ refl refl refl (refl, refl, refl, refl) c.in-Asked.call h c.advance.ensures.made))
+    (c.call.ensures.turned u same (turn_asks m u c.args.schedule.now c.args.self.now g _ refl refl refl (refl, refl, refl, refl) c.in-Asked.call h c.advance.ensures.made))
 
 pub end-requires : goal.end-requires
 end-requires c = let g = c.requires.going.1.1 in record { turn = omega (arith, g.standings.turn, g.standings.counted) }
@@ -76,7 +76,7 @@ pick-requires-clause-picking c =
     let g = q.1.1 in
     let old = c.args.self.now.running in (
       u,
-      turn_picks m u c.args.schedule.now c.args.self.now g (record c.args.self.now { running = record c.args.self.now.running { fiber = c.advance.new.fiber; world = c.advance.new.world; budget = c.advance.new.budget } }) refl refl refl (refl, refl, refl) c.in-Finished.value
+      turn_picks m u c.args.schedule.now c.args.self.now g (record c.args.self.now { running = record c.args.self.now.running { fiber = c.advance.new.fiber; world = c.advance.new.world; budget = c.advance.new.budget } }) refl refl refl (refl, refl, refl, refl) c.in-Finished.value
           (subst (λ (x : Pause). Advanced (IsRunning m u g.beside) m u g.beside g.state old.budget.left old.fiber.frame.at x c.advance.new.fiber c.advance.new.world c.advance.new.budget.left) c.in-Finished.is
           (c.in_ok-advance.ensures.advanced u g.beside g.state g.stands)) c.advance.ensures.made c.end.new.self c.end.new.self.running.fiber c.end.ensures.running c.end.ensures.ended c.end.ensures.calls,
     )
@@ -89,6 +89,6 @@ returns-in-Finished-clause-turned c = λ u same g.
     (c.in_ok-advance.ensures.advanced u g.beside g.state g.stands) in
     if_ok c.pick.result
     (λ e. turned_so m u c.args.schedule.now (ahead m old) _ e c.pick.new.self
-    (finished_far m u c.args.schedule.now c.args.self.now g (record c.args.self.now { running = record c.args.self.now.running { fiber = c.advance.new.fiber; world = c.advance.new.world; budget = c.advance.new.budget } }) refl refl refl (refl, refl, refl) c.in-Finished.value h c.advance.ensures.made c.end.new.self c.end.new.self.running.fiber c.end.ensures.running c.end.ensures.ended c.end.ensures.calls))
+    (finished_far m u c.args.schedule.now c.args.self.now g (record c.args.self.now { running = record c.args.self.now.running { fiber = c.advance.new.fiber; world = c.advance.new.world; budget = c.advance.new.budget } }) refl refl refl (refl, refl, refl, refl) c.in-Finished.value h c.advance.ensures.made c.end.new.self c.end.new.self.running.fiber c.end.ensures.running c.end.ensures.ended c.end.ensures.calls))
     (c.pick.ensures.turned u
-    (turn_picks m u c.args.schedule.now c.args.self.now g (record c.args.self.now { running = record c.args.self.now.running { fiber = c.advance.new.fiber; world = c.advance.new.world; budget = c.advance.new.budget } }) refl refl refl (refl, refl, refl) c.in-Finished.value h c.advance.ensures.made c.end.new.self c.end.new.self.running.fiber c.end.ensures.running c.end.ensures.ended c.end.ensures.calls))
+    (turn_picks m u c.args.schedule.now c.args.self.now g (record c.args.self.now { running = record c.args.self.now.running { fiber = c.advance.new.fiber; world = c.advance.new.world; budget = c.advance.new.budget } }) refl refl refl (refl, refl, refl, refl) c.in-Finished.value h c.advance.ensures.made c.end.new.self c.end.new.self.running.fiber c.end.ensures.running c.end.ensures.ended c.end.ensures.calls))

@@ -14,6 +14,6 @@ returns g c =
     (λ r is. (
       c.get.result.now,
       subst (λ (j : Module). g.P.Pass.gives c.args.m.now j) (sym c.get.ensures) c.in_ok-instrumented.ensures.gives,
-      is ∙ ap (λ t. plain_told_under c.args.calls t c.get.result.now c.args.setup.now c.args.schedule.now) c.has_threads.ensures,
+      is ∙ ap (λ t. plain_told_under c.args.wanted t c.get.result.now c.args.setup.now c.args.schedule.now) c.has_threads.ensures,
     ))
     c.run_under.ensures
