@@ -52,11 +52,11 @@ fn says_all_but_the_verdict(said: &Desk, checked: &Desk) -> bool {
 }
 
 /// Whether `run`, by these words, says of what `instrument` wrote, if it wrote a module, what `check` says, but for the verdict.
-fn runs_alike<R: Threads + Sync + Eprint>(
+fn runs_alike<'a, R: Threads + Sync + Eprint>(
     rt: &R,
     alloc: Global,
-    words: &str,
-    written: &Desk,
+    words: &'a str,
+    written: &'a Desk,
     checked: &Desk,
 ) -> bool {
     if written.status != 0 || !written.err.as_slice().is_empty() {
