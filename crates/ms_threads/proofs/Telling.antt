@@ -120,11 +120,11 @@ module _ (m : Module) (u : Setup) (schedule : List ℕ) where
   -- leave what the world has of fibers
   pub own_fibers : (n : ℕ) (a b : PlainState) → AllOwn m u n a → steps (step_of m u) n a ≡ More b → fibers_of b.world ≡ fibers_of a.world
   own_fibers zero a b all e = ap (λ (s : PlainState). fibers_of s.world) (sym (same_More e))
-  own_fibers (suc n) a b all e = by_step (step_of m u a) refl (own_same (setting_of m u) m a all.0) e
+  own_fibers (suc n) a b all e = by_step (λ c own came. own_fibers n c b own came) (step_of m u a) refl (own_same (setting_of m u) m a all.0) e
     where
-      by_step : (x : Stepped PlainState) → step_of m u a ≡ x → fibers_of (stepped_world x) ≡ fibers_of a.world → and_then x (steps (step_of m u) n) ≡ More b → fibers_of b.world ≡ fibers_of a.world
-      by_step (More c) is same came = own_fibers n c b (all.1 c is) came ∙ same
-      by_step (Stop x w) is same came = absurd (cc)
+      by_step : ((c : PlainState) → AllOwn m u n c → steps (step_of m u) n c ≡ More b → fibers_of b.world ≡ fibers_of c.world) → (x : Stepped PlainState) → step_of m u a ≡ x → fibers_of (stepped_world x) ≡ fibers_of a.world → and_then x (steps (step_of m u) n) ≡ More b → fibers_of b.world ≡ fibers_of a.world
+      by_step rest (More c) is same came = rest c (all.1 c is) came ∙ same
+      by_step rest (Stop x w) is same came = absurd (cc)
 
   own_tells : (n k : ℕ) (a b : PlainState) (others : Others (List (Frame ℕ))) (said : Told) → AllOwn m u n a → steps (step_of m u) n a ≡ More b → length a.world.threads ≤ length said.starts → length b.world.reports ≤ length said.calls
       → tells_from m u schedule said (n + k) (goes_at a others) ≡ tells_from m u schedule said k (goes_at b others)
@@ -132,17 +132,18 @@ module _ (m : Module) (u : Setup) (schedule : List ℕ) where
       ap (λ j. tells_from m u schedule said j (goes_at a others)) (let z : 0 + k ≡ k = omega arith in z) ∙ ap (λ s. tells_from m u schedule said k (goes_at s others)) (same_More e)
   own_tells (suc n) k a b others said all e made few =
       ap (λ j. tells_from m u schedule said j (goes_at a others)) (let z : suc n + k ≡ suc (n + k) = omega arith in z)
-      ∙ by_step (step_of m u a) refl (own_same (setting_of m u) m a all.0) e
+      ∙ by_step (λ c own came there. own_tells n k c b others said own came there few) (step_of m u a) refl (own_same (setting_of m u) m a all.0) e
     where
-      by_step : (x : Stepped PlainState) → step_of m u a ≡ x → fibers_of (stepped_world x) ≡ fibers_of a.world → and_then x (steps (step_of m u) n) ≡ More b
+      by_step : ((c : PlainState) → AllOwn m u n c → steps (step_of m u) n c ≡ More b → length c.world.threads ≤ length said.starts → tells_from m u schedule said (n + k) (goes_at c others) ≡ tells_from m u schedule said k (goes_at b others))
+          → (x : Stepped PlainState) → step_of m u a ≡ x → fibers_of (stepped_world x) ≡ fibers_of a.world → and_then x (steps (step_of m u) n) ≡ More b
           → tells_after m u schedule (going a) said (n + k) (step a others) ≡ tells_from m u schedule said k (goes_at b others)
-      by_step (More c) is same came =
+      by_step rest (More c) is same came =
           let threads : length c.world.threads ≡ length a.world.threads = ap (λ (f : FibersOf). length f.threads) same in
           let there : length c.world.threads ≤ length said.starts = omega (arith, threads, made) in
           let up = steps_grow reports_made m u (of_reports m u).grows n c b came in
           more_after (going a) said (n + k) (step a others) (goes_at c others) (own_step m u schedule a c others all.0 is) there (omega (arith, up, few))
-          ∙ own_tells n k c b others said (all.1 c is) came there few
-      by_step (Stop x w) is same came = absurd (cc)
+          ∙ rest c (all.1 c is) came there
+      by_step rest (Stop x w) is same came = absurd (cc)
 
   -- all are done
   pub spent_tells : (left : ℕ) (a b : PlainState) (others : Others (List (Frame ℕ))) (said : Told) → AllOwn m u left a → steps (step_of m u) left a ≡ More b → length a.world.threads ≤ length said.starts → length b.world.reports ≤ length said.calls

@@ -483,8 +483,9 @@ pub fn run_threads_told(
     ensures { IfOk result (λ r. r ≡ plain_threads_told wanted m.now setup.now schedule.now) }
 {
     let whole = run_to_end(alloc, m, setup, schedule, wanted)?;
+    let recorded = whole.recorded;
     Ok(ToldRun {
-        result: whole.recorded.result,
+        result: recorded.result,
         calls: whole.calls,
         end_calls: whole.end_calls,
         places: whole.places,

@@ -74,13 +74,13 @@ module _ (s : Setting) (m : Module) where
 
   through_same : (is : List Inst) (state : PlainState) (main only : Bool) → due_at s.func main only (due_inst is) ≡ Own → fibers_of (stepped_world (through s m is state)) ≡ fibers_of state.world
   through_same [] state main only own = refl
-  through_same (i ∷ is) state main only own = by_mark i.marked refl own
+  through_same (i ∷ is) state main only own = by_mark (λ q c. through_same is c main only q) i.marked refl own
     where
-      by_mark : (b : Bool) → i.marked ≡ b → due_at s.func main only (if b then due_inst is else Some i) ≡ Own
+      by_mark : (due_at s.func main only (due_inst is) ≡ Own → (c : PlainState) → fibers_of (stepped_world (through s m is c)) ≡ fibers_of c.world) → (b : Bool) → i.marked ≡ b → due_at s.func main only (if b then due_inst is else Some i) ≡ Own
           → fibers_of (stepped_world (and_then (plain_inst s m i state state.frames) (if b then through s m is else More))) ≡ fibers_of state.world
-      by_mark true marked q =
-          then_same state.world (plain_inst s m i state state.frames) (through s m is) (inst_same i state state.frames (λ e. absurd (true≢false (sym marked ∙ e)))) (λ c. through_same is c main only q)
-      by_mark false unmarked q =
+      by_mark rest true marked q =
+          then_same state.world (plain_inst s m i state state.frames) (through s m is) (inst_same i state state.frames (λ e. absurd (true≢false (sym marked ∙ e)))) (rest q)
+      by_mark rest false unmarked q =
           then_same state.world (plain_inst s m i state state.frames) More (inst_same i state state.frames (λ e. calm_due s.func main only i.op q)) (λ c. refl)
 
   first_same : (fs : List (Frame ℕ)) (state : PlainState) → frames_due s m fs ≡ Own → fibers_of (stepped_world (plain_first s m fs state)) ≡ fibers_of state.world
@@ -95,11 +95,11 @@ module _ (s : Setting) (m : Module) where
 
   marked_same : (is : List Inst) (state : PlainState) → fibers_of (stepped_world (through_marked s m is state)) ≡ fibers_of state.world
   marked_same [] state = refl
-  marked_same (i ∷ is) state = by_mark i.marked refl
+  marked_same (i ∷ is) state = by_mark (λ c. marked_same is c) i.marked refl
     where
-      by_mark : (b : Bool) → i.marked ≡ b → fibers_of (stepped_world (if b then and_then (plain_inst s m i state state.frames) (through_marked s m is) else More state)) ≡ fibers_of state.world
-      by_mark true marked = then_same state.world (plain_inst s m i state state.frames) (through_marked s m is) (inst_same i state state.frames (λ e. absurd (true≢false (sym marked ∙ e)))) (λ c. marked_same is c)
-      by_mark false unmarked = refl
+      by_mark : ((c : PlainState) → fibers_of (stepped_world (through_marked s m is c)) ≡ fibers_of c.world) → (b : Bool) → i.marked ≡ b → fibers_of (stepped_world (if b then and_then (plain_inst s m i state state.frames) (through_marked s m is) else More state)) ≡ fibers_of state.world
+      by_mark rest true marked = then_same state.world (plain_inst s m i state state.frames) (through_marked s m is) (inst_same i state state.frames (λ e. absurd (true≢false (sym marked ∙ e)))) rest
+      by_mark rest false unmarked = refl
 
   reach_same : (frames : List (Frame ℕ)) (shared : Shared) → fibers_of (stepped_world (plain_reach s m frames shared)) ≡ fibers_of shared.world
   reach_same [] shared = refl
