@@ -93,7 +93,7 @@ class Checked:
             elif found := re.match(r'verdict: (\w+)', line):
                 self.verdict = found[1]
             elif found := re.match(r'blind: (\d+)', line):
-                self.blind = int(found[1])
+                self.blind, at = int(found[1]), None  # what stands below are places of blind uses
             elif (found := re.match(r'    (\S+?):(\d+):(\d+)(: \S+)?$', line)) and at is not None:
                 place, at = Place(found[1], found[2], found[3]), self._put(at, Place(found[1], found[2], found[3]))
 

@@ -1,5 +1,5 @@
 -- The lines of places of blind uses begin with four blanks, and none of them tells of calls.
-use Rattle.std.proofs.Common.{◌≡◌, ◌∙◌, ◌-◌, ◌++◌, ℕ, Bool, true, false, List, [], ◌∷◌, length, take, Option, refl, sym, ap, append_assoc, codes}
+use Rattle.std.proofs.Common.{◌≡◌, ◌-◌, ◌++◌, ℕ, Bool, true, false, List, [], ◌∷◌, length, take, Option, refl, codes}
 use Rattle.std.specs.Prelude.{eqb, if◌then◌else◌, decimal}
 use Rattle.ms_ir.specs.declared.syntax.Module.{Module}
 use Rattle.ms_runs.specs.declared.runs.BlindPlace.{BlindPlace}

@@ -11,13 +11,12 @@ use Rattle.ms_runs.specs.declared.runs.Report.{Report}
 use Rattle.ms_runs.specs.declared.runs.RunResult.{RunResult}
 use Rattle.ms_where_places.specs.Indented.{IsIndented, unindented}
 use Rattle.ms_report.specs.RunTexts.{line, end_text, verdict_line}
-use Rattle.ms_report.specs.ReportTexts.{report_line, origins_text}
+use Rattle.ms_report.specs.ReportTexts.{report_line}
 use Rattle.ms_report.specs.WithLines.{Lines, no_lines, under_line, end_site, origins_with, reports_with, closing_text_with}
 use Rattle.ms_report.specs.CallTexts.{most_calls, called_line, started_line, called_with, further_line, started_with, calls_if, reports_calling, ended_with, closing_calling}
 use Rattle.ms_report.proofs.Singles.{literal, joined, of_number, of_site}
 use Rattle.ms_report.proofs.Indents.{Leaves, newline, line_after, nothing, whole, both, without, stays, goes, goes_under}
-use Rattle.ms_report.specs.SchedulesTexts.{schedules_text}
-use Rattle.ms_report.proofs.Unindented.{report_stays, origins_leave, end_stays, reports_stay, blind_stays, verdict_leaves, schedules_stay}
+use Rattle.ms_report.proofs.Unindented.{report_stays, origins_leave, end_stays, reports_stay, blind_stays, verdict_leaves}
 use Rattle.ms_report.proofs.WithoutLines.{none_under, origins_alone}
 
 -- ---- no calls
@@ -104,11 +103,6 @@ module _ (under : Lines) (all : (site : ℕ) → IsIndented (under site)) where
   pub closing_leave : (m : Module) (r : RunResult) (calls : Option Calls) (verdict : Bool) → Leaves (closing_calling under m r calls verdict) (closing_calling no_lines m r calls verdict)
   closing_leave m r calls verdict =
       both (both (both (both (end_leaves m r) (ended_leaves m r.«end» calls)) (reports_stay under all (length r.reports))) (blind_stays under all r.blind)) (verdict_leaves under all verdict r)
-
-  -- before the lines on schedules
-  pub closing_calling_before : (m : Module) (r : RunResult) (calls : Option Calls) (verdict : Bool) (tried : ℕ) (all_tried : Bool) (outcomes : ℕ) (shown : Bool) (schedule : List ℕ)
-      → unindented (closing_calling under m r calls verdict ++ schedules_text tried all_tried outcomes shown schedule) ≡ closing_calling no_lines m r calls verdict ++ schedules_text tried all_tried outcomes shown schedule
-  closing_calling_before m r calls verdict tried all_tried outcomes shown schedule = whole _ _ (both (closing_leave m r calls verdict) (schedules_stay under all tried all_tried outcomes shown schedule))
 
   pub closing_calling_left : (m : Module) (r : RunResult) (calls : Option Calls) (verdict : Bool) → unindented (closing_calling under m r calls verdict) ≡ closing_calling no_lines m r calls verdict
   closing_calling_left m r calls verdict =

@@ -1,5 +1,5 @@
 -- Where there are no lines under sites, the texts with calls are those without once the lines that tell of calls are taken out.
-use Rattle.std.proofs.Common.{◌≡◌, ◌∙◌, ◌+◌, ◌-◌, ◌^◌, ◌++◌, ℕ, Bool, true, false, List, [], ◌∷◌, length, take, Option, Some, None, refl, sym, ap, append-nil, append_assoc, if◌then◌else◌, eqb, codes}
+use Rattle.std.proofs.Common.{◌≡◌, ◌∙◌, ◌+◌, ◌-◌, ◌++◌, ℕ, Bool, true, false, List, [], ◌∷◌, length, take, Option, Some, None, refl, sym, ap, append-nil, append_assoc, if◌then◌else◌, eqb, codes}
 use Rattle.std.specs.Prelude.{decimal, flat_map, slice_get}
 use Rattle.ms_ir.specs.declared.syntax.Module.{Module}
 use Rattle.ms_runs.specs.declared.runs.Calls.{Calls}
@@ -181,12 +181,6 @@ reports_left m calls rs = whole (reports_calling no_lines m calls 0 rs) (reports
 
 pub closing_left : (m : Module) (r : RunResult) (calls : Option Calls) (verdict : Bool) → uncalled (closing_calling no_lines m r calls verdict) ≡ closing_text_with no_lines m r verdict
 closing_left m r calls verdict = whole (closing_calling no_lines m r calls verdict) (closing_text_with no_lines m r verdict) (closing_lacks m r calls verdict)
-
-pub closing_before : (m : Module) (r : RunResult) (calls : Option Calls) (verdict : Bool) (tried : ℕ) (all_tried : Bool) (outcomes : ℕ) (shown : Bool) (schedule : List ℕ)
-    → uncalled (closing_calling no_lines m r calls verdict ++ schedules_text tried all_tried outcomes shown schedule)
-    ≡ closing_text_with no_lines m r verdict ++ schedules_text tried all_tried outcomes shown schedule
-closing_before m r calls verdict tried all_tried outcomes shown schedule =
-    whole _ _ (both (closing_lacks m r calls verdict) (schedules_stay tried all_tried outcomes shown schedule))
 
 pub trail_left : (m : Module) (moves : List Move) (at : Source) (hops : List Hop) (calls : Option Calls) → uncalled (trail_calling no_lines m moves at hops calls) ≡ trail_with no_lines m moves at hops
 trail_left m moves at hops calls = whole (trail_calling no_lines m moves at hops calls) (trail_with no_lines m moves at hops) (trail_lacks m moves at hops calls)

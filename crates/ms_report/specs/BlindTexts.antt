@@ -21,8 +21,11 @@ blind_with under m [] = []
 blind_with under m (p ∷ ps) = blind_line m p ++ under p.site ++ blind_with under m ps
 
 -- how many more there are, where there are more
+abbrev pub more_line : ℕ → List ℕ
+more_line count = codes "    more blind places: " ++ decimal count ++ codes "\n"
+
 abbrev pub further_places : ℕ → List ℕ
-further_places count = if eqb count 0 then [] else codes "    more blind places: " ++ decimal count ++ codes "\n"
+further_places count = if eqb count 0 then [] else more_line count
 
 -- the lines of places
 abbrev pub places_with : Lines → Module → List BlindPlace → List ℕ

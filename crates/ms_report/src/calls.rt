@@ -14,7 +14,6 @@ use ms_write_values::push_number;
 const MOST_CALLS: usize = 64;
 
 /// Those of the calls at these sites that are printed.
-#[tactic(auto, using(crate::proofs::FewCalls::all_taken))]
 fn printed(sites: &[u32]) -> &[u32]
     ensures { result.now ≡ take most_calls sites.now }
 {

@@ -2,7 +2,7 @@
 ghost use Rattle.std.specs.Prelude.{◌≡◌, ◌++◌, ◌-◌, length, take, IfOk};
 ghost use Rattle.ms_ir.specs.Places.{HasSmallNumbers};
 ghost use Rattle.ms_check_valid.specs.Formed.{Formed};
-ghost use Rattle.ms_report.specs.BlindTexts.{most_places, times_text, blind_line, blind_with, further_places, places_with};
+ghost use Rattle.ms_report.specs.BlindTexts.{most_places, times_text, blind_line, blind_with, more_line, further_places, places_with};
 
 use crate::site_lines::SiteLines;
 use crate::sites::push_site;
@@ -87,17 +87,24 @@ fn push_each<L: SiteLines>(
     Ok(())
 }
 
-/// Adds the line that says how many more places there are, where there are more.
+/// Adds the line that says how many more places there are.
+fn push_more(text: &mut Vec<u8>, count: usize) -> Result<(), NoMemory>
+    ensures { IfOk result (λ _. text.new.items ≡ text.old.items ++ more_line count) }
+{
+    text.extend_from_slice(b"    more blind places: ")?;
+    push_number(text, count as u64)?;
+    text.push(b'\n')?;
+    Ok(())
+}
+
+/// Adds that line where there are more.
 fn push_hidden(text: &mut Vec<u8>, count: usize) -> Result<(), NoMemory>
     ensures { IfOk result (λ _. text.new.items ≡ text.old.items ++ further_places count) }
 {
     if count == 0 {
         return Ok(());
     }
-    text.extend_from_slice(b"    more blind places: ")?;
-    push_number(text, count as u64)?;
-    text.push(b'\n')?;
-    Ok(())
+    push_more(text, count)
 }
 
 /// Adds the lines of places: those of the first 20, and how many more there are.

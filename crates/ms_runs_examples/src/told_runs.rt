@@ -2,7 +2,7 @@
 //! prover.
 ghost use Rattle.std.specs.Prelude.{◌≡◌, true, [], ◌∷◌, Some};
 ghost use Rattle.ms_runs.specs.declared.runs.End.TheVariants as «end»;
-ghost use Rattle.ms_runs.specs.{Shadow.{shadow}, Calls.{shadow_blind, shadow_end_calls, places_of}};
+ghost use Rattle.ms_runs.specs.{Shadow.{shadow}, Calls.{shadow_blind_by, shadow_end_calls, places_of}, Masks.{by_formulas}};
 ghost use Rattle.ms_runs_examples.specs.{Setups.{defaults, steps}, ToldPrograms.{uses_told, told_again, divided, deep_trap}};
 
 /// A call in a loop has two undefined arguments. Reported each time they come to the limit in its third round; reported once,
@@ -15,10 +15,10 @@ pub fn each_use_once()
     ensures first { uses_told (shadow told_again (record defaults { once = true })) ≡ (4, 0) ∷ [] }
 {}
 
-/// Two blind uses in a helper and one in `main`.
+/// Two blind uses in a helper and one in `main`, with the masks by formulas, which are those by completions.
 pub fn blind_places()
-    ensures sites { shadow_blind divided defaults ≡ 1 ∷ 1 ∷ 5 ∷ [] }
-    ensures places { places_of (shadow_blind divided defaults) ≡ record { site = 1; count = 2 } ∷ record { site = 5; count = 1 } ∷ [] }
+    ensures sites { shadow_blind_by by_formulas divided defaults ≡ 1 ∷ 1 ∷ 5 ∷ [] }
+    ensures places { places_of (shadow_blind_by by_formulas divided defaults) ≡ record { site = 1; count = 2 } ∷ record { site = 5; count = 1 } ∷ [] }
 {}
 
 /// The calls above a trap, and those where the steps are spent before it.

@@ -47,7 +47,7 @@ module _ (s : Setting) (m : Module) where
   GoingFurther w (More g) = Further w g.shared
   GoingFurther w (Stop e u) = Further w u
 
-  abbrev RunFurther : World → Stepped (Fibers (List (Frame Poisoned)) World) → Type 0
+  abbrev pub RunFurther : World → Stepped (Fibers (List (Frame Poisoned)) World) → Type 0
   RunFurther w (More c) = Further w (shadow_world c)
   RunFurther w (Stop e u) = Further w u
 
@@ -139,7 +139,7 @@ module _ (s : Setting) (m : Module) where
       let n = get_or (k ∷ ks) (get_or schedule (rest.picks % length schedule) 0 % length (k ∷ ks)) k in
       resumed_further w (turned n w) (record { stands = standing n None rest.stands; picks = rest.picks + 1 }) n (rest.stands n) (thread_at n w.threads) (turned_further n w)
 
-  step_further : (schedule : List ℕ) (c : Fibers (List (Frame Poisoned)) World) → RunFurther (shadow_world c) (fibers_step means schedule c)
+  pub step_further : (schedule : List ℕ) (c : Fibers (List (Frame Poisoned)) World) → RunFurther (shadow_world c) (fibers_step means schedule c)
   step_further schedule (Goes f w rest) = moved_further w f w rest (means.due f) (itself w)
   step_further schedule (Waits w rest) = picked_further schedule w rest (runnable means.joins w.threads rest.stands)
 

@@ -7,6 +7,7 @@ pub mod ShadowThreads
 pub mod ThreadOrigins
 pub mod ThreadTrails
 pub mod Grown
+pub mod BlindEach
 pub mod CertainRuns
 pub mod ChangingRuns
 pub mod ChosenRuns

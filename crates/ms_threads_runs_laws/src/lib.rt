@@ -3,6 +3,7 @@
 //! public function with an empty body, and what it promises is the law.
 #![tactic(auto)]
 
+pub mod blind;
 pub mod certain;
 pub mod origins;
 pub mod states;

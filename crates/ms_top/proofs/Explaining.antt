@@ -1,16 +1,14 @@
 -- What `explain` says, and that the way which it shows begins at a root that the run had reached.
-use Rattle.std.proofs.Common.{◌≡◌, ◌≢◌, ◌∙◌, ◌<◌, ◌≤◌, ◌^◌, ◌++◌, ℕ, Bool, true, false, List, [], ◌∷◌, length, Option, Some, eqb, leb, ltb, if◌then◌else◌, refl, sym, ap, subst, ◌⊎◌, inl, inr, arith}
+use Rattle.std.proofs.Common.{◌≡◌, ◌≢◌, ◌∙◌, ◌<◌, ◌≤◌, ◌++◌, ℕ, Bool, true, false, List, [], ◌∷◌, length, Option, Some, eqb, leb, ltb, if◌then◌else◌, refl, sym, ap, subst, ◌⊎◌, inl, inr, arith}
 use Rattle.std.specs.Prelude.{reverse}
 use Rattle.std.proofs.lemmas.Bool.{leb-true, leb-false, ltb-true, ne_eqb}
 use Rattle.ms_ir.specs.declared.syntax.Module.{Module}
 use Rattle.ms_ir.specs.ThreadCalls.{is_threaded}
 use Rattle.ms_runs.specs.declared.runs.End.TheVariants.{Reported}
 use Rattle.ms_runs.specs.declared.runs.Report.{Report}
-use Rattle.ms_runs.specs.declared.runs.RunResult.{RunResult}
 use Rattle.ms_runs.specs.declared.runs.Setup.{Setup}
 use Rattle.ms_runs.specs.Limits.{WithinLimits}
 use Rattle.ms_runs.specs.Faithful.{Fair, Faithful}
-use Rattle.ms_runs.specs.Plain.{plain}
 use Rattle.ms_runs.specs.Shadow.{shadow}
 use Rattle.ms_runs_good_laws.specs.Fills.{to_first_report}
 use Rattle.ms_runs_good_laws.specs.Reached.{IsReached, IsOperand}
@@ -31,7 +29,7 @@ use Rattle.ms_trail.specs.declared.found.Trace.{Trace}
 use Rattle.ms_trail.specs.declared.found.Trace.TheVariants.{NoReport, TooLong, Found}
 use Rattle.ms_trail_bytes.specs.Logs.{move_limit}
 use Rattle.ms_trail.specs.Tracing.{limited}
-use Rattle.ms_report.specs.WithLines.{Lines, reports_with}
+use Rattle.ms_report.specs.WithLines.{Lines}
 use Rattle.ms_words.specs.declared.commands.Command.TheVariants.{Explain}
 use Rattle.ms_words.specs.declared.commands.Options.{Options}
 use Rattle.ms_top.specs.declared.output.Output.{Output}

@@ -36,8 +36,7 @@ use Rattle.ms_threads_explore.specs.declared.explorer.Explored.{Explored}
 use Rattle.ms_top.specs.declared.output.Output.{Output}
 use Rattle.ms_top.specs.Added.{telling, without_told_calls, without_calls, without_any_calls, CorpusTells}
 use Rattle.ms_top.specs.Command.{only_input, setup_of, wanted_of}
-use Rattle.ms_top.specs.Explained.{root_calls, way_with, trace_with, followed, no_report, explained_with}
-use Rattle.ms_top.specs.Lines.{AreLines}
+use Rattle.ms_top.specs.Explained.{root_calls, way_with, trace_with, followed, no_report}
 use Rattle.ms_top.specs.Runs.{plain_told_under}
 use Rattle.ms_top.specs.Said.{answer_of, answer_of_result, answer_of_explained, explored_told, answer_of_explored, answer_of_results, closing_text, run_text, status_of, tried_text, UnlessThreaded, IsExplanation, AreSections, IsAnswerToModule, IsAnswerToReading, IsAnswerToText}
 

@@ -1,5 +1,5 @@
 -- Runs of a module, and of one with threads under a schedule.
-use Rattle.std.specs.Prelude.{◌≡◌, ℕ, Bool, true, false, List, [], Option}
+use Rattle.std.specs.Prelude.{ℕ, Bool, true, false, List, [], Option}
 use Rattle.ms_ir.specs.declared.syntax.Module.{Module}
 use Rattle.ms_runs.specs.declared.runs.BlindPlace.{BlindPlace}
 use Rattle.ms_runs.specs.declared.runs.Calls.{Calls}

@@ -4,7 +4,7 @@
 use crate::calls::{Call, Case, Desk, NOTHING, Row, after, all_agree, on_text, said, says};
 use crate::failing::{differ, differs, fails};
 use crate::modules::Run;
-use std::alloc::Global;
+use std::alloc::{AllocError, Global};
 use std::thread::Threads;
 
 /// A row that tells of a module what `check` says of it.
@@ -51,25 +51,19 @@ fn says_all_but_the_verdict(said: &Desk, checked: &Desk) -> bool {
     }
 }
 
-/// Whether `run` says of what `instrument` wrote, if it wrote a module, what `check` says, but for the verdict.
-fn runs_alike<R: Threads + Sync + Eprint>(
+/// Whether `run`, by these words, says of what `instrument` wrote, if it wrote a module, what `check` says, but for the verdict.
+fn runs_alike<'a, R: Threads + Sync + Eprint>(
     rt: &R,
     alloc: Global,
-    written: &Desk,
+    words: &'a str,
+    written: &'a Desk,
     checked: &Desk,
 ) -> bool {
     if written.status != 0 || !written.err.as_slice().is_empty() {
         return differ(rt, "instrument f", checked, written);
     }
-    match said(
-        rt,
-        alloc,
-        &on_text("run f", written.out.as_slice(), NOTHING),
-    ) {
-        Ok(run) => {
-            says_all_but_the_verdict(&run, checked)
-                || differ(rt, "run f, of what instrument wrote", checked, &run)
-        }
+    match said(rt, alloc, &on_text(words, written.out.as_slice(), NOTHING)) {
+        Ok(run) => says_all_but_the_verdict(&run, checked) || differ(rt, words, checked, &run),
         Err(_) => false,
     }
 }
@@ -79,15 +73,16 @@ fn with_words<'a>(call: &Call<'a>, words: &'a str) -> Call<'a> {
     Call { words, ..*call }
 }
 
-/// Whether `run` says of what `instrument` writes of the call's module what `check` said of the module.
+/// Whether `run`, by these words, says of what `instrument` writes of the call's module what `check` said of the module.
 fn is_written_alike<R: Threads + Sync + Eprint>(
     rt: &R,
     alloc: Global,
+    words: &str,
     call: &Call,
     checked: &Desk,
 ) -> bool {
     match said(rt, alloc, &with_words(call, "instrument f")) {
-        Ok(written) => runs_alike(rt, alloc, &written, checked),
+        Ok(written) => runs_alike(rt, alloc, words, &written, checked),
         Err(_) => false,
     }
 }
@@ -98,7 +93,7 @@ fn agrees_twice<R: Threads + Sync + Eprint, T: CheckedRow>(rt: &R, alloc: Global
     match said(rt, alloc, &call) {
         Ok(checked) => {
             (row.is_shown(&checked) || differs(rt, &call, &checked))
-                && is_written_alike(rt, alloc, &call, &checked)
+                && is_written_alike(rt, alloc, "run f", &call, &checked)
         }
         Err(_) => false,
     }
@@ -127,6 +122,31 @@ pub fn all_agree_twice<R: Threads + Sync + Eprint, T: CheckedRow>(
     for (number, rows) in tables.iter().enumerate() {
         if !table_agrees_twice(rt, alloc, rows) {
             return fails(rt, "table", number);
+        }
+    }
+    true
+}
+
+/// The words of a call with `run` in place of its command.
+fn run_words(alloc: Global, words: &str) -> Result<String, AllocError> {
+    let (_command, rest) = words.split_once(' ').unwrap_or((words, ""));
+    format!(in alloc; "run {rest}")
+}
+
+/// Whether `run` with the options of a call of `check` says of what `instrument` writes of its module what `check` says.
+fn is_run_alike<R: Threads + Sync + Eprint>(rt: &R, alloc: Global, call: &Call) -> bool {
+    match (run_words(alloc, call.words), said(rt, alloc, call)) {
+        (Ok(words), Ok(checked)) => is_written_alike(rt, alloc, words.as_str(), call, &checked),
+        _ => false,
+    }
+}
+
+/// Whether `run` with the options of each row of a table, which are calls of `check`, says of what `instrument` writes of the row's
+/// module what `check` says of the module, but for the verdict.
+pub fn table_runs_alike<R: Threads + Sync + Eprint>(rt: &R, alloc: Global, rows: &[Case]) -> bool {
+    for (number, row) in rows.iter().enumerate() {
+        if !is_run_alike(rt, alloc, &row.call()) {
+            return fails(rt, "row", number);
         }
     }
     true

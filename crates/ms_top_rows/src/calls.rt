@@ -117,6 +117,19 @@ impl Row for Case {
     }
 }
 
+/// A row like these, beside two empty inputs, the files `a` and `b`.
+#[derive(Clone, Copy)]
+pub struct OnInputs(pub Case);
+
+impl Row for OnInputs {
+    fn call(&self) -> Call<'static> {
+        Call {
+            beside: Beside::Letters(0),
+            ..self.0.call()
+        }
+    }
+}
+
 /// A call as it is made: its words, the files and the two sinks in memory, and the status that it returned.
 #[derive(Drop)]
 pub struct Desk {

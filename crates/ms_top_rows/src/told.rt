@@ -17,8 +17,8 @@
 //!
 //! The prover walks through all texts of a static once for each of them, so many texts are cheap only as one.
 
-use crate::alike::{CheckedRow, table_agrees_twice};
-use crate::calls::{Case, Row, table_agrees};
+use crate::alike::{CheckedRow, table_agrees_twice, table_runs_alike};
+use crate::calls::{Case, OnInputs, Row, table_agrees};
 use crate::failing::fails;
 use crate::modules::{Marked, Run};
 use std::alloc::Global;
@@ -52,6 +52,14 @@ impl Told for Case {
     fn told(text: &'static str) -> Option<Case> {
         let [words, module, out, err, status, _] = fields_of(text);
         Some(Case(words, module, out, err, status.parse().ok()?))
+    }
+}
+
+impl Told for OnInputs {
+    const FIELDS: usize = 5;
+
+    fn told(text: &'static str) -> Option<OnInputs> {
+        Some(OnInputs(Case::told(text)?))
     }
 }
 
@@ -189,4 +197,31 @@ pub fn all_told_runs<R: Threads + Sync + Eprint>(
     tables: &[&'static [u8]],
 ) -> bool {
     all_told::<R, Run>(rt, alloc, tables) && all_told_twice::<R, Run>(rt, alloc, tables)
+}
+
+/// Whether `run` says of what `instrument` writes of each row's module of this table what the row's call of `check` says.
+fn table_is_run_alike<R: Threads + Sync + Eprint>(
+    rt: &R,
+    alloc: Global,
+    table: &'static [u8],
+) -> bool {
+    match rows_told::<R, Case>(rt, alloc, table) {
+        Some(rows) => table_runs_alike(rt, alloc, rows.as_slice()),
+        None => false,
+    }
+}
+
+/// Whether `run` with the options of each row of these tables, which are calls of `check`, says of what `instrument` writes of the
+/// row's module what `check` says of the module, but for the verdict.
+pub fn all_run_alike<R: Threads + Sync + Eprint>(
+    rt: &R,
+    alloc: Global,
+    tables: &[&'static [u8]],
+) -> bool {
+    for (number, table) in tables.iter().enumerate() {
+        if !table_is_run_alike(rt, alloc, table) {
+            return fails(rt, "table", number);
+        }
+    }
+    true
 }

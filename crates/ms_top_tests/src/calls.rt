@@ -1,10 +1,11 @@
-//! The calls that stand at a report and where a run traps: what `--calls` adds. Sites and calls were counted by hand.
+//! The calls that stand at a report: what `--calls` adds below it. Sites and calls were counted by hand.
 
-use ms_top_rows::calls::{Beside, Call, Case, Row, all_agree, on_text, saying};
-use ms_top_rows::told::all_told;
+use ms_top_rows::calls::{Case, OnInputs};
+use ms_top_rows::told::{all_run_alike, all_told};
 use std::test::Fail;
 
-static CASES: &[u8] = br#"# Three calls stand, two of them of one site.
+/// Calls of `check`, of which `run` says the same where the module is first written with inserted code.
+static CHECKED: &[u8] = br#"# Three calls stand, two of them of one site.
 check --calls f~
 define i32 @f(i32 %n) {
   %c = icmp eq i32 %n, 0
@@ -302,159 +303,6 @@ verdict: poisoned
 ~
 77
 ====
-# The calls of a thread stand above the call that made it.
-check --calls f~
-declare i32 @pthread_create(ptr, ptr, ptr, ptr)
-declare i32 @pthread_join(i64, ptr)
-define i32 @use(i32 %x) {
-  %c = icmp eq i32 %x, 0
-  br i1 %c, label %a, label %b
-a:
-  ret i32 1
-b:
-  ret i32 0
-}
-define ptr @work(ptr %p) {
-  %v = alloca i32
-  %x = load i32, ptr %v
-  %r = call i32 @use(i32 %x)
-  ret ptr null
-}
-define i32 @main() {
-  %id = alloca i64
-  %c = call i32 @pthread_create(ptr %id, ptr null, ptr @work, ptr null)
-  %t = load i64, ptr %id
-  %j = call i32 @pthread_join(i64 %t, ptr null)
-  ret i32 0
-}
-~
-~
-report 1: branch at site 2 in @use, part 0, bits 0x1 of i1
-  called at site 7 in @work
-  started at site 10 in @main
-  origin 1: alloca at site 5 in @work
-end: reported
-reports: 1
-blind: 0
-verdict: poisoned
-~
-77
-====
-# The first function of a thread is called by none.
-check --calls f~
-declare i32 @pthread_create(ptr, ptr, ptr, ptr)
-declare i32 @pthread_join(i64, ptr)
-define i32 @use(i32 %x) {
-  %c = icmp eq i32 %x, 0
-  br i1 %c, label %a, label %b
-a:
-  ret i32 1
-b:
-  ret i32 0
-}
-define ptr @work(ptr %p) {
-  %v = alloca i32
-  %x = load i32, ptr %v
-  %k = icmp eq i32 %x, 0
-  br i1 %k, label %done, label %done
-done:
-  ret ptr null
-}
-define i32 @main() {
-  %id = alloca i64
-  %c = call i32 @pthread_create(ptr %id, ptr null, ptr @work, ptr null)
-  %t = load i64, ptr %id
-  %j = call i32 @pthread_join(i64 %t, ptr null)
-  ret i32 0
-}
-~
-~
-report 1: branch at site 8 in @work, part 0, bits 0x1 of i1
-  started at site 11 in @main
-  origin 1: alloca at site 5 in @work
-end: reported
-reports: 1
-blind: 0
-verdict: poisoned
-~
-77
-====
-# A report of `main` itself has no line, in a program with threads too.
-check --calls f~
-declare i32 @pthread_create(ptr, ptr, ptr, ptr)
-declare i32 @pthread_join(i64, ptr)
-define i32 @use(i32 %x) {
-  %c = icmp eq i32 %x, 0
-  br i1 %c, label %a, label %b
-a:
-  ret i32 1
-b:
-  ret i32 0
-}
-define ptr @work(ptr %p) {
-  %v = alloca i32
-  %x = load i32, ptr %v
-  ret ptr null
-}
-define i32 @main() {
-  %id = alloca i64
-  %c = call i32 @pthread_create(ptr %id, ptr null, ptr @work, ptr null)
-  %t = load i64, ptr %id
-  %j = call i32 @pthread_join(i64 %t, ptr null)
-  ret i32 undef
-}
-~
-~
-report 1: exit at site 12 in @main, part 0, bits 0xffffffff of i32
-  origin 3: undef at site 12 in @main
-end: reported
-reports: 1
-blind: 0
-verdict: poisoned
-~
-77
-====
-# Where schedules are tried, those of the run that is told.
-check --schedules 1 --calls f~
-declare i32 @pthread_create(ptr, ptr, ptr, ptr)
-declare i32 @pthread_join(i64, ptr)
-define i32 @use(i32 %x) {
-  %c = icmp eq i32 %x, 0
-  br i1 %c, label %a, label %b
-a:
-  ret i32 1
-b:
-  ret i32 0
-}
-define ptr @work(ptr %p) {
-  %v = alloca i32
-  %x = load i32, ptr %v
-  %r = call i32 @use(i32 %x)
-  ret ptr null
-}
-define i32 @main() {
-  %id = alloca i64
-  %c = call i32 @pthread_create(ptr %id, ptr null, ptr @work, ptr null)
-  %t = load i64, ptr %id
-  %j = call i32 @pthread_join(i64 %t, ptr null)
-  ret i32 0
-}
-~
-~
-report 1: branch at site 2 in @use, part 0, bits 0x1 of i1
-  called at site 7 in @work
-  started at site 10 in @main
-  origin 1: alloca at site 5 in @work
-end: reported
-reports: 1
-blind: 0
-verdict: poisoned
-schedules: 1, all
-outcomes: 1
-schedule: 00
-~
-77
-====
 # In the second round and the third the use is what the first one had beside it.
 check --reports 9 --calls f~
 define void @g(i1 %b) {
@@ -567,7 +415,35 @@ verdict: poisoned
 ~
 77
 ====
-# With places each of these lines has its own.
+# No report and no trap, no line.
+check --calls f~
+define i32 @use(i32 %0) {
+  %2 = icmp eq i32 %0, 0
+  br i1 %2, label %3, label %4
+3:
+  ret i32 1
+4:
+  ret i32 0
+}
+define i32 @main() {
+  %1 = alloca i32
+  store i32 0, ptr %1
+  %2 = load i32, ptr %1
+  %3 = call i32 @use(i32 %2)
+  ret i32 %3
+}
+~
+~
+end: exit 1
+reports: 0
+blind: 0
+verdict: clean
+~
+0
+====
+"#;
+
+static CASES: &[u8] = br#"# With places each of these lines has its own.
 check --where --calls f~
 @fmt = private constant [3 x i8] c"%s\00"
 declare i32 @printf(ptr, ...)
@@ -607,6 +483,8 @@ define i32 @main() {
   call void @show(ptr %1)
   ret i32 0
 }
+declare void @__msan_check_string(ptr, i32)
+declare void @__msan_poison(ptr, i64, i64, i32)
 ~
 ~
 report 1: string at site 1 in @show, part 0, bits 0xff of i8
@@ -617,435 +495,6 @@ reports: 1
 blind: 0
 ~
 77
-====
-# `explain` tells them of its report.
-explain --calls f~
-define i32 @use(i32 %0) {
-  %2 = icmp eq i32 %0, 0
-  br i1 %2, label %3, label %4
-3:
-  ret i32 1
-4:
-  ret i32 0
-}
-define i32 @main() {
-  %1 = alloca i32
-  %2 = load i32, ptr %1
-  %3 = call i32 @use(i32 %2)
-  ret i32 %3
-}
-~
-report 1: branch at site 2 in @use, part 0, bits 0x1 of i1
-  called at site 7 in @main
-  origin 1: alloca at site 5 in @main
-  move 0: site 5 in @main, root 1 to byte 0x720000000000
-  move 1: site 6 in @main, byte 0x720000000000 to %2 of frame 0
-  move 2: site 7 in @main, %2 of frame 0 to %0 of frame 1
-  move 3: site 1 in @use, %0 of frame 1 to %2 of frame 1
-  use: %2 of frame 1
-~
-end: reported
-reports: 1
-blind: 0
-verdict: poisoned
-~
-77
-====
-# The calls that stood at the root are below the first move.
-explain --calls f~
-define ptr @make() {
-  %1 = call ptr @malloc(i64 4)
-  ret ptr %1
-}
-define i32 @use(i32 %0) {
-  %2 = icmp eq i32 %0, 0
-  br i1 %2, label %3, label %4
-3:
-  ret i32 1
-4:
-  ret i32 0
-}
-define i32 @main() {
-  %1 = call ptr @make()
-  %2 = load i32, ptr %1
-  %3 = call i32 @use(i32 %2)
-  ret i32 %3
-}
-declare ptr @malloc(i64)
-~
-report 1: branch at site 4 in @use, part 0, bits 0x1 of i1
-  called at site 9 in @main
-  origin 1: malloc at site 1 in @make
-  move 0: site 1 in @make, root 1 to byte 0x710000000000
-  called at site 7 in @main
-  move 1: site 8 in @main, byte 0x710000000000 to %2 of frame 0
-  move 2: site 9 in @main, %2 of frame 0 to %0 of frame 2
-  move 3: site 3 in @use, %0 of frame 2 to %2 of frame 2
-  use: %2 of frame 2
-~
-end: reported
-reports: 1
-blind: 0
-verdict: poisoned
-~
-77
-====
-# No report and no trap, no line.
-check --calls f~
-define i32 @use(i32 %0) {
-  %2 = icmp eq i32 %0, 0
-  br i1 %2, label %3, label %4
-3:
-  ret i32 1
-4:
-  ret i32 0
-}
-define i32 @main() {
-  %1 = alloca i32
-  store i32 0, ptr %1
-  %2 = load i32, ptr %1
-  %3 = call i32 @use(i32 %2)
-  ret i32 %3
-}
-~
-~
-end: exit 1
-reports: 0
-blind: 0
-verdict: clean
-~
-0
-====
-# Where a run traps, the calls that stand there are told.
-check --calls f~
-define i32 @d(i32 %n) {
-  %q = udiv i32 1, %n
-  ret i32 %q
-}
-define i32 @c(i32 %n) {
-  %q = call i32 @d(i32 %n)
-  ret i32 %q
-}
-define i32 @b(i32 %n) {
-  %q = call i32 @c(i32 %n)
-  ret i32 %q
-}
-define i32 @a(i32 %n) {
-  %q = call i32 @b(i32 %n)
-  ret i32 %q
-}
-define i32 @main() {
-  %q = call i32 @a(i32 0)
-  ret i32 %q
-}
-~
-~
-end: trap zero-divisor at site 1 in @d
-  called at site 3 in @c
-  called at site 5 in @b
-  called at site 7 in @a
-  called at site 9 in @main
-reports: 0
-blind: 0
-verdict: clean
-~
-3
-====
-# `run` tells them too.
-run --calls f~
-define i32 @d(i32 %n) {
-  %q = udiv i32 1, %n
-  ret i32 %q
-}
-define i32 @c(i32 %n) {
-  %q = call i32 @d(i32 %n)
-  ret i32 %q
-}
-define i32 @b(i32 %n) {
-  %q = call i32 @c(i32 %n)
-  ret i32 %q
-}
-define i32 @a(i32 %n) {
-  %q = call i32 @b(i32 %n)
-  ret i32 %q
-}
-define i32 @main() {
-  %q = call i32 @a(i32 0)
-  ret i32 %q
-}
-~
-~
-end: trap zero-divisor at site 1 in @d
-  called at site 3 in @c
-  called at site 5 in @b
-  called at site 7 in @a
-  called at site 9 in @main
-reports: 0
-blind: 0
-~
-3
-====
-# `explain` tells them beside.
-explain --calls f~
-define i32 @d(i32 %n) {
-  %q = udiv i32 1, %n
-  ret i32 %q
-}
-define i32 @c(i32 %n) {
-  %q = call i32 @d(i32 %n)
-  ret i32 %q
-}
-define i32 @b(i32 %n) {
-  %q = call i32 @c(i32 %n)
-  ret i32 %q
-}
-define i32 @a(i32 %n) {
-  %q = call i32 @b(i32 %n)
-  ret i32 %q
-}
-define i32 @main() {
-  %q = call i32 @a(i32 0)
-  ret i32 %q
-}
-~
-no report
-~
-end: trap zero-divisor at site 1 in @d
-  called at site 3 in @c
-  called at site 5 in @b
-  called at site 7 in @a
-  called at site 9 in @main
-reports: 0
-blind: 0
-verdict: clean
-~
-3
-====
-# A report has its calls, and so has the trap after it.
-check --reports 2 --calls f~
-define i32 @d(i32 %n) {
-  %c = icmp eq i32 undef, 0
-  br i1 %c, label %a, label %a
-a:
-  %q = udiv i32 1, %n
-  ret i32 %q
-}
-define i32 @main() {
-  %q = call i32 @d(i32 0)
-  ret i32 %q
-}
-~
-~
-report 1: branch at site 2 in @d, part 0, bits 0x1 of i1
-  called at site 5 in @main
-  origin 1: undef at site 1 in @d
-end: trap zero-divisor at site 3 in @d
-  called at site 5 in @main
-reports: 1
-blind: 0
-verdict: poisoned
-~
-77
-====
-# With places each line of a trap's calls has its own.
-check --where --calls f~
-define i32 @d(i32 %n) {
-  %q = udiv i32 1, %n
-  ret i32 %q
-}
-define i32 @main() {
-  %q = call i32 @d(i32 0)
-  ret i32 %q
-}
-~
-~
-end: trap zero-divisor at site 1 in @d
-    f:2: %q = udiv i32 1, %n
-  called at site 3 in @main
-    f:6: %q = call i32 @d(i32 0)
-reports: 0
-blind: 0
-verdict: clean
-~
-3
-====
-# A trap of `main` itself has no line.
-check --calls f~
-define i32 @main() {
-  %q = udiv i32 1, 0
-  ret i32 %q
-}
-~
-~
-end: trap zero-divisor at site 1 in @main
-reports: 0
-blind: 0
-verdict: clean
-~
-3
-====
-# A trap in a thread has its calls above the call that made it.
-check --calls f~
-declare i32 @pthread_create(ptr, ptr, ptr, ptr)
-declare i32 @pthread_join(i64, ptr)
-define i32 @d(i32 %n) {
-  %q = udiv i32 1, %n
-  ret i32 %q
-}
-define ptr @work(ptr %p) {
-  %r = call i32 @d(i32 0)
-  ret ptr null
-}
-define i32 @main() {
-  %id = alloca i64
-  %c = call i32 @pthread_create(ptr %id, ptr null, ptr @work, ptr null)
-  %t = load i64, ptr %id
-  %j = call i32 @pthread_join(i64 %t, ptr null)
-  ret i32 0
-}
-~
-~
-end: trap zero-divisor at site 1 in @d
-  called at site 3 in @work
-  started at site 6 in @main
-reports: 0
-blind: 0
-verdict: clean
-~
-3
-====
-# Where no more calls can stand, all those below the last stand: 1,023.
-check --calls f~
-define void @f() {
-  call void @f()
-  ret void
-}
-define i32 @main() {
-  call void @f()
-  ret i32 0
-}
-~
-~
-end: trap depth at site 1 in @f
-  called at site 1 in @f
-  called at site 1 in @f
-  called at site 1 in @f
-  called at site 1 in @f
-  called at site 1 in @f
-  called at site 1 in @f
-  called at site 1 in @f
-  called at site 1 in @f
-  called at site 1 in @f
-  called at site 1 in @f
-  called at site 1 in @f
-  called at site 1 in @f
-  called at site 1 in @f
-  called at site 1 in @f
-  called at site 1 in @f
-  called at site 1 in @f
-  called at site 1 in @f
-  called at site 1 in @f
-  called at site 1 in @f
-  called at site 1 in @f
-  called at site 1 in @f
-  called at site 1 in @f
-  called at site 1 in @f
-  called at site 1 in @f
-  called at site 1 in @f
-  called at site 1 in @f
-  called at site 1 in @f
-  called at site 1 in @f
-  called at site 1 in @f
-  called at site 1 in @f
-  called at site 1 in @f
-  called at site 1 in @f
-  called at site 1 in @f
-  called at site 1 in @f
-  called at site 1 in @f
-  called at site 1 in @f
-  called at site 1 in @f
-  called at site 1 in @f
-  called at site 1 in @f
-  called at site 1 in @f
-  called at site 1 in @f
-  called at site 1 in @f
-  called at site 1 in @f
-  called at site 1 in @f
-  called at site 1 in @f
-  called at site 1 in @f
-  called at site 1 in @f
-  called at site 1 in @f
-  called at site 1 in @f
-  called at site 1 in @f
-  called at site 1 in @f
-  called at site 1 in @f
-  called at site 1 in @f
-  called at site 1 in @f
-  called at site 1 in @f
-  called at site 1 in @f
-  called at site 1 in @f
-  called at site 1 in @f
-  called at site 1 in @f
-  called at site 1 in @f
-  called at site 1 in @f
-  called at site 1 in @f
-  called at site 1 in @f
-  called at site 1 in @f
-  more calls: 959
-reports: 0
-blind: 0
-verdict: clean
-~
-3
-====
-# Where the steps are spent no calls are told.
-check --steps 100 --calls f~
-define void @f() {
-  br label %on
-on:
-  br label %on
-}
-define i32 @main() {
-  call void @f()
-  ret i32 0
-}
-~
-~
-end: spent
-reports: 0
-blind: 0
-verdict: clean
-~
-4
-====
-# In a deadlock no thread takes the step, so no call is told.
-check --schedules 3 --calls f~
-define ptr @w(ptr %0) {
-  %2 = ptrtoint ptr %0 to i64
-  %3 = call i32 @pthread_join(i64 %2, ptr null)
-  ret ptr null
-}
-define i32 @main() {
-  %1 = alloca i64
-  %2 = inttoptr i64 2 to ptr
-  %3 = inttoptr i64 1 to ptr
-  %4 = call i32 @pthread_create(ptr %1, ptr null, ptr @w, ptr %2)
-  %5 = call i32 @pthread_create(ptr %1, ptr null, ptr @w, ptr %3)
-  %6 = call i32 @pthread_join(i64 1, ptr null)
-  ret i32 0
-}
-declare i32 @pthread_create(ptr, ptr, ptr, ptr)
-declare i32 @pthread_join(i64, ptr)
-~
-~
-end: trap deadlock at site 9 in @main
-reports: 0
-blind: 0
-verdict: clean
-schedules: 3, more
-outcomes: 1
-~
-3
 ====
 # What isn't valid is refused as without the option.
 check --calls f~
@@ -1058,10 +507,48 @@ refused 11: type at site 1, operand 0
 ~
 5
 ====
+# So it is where inserted code reports.
+run --calls --reports 3 f~
+define void @g(i1 %b) {
+  call void @__msan_check(i64 1, i32 1, i32 1, i32 1, i32 0, i32 1), !nosanitize !0
+  br i1 %b, label %x, label %x
+x:
+  ret void
+}
+define void @h(i1 %b) {
+  call void @g(i1 %b)
+  ret void
+}
+define i32 @main() {
+  call void @g(i1 undef)
+  call void @h(i1 true)
+  call void @g(i1 true)
+  ret i32 0
+}
+declare void @__msan_check(i64, i32, i32, i32, i32, i32)
+~
+~
+report 1: branch at site 1 in @g, part 0, bits 0x1 of i1
+  called at site 5 in @main
+  origin 1: undef at site 5 in @main
+report 2: branch at site 1 in @g, part 0, bits 0x1 of i1
+  called at site 3 in @h
+  called at site 6 in @main
+  origin 1: undef at site 5 in @main
+report 3: branch at site 1 in @g, part 0, bits 0x1 of i1
+  called at site 7 in @main
+  origin 1: undef at site 5 in @main
+end: reported
+reports: 3
+blind: 0
+~
+77
+====
 "#;
 
-/// A function that is called once branches on what it is given.
-const USES: &str = r#"define i32 @use(i32 %0) {
+static SECTIONS: &[u8] = br#"# Each section has the calls of its reports.
+corpus --calls f a b~
+define i32 @use(i32 %0) {
   %2 = icmp eq i32 %0, 0
   br i1 %2, label %3, label %4
 3:
@@ -1075,33 +562,84 @@ define i32 @main() {
   %3 = call i32 @use(i32 %2)
   ret i32 %3
 }
-"#;
+~
+input 1, 0 bytes: a
 
-/// The words of a call on the file `f` and on two empty inputs, and the sections that it writes.
-struct Sections(&'static str, &'static str);
+report 1: branch at site 2 in @use, part 0, bits 0x1 of i1
+  called at site 7 in @main
+  origin 1: alloca at site 5 in @main
+end: reported
+reports: 1
+blind: 0
+verdict: poisoned
+input 2, 0 bytes: b
 
-impl Row for Sections {
-    fn call(&self) -> Call<'static> {
-        Call {
-            beside: Beside::Letters(0),
-            ..on_text(self.0, USES.as_bytes(), saying(self.1.as_bytes(), "", 77))
-        }
-    }
+report 1: branch at site 2 in @use, part 0, bits 0x1 of i1
+  called at site 7 in @main
+  origin 1: alloca at site 5 in @main
+end: reported
+reports: 1
+blind: 0
+verdict: poisoned
+~
+~
+77
+====
+# Of a recursion, and of a string that an external reads in a helper.
+corpus --calls --reports 2 f a~
+@fmt = private constant [3 x i8] c"%s\00"
+declare i32 @printf(ptr, ...)
+define void @show(ptr %p, i32 %n) {
+  %c = icmp eq i32 %n, 0
+  br i1 %c, label %base, label %more
+base:
+  %r = call i32 (ptr, ...) @printf(ptr @fmt, ptr %p)
+  ret void
+more:
+  %m = sub i32 %n, 1
+  call void @show(ptr %p, i32 %m)
+  ret void
 }
+define i32 @main() {
+  %v = alloca [4 x i8]
+  call void @show(ptr %v, i32 2)
+  ret i32 0
+}
+~
+input 1, 0 bytes: a
 
-const TWO: &str =
-    "input 1, 0 bytes: a\n\nreport 1: branch at site 2 in @use, part 0, bits 0x1 of i1\n  called at site 7 in @main\n  origin 1: alloca at site 5 in @main\nend: reported\nreports: 1\nblind: 0\nverdict: poisoned\ninput 2, 0 bytes: b\n\nreport 1: branch at site 2 in @use, part 0, bits 0x1 of i1\n  called at site 7 in @main\n  origin 1: alloca at site 5 in @main\nend: reported\nreports: 1\nblind: 0\nverdict: poisoned\n";
-
-static SECTIONS: [Sections; 1] = [Sections("corpus --calls f a b", TWO)];
+report 1: string at site 3 in @show, part 0, bits 0xff of i8
+  called at site 6 in @show
+  called at site 6 in @show
+  called at site 9 in @main
+  origin 1: alloca at site 8 in @main
+end: trap bad-address at site 3 in @show
+  called at site 6 in @show
+  called at site 6 in @show
+  called at site 9 in @main
+reports: 1
+blind: 0
+verdict: poisoned
+~
+~
+77
+====
+"#;
 
 #[test]
 fn calls_stand_at_reports(rt: HostRuntime) -> Result<(), Fail> {
-    assert!(rt; all_told::<_, Case>(&rt, rt.alloc(), &[CASES]));
+    assert!(rt; all_told::<_, Case>(&rt, rt.alloc(), &[CHECKED, CASES]));
+    Ok(())
+}
+
+#[test]
+fn written_modules_have_the_same_calls(rt: HostRuntime) -> Result<(), Fail> {
+    assert!(rt; all_run_alike(&rt, rt.alloc(), &[CHECKED]));
     Ok(())
 }
 
 #[test]
 fn sections_have_calls(rt: HostRuntime) -> Result<(), Fail> {
-    assert!(rt; all_agree(&rt, rt.alloc(), &[&SECTIONS]));
+    assert!(rt; all_told::<_, OnInputs>(&rt, rt.alloc(), &[SECTIONS]));
     Ok(())
 }

@@ -2,9 +2,13 @@
 #![tactic(auto)]
 
 #[cfg(test)]
+mod blind_places;
+#[cfg(test)]
 mod calls;
 #[cfg(test)]
 mod corpus;
+#[cfg(test)]
+mod end_calls;
 #[cfg(test)]
 mod explained;
 #[cfg(test)]
@@ -22,6 +26,8 @@ mod located;
 #[cfg(test)]
 mod meetings;
 #[cfg(test)]
+mod once;
+#[cfg(test)]
 mod options;
 #[cfg(test)]
 mod passes;
@@ -32,6 +38,8 @@ mod races;
 #[cfg(test)]
 mod refusals;
 #[cfg(test)]
+mod root_calls;
+#[cfg(test)]
 mod runs;
 #[cfg(test)]
 mod schedules;
@@ -39,6 +47,8 @@ mod schedules;
 mod site_lines;
 #[cfg(test)]
 mod texts;
+#[cfg(test)]
+mod thread_calls;
 #[cfg(test)]
 mod threads;
 #[cfg(test)]

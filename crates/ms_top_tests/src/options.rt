@@ -365,6 +365,34 @@ words: UnknownOption at 1
 ~
 2
 ====
+instrument --calls f~
+~
+~
+words: UnknownOption at 1
+~
+2
+====
+explain --once f~
+~
+~
+words: UnknownOption at 1
+~
+2
+====
+check --once=1 f~
+~
+~
+words: UnknownOption at 1
+~
+2
+====
+run --once --calls --once f~
+~
+~
+words: Repeated at 3
+~
+2
+====
 run -x f~
 ~
 ~

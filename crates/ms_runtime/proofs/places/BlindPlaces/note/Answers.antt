@@ -13,5 +13,5 @@ returns-in_ok-add c = λ wanted places held.
 
 pub returns-else-wanted : goal.returns-else-wanted
 returns-else-wanted c = λ wanted places held.
-    let le : c.args.now ≤ c.args.before = ⊎_elim (λ no. absurd (true≢false (sym wanted ∙ no))) (λ both. both.1) c.else-wanted.either in
+    let le : c.args.now ≤ c.args.before = ⊎_elim (λ both. both.1) (λ no. absurd (true≢false (sym wanted ∙ no))) c.else-wanted.either in
     subst (λ (b : Bool). Placed (if b then counted_at c.args.site places else places) c.args.self.now) (sym (le-ltb c.args.before c.args.now le)) held

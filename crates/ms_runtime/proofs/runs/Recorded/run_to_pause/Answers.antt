@@ -58,8 +58,8 @@ returns-in_ok-note_end-in-Spent c = record {
       (λ wanted. c.in_ok-note_end-in-Spent.ensures.ended h.last.frames (callers_run m c.advance.new.fiber u g.going.beside c.advance.new.world h.last h.stands) wanted);
 }
 
-pub note_end-2-requires : goal.note_end-2-requires
-note_end-2-requires c =
+pub note_end-requires-in-Ended : goal.note_end-requires-in-Ended
+note_end-requires-in-Ended c =
     let m = c.args.m.now in
     let q = c.requires.going in
     let u = q.0 in
@@ -69,16 +69,16 @@ note_end-2-requires c =
     (c.in_ok-advance.ensures.advanced u g.going.beside g.going.state g.going.stands) in
     (h.within.frames, h.callers)
 
-pub returns-in_ok-note_end-2-in-Ended : goal.returns-in_ok-note_end-2-in-Ended
-returns-in_ok-note_end-2-in-Ended c = record {
-  wanted = c.note_end-2.ensures.wanted;
+pub returns-in_ok-note_end-in-Ended : goal.returns-in_ok-note_end-in-Ended
+returns-in_ok-note_end-in-Ended c = record {
+  wanted = c.note_end-in-Ended.ensures.wanted;
   turned = λ u same g.
       let m = c.args.m.now in
       let old = c.args.self.now.running in
       let h = subst (λ (x : Pause). Advanced (IsRunning m u g.going.beside) m u g.going.beside g.going.state old.budget.left old.fiber.frame.at x c.advance.new.fiber c.advance.new.world c.advance.new.budget.left) c.in-Ended.is
       (c.in_ok-advance.ensures.advanced u g.going.beside g.going.state g.going.stands) in
       turn_ended m u c.args.self.now g (record old { fiber = c.advance.new.fiber; world = c.advance.new.world; budget = c.advance.new.budget }) refl refl c.in-Ended.end h
-      c.note_end-2.new.self c.note_end-2.ensures.running c.note_end-2.ensures.wanted c.note_end-2.ensures.calls c.note_end-2.ensures.places (λ wanted. c.in_ok-note_end-2-in-Ended.ensures.ended h.within.frames h.callers wanted);
+      c.note_end-in-Ended.new.self c.note_end-in-Ended.ensures.running c.note_end-in-Ended.ensures.wanted c.note_end-in-Ended.ensures.calls c.note_end-in-Ended.ensures.places (λ wanted. c.in_ok-note_end-in-Ended.ensures.ended h.within.frames h.callers wanted);
 }
 
 pub returns-in-Finished : goal.returns-in-Finished
