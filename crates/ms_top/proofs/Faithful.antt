@@ -1,5 +1,5 @@
 -- Where the pass gives faithful modules, what `check` runs is the shadow run of the module.
-use Rattle.std.proofs.Common.{◌≡◌, ℕ, true, false, ◌^◌, ◌<◌, ◌≤◌, List, [], length, take, refl, sym, ap, ◌∙◌, subst, arith}
+use Rattle.std.proofs.Common.{◌≡◌, ℕ, Bool, true, false, ◌^◌, ◌<◌, ◌≤◌, List, [], length, take, refl, ap, ◌∙◌, subst, arith}
 use Rattle.std.specs.Prelude.{All, map, suc, ◌∷◌}
 use Rattle.std.proofs.Math.Path.{ap₂}
 use Rattle.std.proofs.lemmas.List.Elements.{All-cons, All-nil}
@@ -26,6 +26,7 @@ use Rattle.ms_words.specs.Words.{defaults}
 use Rattle.ms_report.specs.WithLines.{Lines}
 use Rattle.ms_top.specs.Command.{input_limit, only_input, setup_of, wanted_of}
 use Rattle.ms_top.specs.Instrumented.{IsInstrumented}
+use Rattle.ms_threads_runs_laws.proofs.BlindEach.{shadow_places}
 use Rattle.ms_threads.specs.Faithful.{IsSchedule}
 use Rattle.ms_corpus.specs.declared.wanted.Wanted.{Wanted}
 use Rattle.ms_corpus.specs.Wanted.{told_as, plain_wanted, shadow_wanted}
@@ -85,9 +86,12 @@ told_alone m j made alone wanted s fair =
     subst (λ t. plain_told_under wanted t j s (0 ∷ []) ≡ shadow_told_under wanted t m s (0 ∷ [])) alone (told_same m j made wanted s fair (0 ∷ []) (omega arith))
 
 -- the places of its blind uses count them all
-pub places_count : (m : Module) (s : Setup) (schedule : List ℕ) → is_threaded m ≡ false → uses_at (shadow_places_under (is_threaded m) m s schedule) ≡ (shadow_under (is_threaded m) m s schedule).blind
-places_count m s schedule alone =
-    subst (λ t. uses_at (shadow_places_under t m s schedule) ≡ (shadow_under t m s schedule).blind) (sym alone) (all_counted (shadow_blind m s) ∙ blind_each m s)
+pub places_count : (m : Module) (s : Setup) (schedule : List ℕ) → uses_at (shadow_places_under (is_threaded m) m s schedule) ≡ (shadow_under (is_threaded m) m s schedule).blind
+places_count m s schedule = by_threads (is_threaded m)
+  where
+    by_threads : (t : Bool) → uses_at (shadow_places_under t m s schedule) ≡ (shadow_under t m s schedule).blind
+    by_threads false = all_counted (shadow_blind m s) ∙ blind_each m s
+    by_threads true = shadow_places m s schedule
 
 -- and a run that reports each use once has the first report of each
 pub once_each : (o : Options) (input : List ℕ) (m : Module) → is_threaded m ≡ false → o.once ≡ true → 1 ≤ o.reports → let s = setup_of o input in (n : ℕ) → length (shadow m (each_time s n)).reports < n

@@ -64,9 +64,9 @@ pub fn law_questions_are_answered()
 /// limits are with an input of bytes that is within its limit; of one with threads that under the schedule of the options. Of a
 /// generated one that is run, which has no threads, it is the summary of its shadow run with the default options, whose setup is
 /// fair: no input, the fill a5, ten million steps, one report, the schedule 00. A clean verdict, and a first report where no blind use was counted, with its calls, hold under
-/// every fill, with threads under the same schedule; of two schedules nothing is said. Without threads the places of blind uses
-/// count as many uses as the run has, and a run that reports each use once has of the reports of the run that reports each time, with a limit that
-/// these don't reach, the first of each use, in order, as many as its own limit allows.
+/// every fill, with threads under the same schedule; of two schedules nothing is said. The places of blind uses count as many
+/// uses as the run has. Without threads a run that reports each use once has of the reports of the run that reports each time, with a limit
+/// that these don't reach, the first of each use, in order, as many as its own limit allows.
 pub fn law_checks_show_the_shadow_run()
     ensures shadow { (under : Lines) (file : List ℕ) (inputs : List (List ℕ)) (o : Options) (m : Module) (a : Output) → let s = setup_of o (only_input inputs) in Fair s → IsSchedule o.schedule
         → IsAnswerToValid IsInstrumented under (Check file o) inputs m a → a ≡ answer_of_result under true m (shadow_told_under (wanted_of o) (is_threaded m) m s o.schedule) }
@@ -74,7 +74,7 @@ pub fn law_checks_show_the_shadow_run()
         → IsAnswerToValid IsInstrumented under (Check file o) inputs m a → HoldsUnder (is_threaded m) m s o.schedule (shadow_under (is_threaded m) m s o.schedule) }
     ensures calls_under_fills { (under : Lines) (file : List ℕ) (inputs : List (List ℕ)) (o : Options) (m : Module) (a : Output) → let s = setup_of o (only_input inputs) in Fair s → IsSchedule o.schedule
         → IsAnswerToValid IsInstrumented under (Check file o) inputs m a → CallsHoldUnder (is_threaded m) m s o.schedule }
-    ensures places { (m : Module) (s : Setup) (schedule : List ℕ) → is_threaded m ≡ false → uses_at (shadow_places_under (is_threaded m) m s schedule) ≡ (shadow_under (is_threaded m) m s schedule).blind }
+    ensures places { (m : Module) (s : Setup) (schedule : List ℕ) → uses_at (shadow_places_under (is_threaded m) m s schedule) ≡ (shadow_under (is_threaded m) m s schedule).blind }
     ensures once { (o : Options) (input : List ℕ) (m : Module) → is_threaded m ≡ false → o.once ≡ true → 1 ≤ o.reports → let s = setup_of o input in (n : ℕ) → length (shadow m (each_time s n)).reports < n
         → (shadow m s).reports ≡ take o.reports (firsts (shadow m (each_time s n)).reports) }
     ensures sections { (under : Lines) (file : List ℕ) (names inputs : List (List ℕ)) (o : Options) (workers : ℕ) (m : Module) (a : Output) → is_threaded m ≡ false → All (λ input. Fair (setup_of o input)) inputs
