@@ -120,7 +120,7 @@ module _ (under : Lines) where
 
   ending_kept : (j : Module) (verdict : Bool) (told : ToldRun) → closing_text under verdict (strip j) told ≡ closing_text under verdict j told
   ending_kept j verdict told =
-      ap₂ (λ (closing blind : List ℕ). closing ++ blind ++ further_places (length told.places - most_places)) (closing_kept j verdict told.result told.end_calls) (blind_kept j (take most_places told.places))
+      ap₂ (λ (closing blind : List ℕ). closing ++ (blind ++ further_places (length told.places - most_places))) (closing_kept j verdict told.result told.end_calls) (blind_kept j (take most_places told.places))
 
   answer_kept : (j : Module) (verdict : Bool) (told : ToldRun) → answer_of_result under verdict (strip j) told ≡ answer_of_result under verdict j told
   answer_kept j verdict told =
