@@ -13,7 +13,7 @@ use Rattle.ms_words.specs.declared.commands.WordsError.{WordsError}
 use Rattle.ms_words.specs.Words.{command_of}
 use Rattle.ms_report.specs.WithLines.{Lines}
 use Rattle.ms_gen.specs.Generator.{generated}
-use Rattle.ms_top.specs.Command.{only_input, setup_of}
+use Rattle.ms_top.specs.Command.{only_input, setup_of, wanted_of}
 use Rattle.ms_top.specs.Files.{Counted, FilesRead, Whole, Fault, Long}
 use Rattle.ms_top.specs.Said.{answer_of, end_status, UnlessThreaded, IsExplanation, AreSections, IsAnswerOfGen, IsAnswerWithoutFile, IsAnswerToValid, IsAnswerToModule, IsAnswerToReading, IsAnswerToText, IsAnswerToTexts, IsAnswerToFiles, IsAnswerToCommand, IsAnswerFor, IsAnswer}
 
@@ -51,7 +51,7 @@ module _ (Gives : Module → Module → Type 0) where
   to_valid-not_seven under (Check file o) inputs m a (j, gives, is) = with-status a _ _ _ is (chosen-not_seven _ _)
   to_valid-not_seven under (CheckSchedules file o runs workers) inputs m a (j, gives, e, explored, is) = with-status a _ _ _ is (chosen-not_seven _ _)
   to_valid-not_seven under (Explain file o) inputs m a is =
-      by_threads-not_seven (is_threaded m) a (IsExplanation Gives under o.calls (setup_of o (only_input inputs)) m a) (λ h. with-status a _ _ _ h.2 (chosen-not_seven _ _)) is
+      by_threads-not_seven (is_threaded m) a (IsExplanation Gives under (wanted_of o) (setup_of o (only_input inputs)) m a) (λ h. with-status a _ _ _ h.2 (chosen-not_seven _ _)) is
   to_valid-not_seven under (Corpus file names o workers) inputs m a is =
       by_threads-not_seven (is_threaded m) a (AreSections Gives under names o inputs m a) (λ h. with-status a _ _ _ h.2 (all-not_seven _ _ _)) is
   to_valid-not_seven under (Gen seed functions run) inputs m a is = of_gen-not_seven run m a is

@@ -4,8 +4,8 @@ use Rattle.ms_top.specs.Runs.{plain_under, plain_calls_under, plain_end_calls_un
 use Rattle.ms_top.proofs.Exploring.{none_beside}
 use Rattle.ms_top.proofs.schedules.told_beside.Goals as goal
 
-pub returns-then-any : goal.returns-then-any
-returns-then-any c = c.beside_result.ensures ∙ ap beside_of c.in_ok-told.ensures
+pub returns-in_ok-told : goal.returns-in_ok-told
+returns-in_ok-told c = c.beside_result.ensures ∙ ap beside_of c.in_ok-told.ensures
 
 pub returns-else-any : goal.returns-else-any
 returns-else-any c =
