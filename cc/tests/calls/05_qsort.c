@@ -1,5 +1,5 @@
 // Dates are sorted by year, then by month; the month of one of them isn't set.
-// calls: by_date < qsort < sort < main
+// calls: by_date < qsort < sort_dates < main
 #include <stdio.h>
 #include <stdlib.h>
 
@@ -16,14 +16,14 @@ static int by_date(const void *a, const void *b) {
   return one->month > other->month;
 }
 
-static void sort(struct Date *dates, int count) { qsort(dates, count, sizeof *dates, by_date); }
+static void sort_dates(struct Date *dates, int count) { qsort(dates, count, sizeof *dates, by_date); }
 
 int main(void) {
   struct Date dates[3];
   dates[0].year = 1991, dates[0].month = 4;
   dates[1].year = 1987, dates[1].month = 9;
   dates[2].year = 1987;
-  sort(dates, 3);
+  sort_dates(dates, 3);
   printf("%d\n", dates[2].year);
   return 0;
 }
