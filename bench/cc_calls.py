@@ -10,6 +10,10 @@ import sys
 import cc_run
 
 
+# Names that Memcheck prints: glibc's qsort jumps to qsort_r, so it has no frame, and valgrind's memcmp has two names.
+other_names = {'qsort_r': 'qsort', 'bcmp': 'memcmp'}
+
+
 def wanted_calls(path):
     return re.search(r'^// calls: (.*)$', open(path).read(), re.M)[1].split(' < ')
 
@@ -62,8 +66,7 @@ def memcheck(path, name, work):
         if found := re.match(r'==\d+== +(at|by) 0x\w+: (\w+)', line):
             if found[1] == 'at' and calls:
                 break
-            # glibc's qsort jumps to qsort_r, so it has no frame.
-            calls.append('qsort' if found[2] == 'qsort_r' else found[2])
+            calls.append(other_names.get(found[2], found[2]))
     return calls, said
 
 
